@@ -11,7 +11,7 @@ use std::alloc::Global;
 
 /// The line of an accepted event: `entry N`, the changes in order, and what was delivered. Like every line here it ends
 /// with a line feed, and its form is chosen here. OutOfMemory (99) is returned if an allocation was refused.
-#[tactic(auto, unfolding(ov_run_meaning::specs::Printed::entry_line))]
+#[tactic(auto, unfolding(crate::specs::Printed::entry_line))]
 pub fn entry_line(alloc: Global, entry: &Entry) -> Result<String, OutOfMemory>
     ensures { IfOk result (λ line. string_bytes line ≡ entry_line entry.now) }
 {
@@ -22,7 +22,7 @@ pub fn entry_line(alloc: Global, entry: &Entry) -> Result<String, OutOfMemory>
 }
 
 /// The line of a block: `together D accepted A refused R`. Nothing is allocated.
-#[tactic(auto, unfolding(ov_run_meaning::specs::Printed::together_line))]
+#[tactic(auto, unfolding(crate::specs::Printed::together_line))]
 pub fn together_line(sections: usize, accepted: u128, refused: u128) -> ArrayString<192>
     ensures { result.bytes ≡ together_line sections accepted refused }
 {
@@ -40,7 +40,7 @@ pub fn together_line(sections: usize, accepted: u128, refused: u128) -> ArrayStr
 
 /// The line of a node and its views: `node N active L passive L eager L lazy L`. Each list has commas between its
 /// ids, and is `-` without any. OutOfMemory (99) if an allocation is refused.
-#[tactic(auto, unfolding(ov_run_meaning::specs::Printed::node_line))]
+#[tactic(auto, unfolding(crate::specs::Printed::node_line))]
 pub fn node_line(alloc: Global, id: NodeId, peer: &Peer) -> Result<String, OutOfMemory>
     ensures { IfOk result (λ line. string_bytes line ≡ node_line id peer.now) }
 {
@@ -56,7 +56,7 @@ pub fn node_line(alloc: Global, id: NodeId, peer: &Peer) -> Result<String, OutOf
 
 /// The line of a packet by its place among all: `packet I to N HEX`, with two digits for each byte, in lower case.
 /// OutOfMemory (99) if an allocation is refused.
-#[tactic(auto, unfolding(ov_run_meaning::specs::Printed::packet_line))]
+#[tactic(auto, unfolding(crate::specs::Printed::packet_line))]
 pub fn packet_line(
     alloc: Global,
     place: u32,

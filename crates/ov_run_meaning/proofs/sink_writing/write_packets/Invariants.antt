@@ -2,7 +2,7 @@
 use Rattle.std.proofs.Common.{◌≡◌, ◌++◌, ℕ, List, length, map}
 use Rattle.std.specs.Io.KnownBytes.{Appends}
 use Rattle.ov_run_meaning.specs.Running.{PrintsPackets}
-use Rattle.ov_run.proofs.sink_writing.write_packets.Given as goal
+use Rattle.ov_run_meaning.proofs.sink_writing.write_packets.Given as goal
 
 abbrev pub invariant-loop-packet : goal.invariant-loop-packet
 invariant-loop-packet g l = record {

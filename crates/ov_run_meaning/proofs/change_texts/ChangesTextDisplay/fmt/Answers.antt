@@ -4,7 +4,7 @@ use Rattle.std.specs.Fmt.{HasWritten}
 use Rattle.std.proofs.Output.{has_written_append, has_written_of_eq}
 use Rattle.std.proofs.lemmas.List.{flat_map_more, take_more}
 use Rattle.ov_run_meaning.specs.Printed.{change_text}
-use Rattle.ov_run.proofs.change_texts.ChangesTextDisplay.fmt.Goals as goal
+use Rattle.ov_run_meaning.proofs.change_texts.ChangesTextDisplay.fmt.Goals as goal
 
 pub loop-change-preserved : goal.loop-change-preserved
 loop-change-preserved g c plain =

@@ -1,8 +1,8 @@
 -- The line of a node that lives was written, or a prefix of it.
 use Rattle.std.proofs.Common.{refl}
 use Rattle.ov_run_meaning.specs.Accepting.{HidesNode, ShowsNode}
-use Rattle.ov_run.proofs.Printing.Outcomes.{begun, done}
-use Rattle.ov_run.proofs.sink_writing.write_node.Goals as goal
+use Rattle.ov_run_meaning.proofs.Writing.Outcomes.{begun, done}
+use Rattle.ov_run_meaning.proofs.sink_writing.write_node.Goals as goal
 
 pub returns-in-Some-clause-outcome : goal.returns-in-Some-clause-outcome
 returns-in-Some-clause-outcome g c =

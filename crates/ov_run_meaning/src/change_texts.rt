@@ -12,7 +12,7 @@ impl Display for ChangeText {
 
     ghost output = { λ t. Some (change_text t.0) };
 
-    #[tactic(auto, unfolding(ov_run_meaning::specs::Printed::change_text))]
+    #[tactic(auto, unfolding(crate::specs::Printed::change_text))]
     fn fmt<W: Write>(&self, f: &mut Formatter<W>) -> Result {
         match self.0 {
             Change::Born(node) => {

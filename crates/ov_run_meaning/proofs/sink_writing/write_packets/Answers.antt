@@ -5,9 +5,9 @@ use Rattle.std.proofs.KnownBytes.{Appends-trans}
 use Rattle.std.proofs.lemmas.List.{length-append, map-append}
 use Rattle.ov_run_meaning.specs.Printed.{packet_line}
 use Rattle.ov_run_meaning.specs.Running.{PrintsPackets}
-use Rattle.ov_run.proofs.Printing.Ending.{all_went, prefix_went}
-use Rattle.ov_run.proofs.Printing.Running.{packets_begun, packets_ended, packets_next}
-use Rattle.ov_run.proofs.sink_writing.write_packets.Goals as goal
+use Rattle.ov_run_meaning.proofs.Writing.Prefixes.{all_went, prefix_went}
+use Rattle.ov_run_meaning.proofs.Writing.Packets.{packets_begun, packets_ended, packets_next}
+use Rattle.ov_run_meaning.proofs.sink_writing.write_packets.Goals as goal
 
 pub loop-packet-preserved : goal.loop-packet-preserved
 loop-packet-preserved g c =

@@ -3,8 +3,8 @@ use Rattle.std.proofs.Common.{◌≡◌, ◌∙◌, ap, length, arith}
 use Rattle.ov_net.specs.World.{WorldState}
 use Rattle.ov_snap.proofs.Moments.{moment_within}
 use Rattle.ov_run_meaning.specs.Accepting.{HidesCertificate, ShowsCertificate}
-use Rattle.ov_run.proofs.Printing.Outcomes.{begun, done}
-use Rattle.ov_run.proofs.sink_writing.write_certificate.Goals as goal
+use Rattle.ov_run_meaning.proofs.Writing.Outcomes.{begun, done}
+use Rattle.ov_run_meaning.proofs.sink_writing.write_certificate.Goals as goal
 
 pub file_text-requires : goal.file_text-requires
 file_text-requires g c =

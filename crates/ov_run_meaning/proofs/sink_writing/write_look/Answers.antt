@@ -6,9 +6,9 @@ use Rattle.ov_net.specs.World.{WorldState}
 use Rattle.ov_peer.specs.PeerState.{PeerState}
 use Rattle.ov_run_meaning.specs.Accepting.{HidesNode, ShowsLook, ShowsNode}
 use Rattle.ov_run_meaning.specs.Ending.{BeginsLook, EndsLook}
-use Rattle.ov_run.specs.Code.Outcomes.{WritesOutcome}
-use Rattle.ov_run.proofs.Printing.Outcomes.{begun_as, begun_so}
-use Rattle.ov_run.proofs.line_running.write_look.Goals as goal
+use Rattle.ov_run_meaning.specs.Writing.{WritesOutcome}
+use Rattle.ov_run_meaning.proofs.Writing.Outcomes.{begun_as, begun_so}
+use Rattle.ov_run_meaning.proofs.sink_writing.write_look.Goals as goal
 
 pub returns-in-Show-clause-outcome : goal.returns-in-Show-clause-outcome
 returns-in-Show-clause-outcome g c =

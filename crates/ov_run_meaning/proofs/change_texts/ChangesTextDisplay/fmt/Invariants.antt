@@ -2,7 +2,7 @@
 use Rattle.std.proofs.Common.{flat_map, take}
 use Rattle.std.specs.Fmt.{HasWritten, IsPlainFormatter}
 use Rattle.ov_run_meaning.specs.Printed.{change_text}
-use Rattle.ov_run.proofs.change_texts.ChangesTextDisplay.fmt.Given as goal
+use Rattle.ov_run_meaning.proofs.change_texts.ChangesTextDisplay.fmt.Given as goal
 
 abbrev pub invariant-loop-change : goal.invariant-loop-change
 invariant-loop-change g l =

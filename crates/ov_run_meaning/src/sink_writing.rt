@@ -1,35 +1,37 @@
-ghost use Rattle.std.specs.Prelude.{◌≡◌, ◌≤◌, ◌<◌, ◌+◌, IfOk, IfErr, OnOk, OnErr, IsErrOf, length, string_bytes};
+//! What is printed of a line that is no block, as it goes to the writer.
+ghost use Rattle.std.specs.Prelude.{◌≡◌, ◌⊎◌, ◌≤◌, ◌<◌, ◌+◌, IfOk, IfErr, OnOk, OnErr, IsErrOf, length, string_bytes};
 ghost use Rattle.std.specs.Io.KnownBytes.{Appends};
 ghost use Rattle.ov_io.specs.Device.{AppendsPrefixOf, most_faults, write_faults as sink_faults, write_number};
 ghost use Rattle.ov_certfile.specs.Forms.{last_moment};
 ghost use Rattle.ov_net.specs.Limits.{most_packets};
 ghost use Rattle.ov_net.specs.Net.{LivesAs};
 ghost use Rattle.ov_peer.specs.PeerState.{PeerState};
-ghost use Rattle.ov_run_meaning.specs.Ending.{BeginsPackets, EndsPackets};
+ghost use Rattle.ov_run_meaning.specs.Accepting.{HidesCertificate, HidesNode, RefusesLook};
+ghost use Rattle.ov_run_meaning.specs.Accepting.{ShowsCertificate, ShowsLook, ShowsNode};
+ghost use Rattle.ov_run_meaning.specs.Ending.{BeginsLook, BeginsPackets, EndsLook, EndsPackets};
 ghost use Rattle.ov_run_meaning.specs.Faults.{write_faults};
-ghost use Rattle.ov_run_meaning.specs.Accepting.{HidesCertificate, HidesNode, ShowsCertificate, ShowsNode};
 ghost use Rattle.ov_run_meaning.specs.Printed.{entry_line, file_text, node_line};
 ghost use Rattle.ov_run_meaning.specs.Running.{PrintsPackets};
-ghost use Rattle.ov_run.specs.Code.Outcomes.{WritesOutcome, rest_of};
-ghost use Rattle.ov_run.specs.Code.Writing.{Writes, WritesPrefix, IsOfWriting};
+ghost use Rattle.ov_run_meaning.specs.Writing.{IsOfWriting, Writes, WritesOutcome, WritesPrefix};
 
-use crate::line_outcome::Came;
-use crate::line_texts::{entry_line, node_line, packet_line, together_line};
-use crate::report_filing::filed_report;
+use crate::line_texts::{entry_line, node_line, packet_line};
+use crate::outcome::Outcome;
+use crate::refusal::Refusal;
+use crate::run_fault::RunFault;
+use crate::subjects::filed_report;
 use ov_certfile::to_text_group;
 use ov_ids::{NodeId, OutOfMemory};
 use ov_io::{Sink, WriteFault};
 use ov_lists::BlockList;
 use ov_net::{Entry, MOST_ENTRIES, NetFault, Packet, World};
 use ov_peer::Peer;
-use ov_run_meaning::{Outcome, Refusal, RunFault, refused_line};
-use ov_scenario::Subject;
+use ov_scenario::{Look, Subject};
 use ov_snap::{Core, CoreFault, Report};
 use std::alloc::Global;
 use std::io::Write;
 
-/// Writes what is printed of a line that was done.
-pub(crate) fn write_done<W: Write>(text: &[u8], sink: &mut Sink<W>) -> Result<Outcome, WriteFault>
+/// Writes what is printed of a line that was done. Write (72) is returned if the writer failed; it took a prefix then.
+pub fn write_done<W: Write>(text: &[u8], sink: &mut Sink<W>) -> Result<Outcome, WriteFault>
     requires faults { sink.old.faults < most_faults }
     ensures outcome { IfOk result (λ outcome. outcome ≡ Outcome.Accepted) }
     ensures bytes { OnOk result (Appends (W.contents sink.old.writer) (W.contents sink.new.writer) text.now) }
@@ -40,30 +42,10 @@ pub(crate) fn write_done<W: Write>(text: &[u8], sink: &mut Sink<W>) -> Result<Ou
     Ok(Outcome::Accepted)
 }
 
-/// Writes what is still to be written of a line that ran: the number of its refusal, or the line of a block. Nothing is
-/// allocated, so only the writer can fail.
-pub(crate) fn write_rest<W: Write>(came: &Came<'_>, sink: &mut Sink<W>) -> Result<(), WriteFault>
-    requires faults { sink.old.faults < most_faults }
-    ensures bytes { OnOk result
-        (Appends (W.contents sink.old.writer) (W.contents sink.new.writer) (rest_of came.now)) }
-    ensures prefix { AppendsPrefixOf (rest_of came.now) (W.contents sink.old.writer) (W.contents sink.new.writer) }
-    ensures faults { sink.new.faults ≡ sink.old.faults + sink_faults write_number result }
-{
-    match came {
-        Came::Alone(Outcome::Accepted) => Ok(()),
-        Came::Alone(Outcome::Refused(refusal)) => {
-            sink.write_all(refused_line(refusal.number()).as_str().as_bytes())
-        }
-        Came::Block(block) => {
-            let line = together_line(block.sections, block.accepted, block.refused);
-            sink.write_all(line.as_str().as_bytes())
-        }
-    }
-}
-
-/// Writes the line of an accepted event.
-#[tactic(auto, using(crate::proofs::Printing::Ending::none_went))]
-pub(crate) fn write_entry<W: Write>(
+/// Writes the line of an event that happened. Write (72) is returned if the writer failed; it took a prefix then.
+/// OutOfMemory (99) is returned if the line can't be made, and then nothing was written.
+#[tactic(auto, using(crate::proofs::Writing::Prefixes::none_went))]
+pub fn write_entry<W: Write>(
     alloc: Global,
     entry: &Entry,
     sink: &mut Sink<W>,
@@ -81,9 +63,35 @@ pub(crate) fn write_entry<W: Write>(
     Ok(write_done(line.as_bytes(), sink)?)
 }
 
+/// Writes what is printed of what is looked at, or refuses. Write (72) is returned if the writer failed; it took a
+/// prefix then. OutOfMemory (99) is returned if the line of a node that lives can't be made, and then nothing was
+/// written; or if that of a packet can't, and then those of the packets before it were.
+pub fn write_look<W: Write>(
+    alloc: Global,
+    core: &Core,
+    look: Look,
+    sink: &mut Sink<W>,
+) -> Result<Outcome, RunFault>
+    requires faults { sink.old.faults < most_faults }
+    ensures outcome { IfOk result (WritesOutcome (ShowsLook core.now look) (RefusesLook core.now look)
+        (W.contents sink.old.writer) (W.contents sink.new.writer)) }
+    ensures begun { OnErr result (WritesPrefix (λ text. BeginsLook core.now look text ⊎ ShowsLook core.now look text)
+        (W.contents sink.old.writer) (W.contents sink.new.writer)) }
+    ensures memory { IsErrOf result RunFault.OutOfMemory → Writes (EndsLook core.now look)
+        (W.contents sink.old.writer) (W.contents sink.new.writer) }
+    ensures faults { sink.new.faults ≡ sink.old.faults + write_faults result }
+    ensures kind { IfErr result IsOfWriting }
+{
+    match look {
+        Look::Show(id) => write_node(alloc, core.world(), id, sink),
+        Look::Packets => write_packets(alloc, core.world().packets(), sink),
+        Look::Certificate(subject) => Ok(write_certificate(alloc, core, &subject, sink)?),
+    }
+}
+
 /// Writes what is printed of a node, or refuses. OutOfMemory is returned only if the node lives and its line can't be
 /// made.
-pub(crate) fn write_node<W: Write>(
+fn write_node<W: Write>(
     alloc: Global,
     world: &World,
     id: NodeId,
@@ -107,7 +115,7 @@ pub(crate) fn write_node<W: Write>(
 }
 
 /// Writes the line of a node that lives.
-#[tactic(auto, using(crate::proofs::Printing::Ending::none_went))]
+#[tactic(auto, using(crate::proofs::Writing::Prefixes::none_went))]
 fn write_peer<W: Write>(
     alloc: Global,
     id: NodeId,
@@ -129,7 +137,7 @@ fn write_peer<W: Write>(
 
 /// Writes the certificate file of the report that is filed for a subject, or refuses if there is none. Out of memory is
 /// a refusal, so that only the writer can fail.
-pub(crate) fn write_certificate<W: Write>(
+fn write_certificate<W: Write>(
     alloc: Global,
     core: &Core,
     subject: &Subject,
@@ -166,7 +174,7 @@ fn file_text(alloc: Global, report: &Report) -> Result<String, OutOfMemory>
 
 /// Writes the lines of packets. If OutOfMemory is returned, the lines of the first packets were written whole, and at
 /// least one was still to come.
-pub(crate) fn write_packets<W: Write>(
+fn write_packets<W: Write>(
     alloc: Global,
     packets: &BlockList<Packet>,
     sink: &mut Sink<W>,

@@ -2,12 +2,11 @@
 use Rattle.std.proofs.Common.{◌≡◌, List, [], ℕ, Option, Result, Ok, Err, IfOk, OnOk, OnErr, sym, subst}
 use Rattle.std.specs.Io.KnownBytes.{Appends, Keeps}
 use Rattle.ov_io.specs.Device.{AppendsPrefixOf}
-use Rattle.ov_run.specs.Code.Outcomes.{WritesOutcome}
-use Rattle.ov_run.specs.Code.Writing.{Writes, WritesPrefix}
+use Rattle.ov_run_meaning.specs.Writing.{Writes, WritesOutcome, WritesPrefix}
 use Rattle.ov_run_meaning.specs.declared.outcome.Outcome.{Outcome}
 use Rattle.ov_run_meaning.specs.declared.outcome.Outcome.TheVariants.{Accepted, Refused}
 use Rattle.ov_run_meaning.specs.declared.refusal.Refusal.{Refusal}
-use Rattle.ov_run.proofs.Printing.Ending.{kept_appended, wrote}
+use Rattle.ov_run_meaning.proofs.Writing.Prefixes.{kept_appended, wrote}
 
 module _ {E : Type 0} (IsDone : List ℕ → Type 0) (IsRefused : Refusal → Type 0) (a b : Option (List ℕ)) where
   -- a text of a line that was accepted was written, whatever kind of text it is
