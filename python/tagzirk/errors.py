@@ -11,6 +11,14 @@ class BadGraph(TagzirkError, ValueError):
     """What was given is no graph, or no group of its nodes."""
 
 
+class BadDump(TagzirkError, ValueError):
+    """A file is no dump that `tagzirk import` reads, or what was asked of a dump can't be done with it."""
+
+
+class LibraryMissing(TagzirkError):
+    """A library or a program is not there that only what was asked for needs."""
+
+
 class ViewsDiffer(UserWarning):
     """A warning: some node of a dict of views lists whom lists it not, or whom has no view. It says how many, and the
     first ten. `warnings.simplefilter("ignore", ViewsDiffer)` silences it, and "error" in place of "ignore" makes it an
