@@ -12,7 +12,7 @@ from typing import Callable, Dict, List, Optional, Sequence, Tuple
 
 from .crashes import Crash, each, racks_of
 from .dumps import Dump, Options, read_dump
-from .errors import BadDump, TagzirkError
+from .errors import BadDump, TagzirkError, in_words
 from .forms import FORMS, Asked
 from .graphs import NamedGraph, shown
 from .histories import draw, history, need_matplotlib, write_rows
@@ -25,14 +25,16 @@ from .wide import Wide, widest
 
 MOST_NAMES = 8
 
-READS = """FILE is a dump of what each host lists, in a form of `overlay import`, or as JSON of nodes and links (networkx, d3,
-NetJSON, cytoscape), objects or lists of hosts with their peers, JSON lines, GraphML, GEXF, GML, YAML, CSV with a header,
-lines with weights, `;` or arrows, or lists of neighbours. Several files, or a folder, are one file a host, whose name is
-the host's. Without FILE, or with -, standard input is read. Notes on the dump go to standard error."""
+READS = """FILE is a dump of what each host lists, in a form of `overlay import`, or as JSON of nodes and links
+(networkx, d3, NetJSON, cytoscape), objects or lists of hosts with their peers, JSON lines, GraphML, GEXF, GML, YAML,
+CSV with a header, lines with weights, `;` or arrows, or lists of neighbours. Several files, or a folder, are one file a
+host, whose name is the host's. Without FILE, or with -, standard input is read. Notes on the dump go to standard error.
+"""
 
 
 def told(text: str) -> None:
-    """Says something to the person, on standard error."""
+    """Says something to the person, on standard error, below what is printed."""
+    sys.stdout.flush()
     print(text, file=sys.stderr, flush=True)
 
 
@@ -100,7 +102,8 @@ def said_of(wide: Optional[Wide[str]]) -> str:
     number = counted(len(wide.crashed), "crash", "crashes")
     if wide.is_fewest:
         return f"The fewest crashes that cut off more than one host are {len(wide.crashed)}: {who}."
-    return f"{number} cut off more than one host: {who}. Fewer than {wide.at_least} do not; what lies between is not known."
+    between = f"Fewer than {wide.at_least} do not; what lies between is not known."
+    return f"{number} cut off more than one host: {who}. {between}"
 
 
 def text_of_crashes(crashes: List[Crash[str]], kind: str) -> str:
@@ -119,8 +122,16 @@ def write_crashes(crashes: List[Crash[str]], kind: str) -> None:
     rows = csv.writer(sys.stdout, lineterminator="\n")
     rows.writerow((kind, "hosts", "k", "all_linked", "cut_off", "names_cut_off"))
     for it in crashes:
-        rows.writerow((shown(it.name), len(it.hosts), "" if it.k is None else it.k, int(it.is_linked), len(it.cut_off),
-                       ";".join(map(shown, it.cut_off))))
+        rows.writerow(
+            (
+                shown(it.name),
+                len(it.hosts),
+                "" if it.k is None else it.k,
+                int(it.is_linked),
+                len(it.cut_off),
+                ";".join(map(shown, it.cut_off)),
+            )
+        )
 
 
 def racks_in(place: str, graph: NamedGraph[str]) -> Dict[str, List[str]]:
@@ -158,14 +169,25 @@ def run_each(words: argparse.Namespace) -> int:
 
 def analysed_of(graph: NamedGraph[str]) -> Report[str]:
     from .reports import analysed
+
     return analysed(graph)
+
+
+def dumps_in(places: List[str]) -> List[str]:
+    """The dumps of a history. One folder stands for the dumps in it; of several names each is a dump."""
+    if len(places) != 1 or not os.path.isdir(places[0]):
+        return places
+    found = [str(it) for it in sorted(pathlib.Path(places[0]).iterdir()) if it.name[0] != "."]
+    if not found:
+        raise BadDump(f"{places[0]}: the folder has no dumps")
+    return found
 
 
 def run_history(words: argparse.Namespace) -> int:
     if words.svg:
         need_matplotlib()
     with Progress() as progress:
-        moments = history(words.files, options_of(words), workers=words.workers, progress=progress)
+        moments = history(dumps_in(words.files), options_of(words), workers=words.workers, progress=progress)
     write_rows(moments, sys.stdout)
     for it in moments:
         if it.fault:
@@ -215,13 +237,19 @@ def parser() -> argparse.ArgumentParser:
     dump.add_argument("--by", metavar="FIELD", help="the field of an object that names its host")
     dump.add_argument("--columns", metavar="FROM,TO", help="the columns of a table that are both ends of a link")
     at_once = argparse.ArgumentParser(add_help=False)
-    at_once.add_argument("--workers", type=at_least_one, metavar="N",
-                         help="ask so many questions at once; without it, as many as there are processors")
+    at_once.add_argument(
+        "--workers",
+        type=at_least_one,
+        metavar="N",
+        help="ask so many questions at once; without it, as many as there are processors",
+    )
 
-    def command(name: str, run: Callable[[argparse.Namespace], int], files: str, text: str,
-                *parents: argparse.ArgumentParser) -> argparse.ArgumentParser:
-        made = commands.add_parser(name, help=text, description=f"{text[0].upper()}{text[1:]}.", epilog=READS,
-                                   parents=[dump, *parents])
+    def command(
+        name: str, run: Callable[[argparse.Namespace], int], files: str, text: str, *parents: argparse.ArgumentParser
+    ) -> argparse.ArgumentParser:
+        made = commands.add_parser(
+            name, help=text, description=f"{text[0].upper()}{text[1:]}.", epilog=READS, parents=[dump, *parents]
+        )
         made.add_argument("files", nargs=files, metavar="FILE", help="the dump, or one file a host")
         made.set_defaults(run=run, name=name)
         return made
@@ -235,7 +263,9 @@ def parser() -> argparse.ArgumentParser:
     it = command("each", run_each, "*", "tell what each single crash does, of a host or of a rack", at_once)
     it.add_argument("--racks", metavar="RACKS", help="a file of lines HOST RACK: all hosts of a rack crash at once")
     it.add_argument("--csv", action="store_true", help="print the table as CSV, and nothing else")
-    it = command("history", run_history, "+", "print a row of CSV for each of many dumps, in the order of time", at_once)
+    it = command(
+        "history", run_history, "+", "print a row of CSV for each of many dumps, in the order of time", at_once
+    )
     it.add_argument("--svg", metavar="PICTURE", help="write a picture too, by matplotlib")
     it = command("metrics", run_metrics, "*", "write the numbers of a dump for Prometheus")
     it.add_argument("--textfile", metavar="TEXTFILE", required=True, help="the file to write; - is standard output")
@@ -256,11 +286,8 @@ def main(given: Optional[Sequence[str]] = None) -> int:
         # nobody reads standard output any more, and Python is not to try again
         os.dup2(os.open(os.devnull, os.O_WRONLY), sys.stdout.fileno())
         return 1
-    except OSError as why:
-        name = f"{why.filename}: " if why.filename else ""
-        told(f"tagzirk {words.name}: {name}{why.strerror or why}")
-    except TagzirkError as why:
-        told(f"tagzirk {words.name}: {why}")
+    except (OSError, TagzirkError) as why:
+        told(f"tagzirk {words.name}: {in_words(why)}")
     except KeyboardInterrupt:
         return 130
     return 1

@@ -37,9 +37,15 @@ def cut_off_by(graph: NamedGraph[Node], crashed: Set[int]) -> List[int]:
     return sorted(host for piece in pieces if piece is not largest for host in piece)
 
 
-def each(graph: Graph[Node], racks: Optional[Mapping[Any, Iterable[Node]]] = None, *, workers: Optional[int] = None,
-         overlay: Optional[Program] = None, overlay_check: Optional[Program] = None,
-         progress: Optional[Progress] = None) -> List[Crash[Node]]:
+def each(
+    graph: Graph[Node],
+    racks: Optional[Mapping[Any, Iterable[Node]]] = None,
+    *,
+    workers: Optional[int] = None,
+    overlay: Optional[Program] = None,
+    overlay_check: Optional[Program] = None,
+    progress: Optional[Progress] = None,
+) -> List[Crash[Node]]:
     """What each single crash does, the worst first: who cuts off most hosts, then who leaves the lowest `k`.
 
     Without `racks` each host crashes by itself. `racks` has the hosts of each rack; then all hosts of a rack crash at
@@ -53,16 +59,24 @@ def each(graph: Graph[Node], racks: Optional[Mapping[Any, Iterable[Node]]] = Non
     """
     named: NamedGraph[Node] = graph if isinstance(graph, NamedGraph) else named_graph(graph)
     names = named.names
-    groups = [(rack, ids_of_rack(named, rack, hosts)) for rack, hosts in racks.items()] if racks is not None else \
-        [(name, {place}) for name, place in named.ids.items()]
+    groups = (
+        [(rack, ids_of_rack(named, rack, hosts)) for rack, hosts in racks.items()]
+        if racks is not None
+        else [(name, {place}) for name, place in named.ids.items()]
+    )
 
     def crash(group: Tuple[Any, Set[int]]) -> Crash[Node]:
         name, crashed = group
         left = named.without(crashed)
         report = analysed(left, overlay=overlay, overlay_check=overlay_check) if left.ids else None
         cut_off = cut_off_by(named, crashed)
-        return Crash(name, tuple(names[it] for it in sorted(crashed)), report.k if report else None,
-                     report is not None and report.is_linked, tuple(names[it] for it in cut_off))
+        return Crash(
+            name,
+            tuple(names[it] for it in sorted(crashed)),
+            report.k if report else None,
+            report is not None and report.is_linked,
+            tuple(names[it] for it in cut_off),
+        )
 
     crashes = list(each_at_once(crash, groups, workers or processors(), "crash", progress))
     return sorted(crashes, key=badness)

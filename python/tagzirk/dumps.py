@@ -97,15 +97,20 @@ def contents_of(places: Sequence[str]) -> Dict[pathlib.Path, bytes]:
     return found
 
 
-def read_dump(places: Sequence[str], options: Options = Options(), *, is_graph_taken: bool = True,
-              overlay: Optional[Program] = None) -> Dump:
+def read_dump(
+    places: Sequence[str],
+    options: Options = Options(),
+    *,
+    is_graph_taken: bool = True,
+    overlay: Optional[Program] = None,
+) -> Dump:
     """Reads a dump: one file or standard input (`-`), or several files or a folder, each file of one host.
 
     `overlay import` reads it as it is, if it is of one of its forms. Any other form is turned into views first. With
     `is_graph_taken` a graph file is taken as it is. `Refused` and `BadDump` say why a dump can't be read.
     """
     if len(places) == 1 and not os.path.isdir(places[0]):
-        (place, data), = contents_of(places).items()
+        ((place, data),) = contents_of(places).items()
         try:
             return dump_of(data, str(place), options, is_graph_taken, overlay)
         except (BadDump, LibraryMissing, Refused) as why:
@@ -123,12 +128,17 @@ def read_dump(places: Sequence[str], options: Options = Options(), *, is_graph_t
 def named_error(why: Exception, name: str) -> Exception:
     """The same error, with the name of the file."""
     if isinstance(why, Refused):
-        return Refused(why.number, why.line, f"{name}: {why.reason}" if name not in why.reason else why.reason)
+        # overlay was given the dump on standard input, and not by such options
+        reason = re.sub(
+            r"--(views|edges|dot)\b", r"--form \1", why.reason.replace("tip: standard input", f"tip: {name}")
+        )
+        return Refused(why.number, why.line, f"{name}: {reason}")
     return type(why)(f"{name}: {why}")
 
 
-def dump_of(data: bytes, name: str, options: Options = Options(), is_graph_taken: bool = True,
-            overlay: Optional[Program] = None) -> Dump:
+def dump_of(
+    data: bytes, name: str, options: Options = Options(), is_graph_taken: bool = True, overlay: Optional[Program] = None
+) -> Dump:
     """Reads a dump that is one text: its bytes, and the name of its file.
 
     >>> dump = dump_of(b'{"nodes": [{"id": "b"}, {"id": "a"}], "links": [{"source": "a", "target": "b"}]}', "net.json")

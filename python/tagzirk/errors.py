@@ -45,6 +45,20 @@ class Refused(TagzirkError):
         self.number, self.line, self.reason = number, line, reason
 
 
+def in_words(why: Exception) -> str:
+    """An error as a person is told it: the reason first, and then its number.
+
+    >>> print(in_words(Refused(30, "refused 30", "the graph has no nodes")))
+    the graph has no nodes (refused 30)
+    """
+    if isinstance(why, Refused) and why.reason:
+        first, *rest = why.reason.split("\n")
+        return "\n".join([f"{first} ({why.line})", *rest])
+    if isinstance(why, OSError) and why.strerror:
+        return f"{why.filename}: {why.strerror}" if why.filename else why.strerror
+    return str(why)
+
+
 class NotConfirmed(TagzirkError):
     """The checker did not confirm a report, or its certificate is not of the graph, the group or the moment that was
     asked about. Nothing is known then."""

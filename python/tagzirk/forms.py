@@ -17,14 +17,21 @@ from .values import Views, is_list_of_names, is_views, key_in, name_of, names_of
 # The forms that can be asked for. Those of `overlay import` are its own.
 NATIVE = ("views", "edges", "dot")
 FORMS = (*NATIVE, "json", "yaml", "graphml", "gexf", "gml", "csv", "weighted", "adjacency")
-GML = re.compile(r"(?:\s*#[^\n]*\n|\s*(?:creator|version|comment|directed|label)\b[^\n]*\n)*\s*graph\s*\[", re.IGNORECASE)
+GML = re.compile(
+    r"(?:\s*#[^\n]*\n|\s*(?:creator|version|comment|directed|label)\b[^\n]*\n)*\s*graph\s*\[", re.IGNORECASE
+)
 XML = re.compile(r"\s*<(?:\?xml\b|!--|graphml\b|gexf\b|!doctype\b)", re.IGNORECASE)
 # Endings of a file's name that are no part of the host's, where each file is of one host.
 ENDINGS = (".json", ".txt", ".yaml", ".yml", ".peers", ".list", ".out")
 # How files begin that are no text.
-PACKED = ((b"\x1f\x8b", "gzip: `zcat` unpacks it"), (b"PK\x03\x04", "zip: `unzip` unpacks it"),
-          (b"\xfd7zXZ", "xz: `xzcat` unpacks it"), (b"(\xb5/\xfd", "zstd: `zstdcat` unpacks it"),
-          (b"%PDF", "PDF"), (b"\x89PNG", "PNG"))
+PACKED = (
+    (b"\x1f\x8b", "gzip: `zcat` unpacks it"),
+    (b"PK\x03\x04", "zip: `unzip` unpacks it"),
+    (b"\xfd7zXZ", "xz: `xzcat` unpacks it"),
+    (b"(\xb5/\xfd", "zstd: `zstdcat` unpacks it"),
+    (b"%PDF", "PDF"),
+    (b"\x89PNG", "PNG"),
+)
 
 
 class Asked(NamedTuple):
@@ -46,7 +53,9 @@ def text_of(data: bytes) -> Tuple[bytes, List[str]]:
         except UnicodeError:
             raise BadDump("it begins like UTF-16, and can't be read so") from None
     if b"\0" in data[:4]:
-        raise BadDump("it has zero bytes, as UTF-16 without a mark has: `iconv -f UTF-16LE -t UTF-8` turns it into UTF-8")
+        raise BadDump(
+            "it has zero bytes, as UTF-16 without a mark has: `iconv -f UTF-16LE -t UTF-8` turns it into UTF-8"
+        )
     return data, []
 
 
@@ -54,7 +63,7 @@ def decoded(data: bytes) -> str:
     try:
         return data.decode("utf-8-sig")
     except UnicodeDecodeError as why:
-        line = data[:why.start].count(b"\n") + 1
+        line = data[: why.start].count(b"\n") + 1
         raise BadDump(f"line {line} is not UTF-8") from None
 
 
@@ -99,7 +108,9 @@ def yaml_of(text: str) -> Any:
     try:
         import yaml
     except ImportError:
-        raise LibraryMissing("YAML is read by Python's library yaml, which is not there (Debian: python3-yaml)") from None
+        raise LibraryMissing(
+            "YAML is read by Python's library yaml, which is not there (Debian: python3-yaml)"
+        ) from None
     try:
         return yaml.safe_load(text)
     except yaml.YAMLError as why:
@@ -153,8 +164,14 @@ def of_graphviz(data: bytes) -> Views:
         raise BadDump(f"Graphviz does not read it either: {told}")
     said = json.loads(ended.stdout.decode(errors="replace"))
     views = Views("DOT, by Graphviz" + (", whose arrows are listings" if said["directed"] else ""))
-    names = {it["_gvid"]: it["name"] for it in said.get("objects", []) if "nodes" not in it and "subgraphs" not in it
-             and not it["name"].startswith("%") and it["_gvid"] >= said["_subgraph_cnt"]}
+    names = {
+        it["_gvid"]: it["name"]
+        for it in said.get("objects", [])
+        if "nodes" not in it
+        and "subgraphs" not in it
+        and not it["name"].startswith("%")
+        and it["_gvid"] >= said["_subgraph_cnt"]
+    }
     for name in names.values():
         if re.match(r"-|\.\d", name):
             raise BadDump(f"DOT reads a node {name} in it: a name as oslo-1 or 10.0.0.1 needs quotes")
@@ -198,7 +215,8 @@ def listings_of(data: bytes, place: str, asked: Asked) -> Optional[Views]:
 
 
 def of_json(text: str, asked: Asked) -> Optional[Views]:
-    """What hosts list by JSON. `overlay import` reads views, and says why it reads no certificate and what is no JSON."""
+    """What hosts list by JSON. Views are for `overlay import`, which also says what is wrong with a certificate or with
+    what is no JSON."""
     if '"verdict"' in text and not asked.form:
         return None
     try:
@@ -210,8 +228,10 @@ def of_json(text: str, asked: Asked) -> Optional[Views]:
             return None
         raise
     if isinstance(value, dict) and len(value) == 1 and key_in(value, PEER_KEYS):
-        raise BadDump(f"it has the {key_in(value, PEER_KEYS)} of one host, and does not say of which: give the files of "
-                      "all hosts, or their folder; the name of each is then the host's")
+        raise BadDump(
+            f"it has the {key_in(value, PEER_KEYS)} of one host, and does not say of which: give the files of "
+            "all hosts, or their folder; the name of each is then the host's"
+        )
     return None if is_views(value) else views_of(value, asked.by)
 
 
@@ -227,7 +247,8 @@ def host_of(place: pathlib.Path) -> str:
 
 
 def of_hosts(files: Dict[pathlib.Path, bytes], asked: Asked) -> Views:
-    """What hosts list, with one file a host: a list of names or objects, an object with such a list, or a name a line."""
+    """What hosts list, with one file a host: a list of names or objects, an object with such a list, or a name on each
+    line."""
     views = Views("one file a host")
     for place, data in files.items():
         host = host_of(place)
@@ -249,8 +270,10 @@ def peers_in(text: str, host: str, place: str, asked: Asked) -> List[str]:
         rows = rows_of(text)
         for row in rows:
             if len(row.text.split()) > 1:
-                raise BadDump(f"line {row.number} has several words: of several files each is of one host, with the name "
-                              "of a peer on each line")
+                raise BadDump(
+                    f"line {row.number} has several words: of several files each is of one host, with the name "
+                    "of a peer on each line"
+                )
         return [row.text for row in rows]
     try:
         value = json_of(text) if form == "json" else yaml_of(text)
@@ -261,7 +284,9 @@ def peers_in(text: str, host: str, place: str, asked: Asked) -> List[str]:
     if isinstance(value, dict):
         key = key_in(value, PEER_KEYS)
         if not key or "nodes" in value:
-            raise BadDump("of several files each is of one host, and this is no list of peers, nor an object with the "
-                          f"list {', '.join(PEER_KEYS[:-1])} or {PEER_KEYS[-1]}")
+            raise BadDump(
+                "of several files each is of one host, and this is no list of peers, nor an object with the "
+                f"list {', '.join(PEER_KEYS[:-1])} or {PEER_KEYS[-1]}"
+            )
         value = value[key]
     return [name_of(value, asked.by)] if isinstance(value, str) else names_of(value, asked.by)

@@ -8,7 +8,7 @@ from dataclasses import dataclass, field
 from typing import Dict, List, Optional, Sequence, Tuple
 
 from .dumps import Options, read_dump
-from .errors import TagzirkError
+from .errors import TagzirkError, in_words
 from .graphs import shown
 from .programs import Program
 from .reports import analysed
@@ -30,8 +30,8 @@ HELP = {
 
 @dataclass(frozen=True)
 class Metrics:
-    """The values of metrics, and of the hosts in the cut. `fault` says why the dump could not be read, or is empty; then
-    there are no metrics of it but that it was not read, and when."""
+    """The values of metrics, and the hosts in the cut. `fault` says why the dump could not be read, or is empty. If it
+    is not, the metrics say only that it was not read, and when."""
 
     values: Dict[str, float]
     cut: Tuple[str, ...] = ()
@@ -66,8 +66,9 @@ class Metrics:
         for name, value in self.values.items():
             prometheus_client.Gauge(name, HELP[name], registry=registry).set(value)
         if self.cut:
-            members = prometheus_client.Gauge("tagzirk_cut_member", HELP["tagzirk_cut_member"], ["host"],
-                                              registry=registry)
+            members = prometheus_client.Gauge(
+                "tagzirk_cut_member", HELP["tagzirk_cut_member"], ["host"], registry=registry
+            )
             for host in self.cut:
                 members.labels(host).set(1)
         prometheus_client.write_to_textfile(file, registry)
@@ -89,8 +90,13 @@ def escaped(label: str) -> str:
     return label.replace("\\", "\\\\").replace('"', '\\"').replace("\n", "\\n")
 
 
-def metrics(places: Sequence[str], options: Options = Options(), *, overlay: Optional[Program] = None,
-            overlay_check: Optional[Program] = None) -> Metrics:
+def metrics(
+    places: Sequence[str],
+    options: Options = Options(),
+    *,
+    overlay: Optional[Program] = None,
+    overlay_check: Optional[Program] = None,
+) -> Metrics:
     """The metrics of a dump. One that can't be read, or whose answer is not confirmed, has the metric
     `tagzirk_dump_read 0`, and none that could pass for a good one."""
     values = {"tagzirk_dump_read": 0.0, "tagzirk_run_timestamp_seconds": float(int(time.time()))}
@@ -101,10 +107,16 @@ def metrics(places: Sequence[str], options: Options = Options(), *, overlay: Opt
         graph = dump.graph
         report = analysed(graph, overlay=overlay, overlay_check=overlay_check)
     except (TagzirkError, OSError) as why:
-        return Metrics(values, fault=str(why))
-    values.update(tagzirk_dump_read=1.0, tagzirk_nodes=float(len(graph.ids)), tagzirk_links=float(len(graph.links)),
-                  tagzirk_connectivity=float(report.k), tagzirk_all_linked=float(report.is_linked))
+        return Metrics(values, fault=in_words(why))
+    values.update(
+        tagzirk_dump_read=1.0,
+        tagzirk_nodes=float(len(graph.ids)),
+        tagzirk_links=float(len(graph.links)),
+        tagzirk_connectivity=float(report.k),
+        tagzirk_all_linked=float(report.is_linked),
+    )
     if dump.one_sided is not None and dump.without_entry is not None:
-        values.update(tagzirk_one_sided_listings=float(dump.one_sided),
-                      tagzirk_listed_without_entry=float(dump.without_entry))
+        values.update(
+            tagzirk_one_sided_listings=float(dump.one_sided), tagzirk_listed_without_entry=float(dump.without_entry)
+        )
     return Metrics({name: values[name] for name in HELP if name in values}, tuple(map(shown, report.cut)))

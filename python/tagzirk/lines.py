@@ -12,10 +12,28 @@ from .errors import BadDump
 from .values import Views
 
 # What both columns of a header are called: of a link, and of a host and a peer that it lists.
-LINK_COLUMNS = (("source", "target"), ("from", "to"), ("src", "dst"), ("src", "dest"), ("source", "destination"),
-                ("node1", "node2"), ("node_a", "node_b"), ("from_node", "to_node"), ("start", "end"), ("u", "v"))
-LISTING_COLUMNS = (("host", "peer"), ("node", "peer"), ("name", "peer"), ("local", "remote"), ("host", "neighbor"),
-                   ("node", "neighbor"), ("host", "neighbour"), ("node", "neighbour"))
+LINK_COLUMNS = (
+    ("source", "target"),
+    ("from", "to"),
+    ("src", "dst"),
+    ("src", "dest"),
+    ("source", "destination"),
+    ("node1", "node2"),
+    ("node_a", "node_b"),
+    ("from_node", "to_node"),
+    ("start", "end"),
+    ("u", "v"),
+)
+LISTING_COLUMNS = (
+    ("host", "peer"),
+    ("node", "peer"),
+    ("name", "peer"),
+    ("local", "remote"),
+    ("host", "neighbor"),
+    ("node", "neighbor"),
+    ("host", "neighbour"),
+    ("node", "neighbour"),
+)
 ARROW = re.compile(r"(\S.*?)\s*(<->|->)\s*(\S.*)|(\S+)\s+(--)\s+(\S+)")
 LIST = re.compile(r"([^\s:]\S*?|\S.*?\S):(?:\s+(.*))?")
 NUMBER = re.compile(r"[-+]?(\d+\.?\d*|\.\d+)([eE][-+]?\d+)?")
@@ -137,8 +155,10 @@ def is_weighted(rows: List[Row]) -> bool:
         return False
     names = {name for it in words for name in it[:2]}
     if all(it[2] in names for it in words):
-        raise BadDump("each line may be an edge with its weight or a list of neighbours: say --form weighted or "
-                      "--form adjacency")
+        raise BadDump(
+            "each line may be an edge with its weight or a list of neighbours: say --form weighted or "
+            "--form adjacency"
+        )
     return True
 
 

@@ -81,8 +81,10 @@ class Mending:
 
     def no_way(self, host: int) -> BadGraph:
         name = shown(self.graph.names[host])
-        return BadGraph(f"found no way: {name} would need one more link, and all that it could be linked to have "
-                        f"{self.most} links already; --most-links allows that many")
+        return BadGraph(
+            f"found no way: {name} would need one more link, and all that it could be linked to have "
+            f"{self.most} links already; --most-links allows that many"
+        )
 
     def fill(self) -> None:
         """Adds links at hosts that have fewer than `to`, each to one that needs a link too, if there is any."""
@@ -110,12 +112,21 @@ class Mending:
         if not is_joined:
             names = self.graph.names
             told = ", ".join(shown(names[it]) for it in sorted(cut)[:10]) or "no host"
-            raise BadGraph(f"found no way: past {told}, no two hosts that the crash parts have fewer than {self.most} "
-                           "links; --most-links allows that many")
+            raise BadGraph(
+                f"found no way: past {told}, no two hosts that the crash parts have fewer than {self.most} "
+                "links; --most-links allows that many"
+            )
 
 
-def mend(graph: Graph[Node], to: int, most_links: Optional[int] = None, *, overlay: Optional[Program] = None,
-         overlay_check: Optional[Program] = None, progress: Optional[Progress] = None) -> Mended[Node]:
+def mend(
+    graph: Graph[Node],
+    to: int,
+    most_links: Optional[int] = None,
+    *,
+    overlay: Optional[Program] = None,
+    overlay_check: Optional[Program] = None,
+    progress: Optional[Progress] = None,
+) -> Mended[Node]:
     """Finds links to add, so that no fewer than `to` crashes split a graph: few, though not proved fewest. No host gets
     more than `most_links` links by them. If one of them is left out, fewer than `to` crashes split it.
 

@@ -45,8 +45,13 @@ class Progress:
         self.end()
 
 
-def each_at_once(made: Callable[[Given], Made], of: Iterable[Given], workers: int, told: str = "",
-                 progress: Optional[Progress] = None) -> Iterator[Made]:
+def each_at_once(
+    made: Callable[[Given], Made],
+    of: Iterable[Given],
+    workers: int,
+    told: str = "",
+    progress: Optional[Progress] = None,
+) -> Iterator[Made]:
     """What is made of each, in their order, so many at once. Each waits for programs, so threads do.
 
     >>> list(each_at_once(abs, [3, -4, 5], 2))

@@ -159,8 +159,10 @@ def peers_of(name: str, entry: Any, by: Optional[str]) -> List[str]:
         key = key_in(entry, PEER_KEYS)
         if not key:
             told = ", ".join(map(str, list(entry)[:10])) or "nothing"
-            raise BadDump(f"the entry of {name} should have the list {', '.join(PEER_KEYS[:-1])} or {PEER_KEYS[-1]}, "
-                          f"and it has {told}")
+            raise BadDump(
+                f"the entry of {name} should have the list {', '.join(PEER_KEYS[:-1])} or {PEER_KEYS[-1]}, "
+                f"and it has {told}"
+            )
         return names_of(entry[key], by)
     if entry is None or isinstance(entry, list):
         return names_of(entry, by)

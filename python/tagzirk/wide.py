@@ -1,17 +1,18 @@
 """The fewest crashes that cut off more than one host: `widest`.
 
-One of the smallest cuts often isolates a single host, by a crash of all that it is linked to. To know how few crashes do
-more, these questions are asked, and each answer is confirmed by overlay-check:
+One of the smallest cuts often isolates a single host, by a crash of all that it is linked to. That a crash cuts off
+more than one host, and that no crash of fewer hosts does, follows from these:
 
-- Two hosts are each cut off alone, or both together from the rest, by a crash of all that the two are linked to: this is
-  counted for every two hosts.
-- Else a crash leaves two components of two hosts or more, each with a link that no crash struck. So some two links are
-  parted. Make one node of both ends of a link: fewest crashes part two links if they part these two nodes.
-- Not every two links need be asked about. If t links that share no host, the anchors, are given, fewer than t crashes
-  leave one of them whole. So it is enough that no link is parted from an anchor, and no two anchors from each other. As
-  a link may share a host with an anchor, there are three sets of anchors, one of which it has no host of.
-- If many links become nodes at once, the number of the graph may be lower, and is never higher. So many links are asked
-  about at once, and one by one only where the number is too low.
+- If all that are cut off are single hosts, the crash strikes all that some two of them are linked to. This is counted
+  for every two hosts.
+- Else two components have two hosts or more, and so each has a link of which the crash strikes neither end. It parts
+  these two links. If both ends of a link are made one node, it parts these two nodes; and fewest crashes that part the
+  two nodes part the links. The program overlay finds them, and overlay-check confirms that fewer do not.
+- Not every two links need be asked about. Of t links that share no host, the anchors, a crash of fewer than t hosts
+  leaves one as it is. So it is enough that no link is parted from an anchor, nor two anchors from each other. Since a
+  link may share hosts with two anchors, there are three sets of anchors, and it has no host of one of them.
+- If many links become nodes at once, fewer crashes may part two of them, never more. So many are asked about at once,
+  and one by one only where the number is too low.
 """
 
 from __future__ import annotations
@@ -141,9 +142,15 @@ class Search:
         return cut is not None and self.is_better(cut)
 
 
-def widest(graph: Graph[Node], report: Optional[Report[Node]] = None, *, workers: Optional[int] = None,
-           overlay: Optional[Program] = None, overlay_check: Optional[Program] = None,
-           progress: Optional[Progress] = None) -> Optional[Wide[Node]]:
+def widest(
+    graph: Graph[Node],
+    report: Optional[Report[Node]] = None,
+    *,
+    workers: Optional[int] = None,
+    overlay: Optional[Program] = None,
+    overlay_check: Optional[Program] = None,
+    progress: Optional[Progress] = None,
+) -> Optional[Wide[Node]]:
     """The fewest crashes that cut off more than one host, or None if none do: as when every two hosts are linked.
     `report` is that of the graph, if it is there.
 
@@ -166,8 +173,12 @@ def widest(graph: Graph[Node], report: Optional[Report[Node]] = None, *, workers
         return None
     is_fewest = settle(search, report.k, workers or processors(), progress)
     names, at = named.names, len(search.best)
-    return Wide(tuple(names[it] for it in sorted(search.best)),
-                tuple(names[it] for it in cut_off_by(named, search.best)), is_fewest, at if is_fewest else report.k)
+    return Wide(
+        tuple(names[it] for it in sorted(search.best)),
+        tuple(names[it] for it in cut_off_by(named, search.best)),
+        is_fewest,
+        at if is_fewest else report.k,
+    )
 
 
 def settle(search: Search, least: int, workers: int, progress: Optional[Progress]) -> bool:
@@ -189,5 +200,7 @@ def questions_of(search: Search) -> Optional[List[Tuple[List[Link], List[Link]]]
     if all(len(it) == len(search.best) for it in anchors):
         first = [link for them in anchors for link in them]
         return [([], first), *search.batches(anchors)]
-    pairs = [([one], [other]) for one, other in itertools.combinations(search.graph.pairs, 2) if not set(one) & set(other)]
+    pairs = [
+        ([one], [other]) for one, other in itertools.combinations(search.graph.pairs, 2) if not set(one) & set(other)
+    ]
     return pairs if len(pairs) <= MOST_PAIRS else None

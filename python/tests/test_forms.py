@@ -32,10 +32,29 @@ def views(text, place="net", **asked):
 
 class Left(unittest.TestCase):
     def test_what_overlay_import_reads_is_left_to_it(self):
-        for text in ("", " \n", '{"a": ["b"], "b": []}', '{"a": null, "b": [1]}', "{}", "a b\nb c\n", "a, b\n", "a\tb # seen",
-                     "10.0.0.1:7946 10.0.0.2:7946", "[::1]:7946 [::2]:7946", "a b {'weight': 3}", "graph { a -- b }",
-                     "// DOT\ndigraph{a->b}", "strict graph {a}", "a b\nc d flaky\na c", "graph-1 b", "a b c",
-                     '{"verdict":"split","k":2}', "node 1\nnode 2\nlink 1 2\n", '{"a": ["b"]', '{"a":["b"],"a":["c"]}'):
+        for text in (
+            "",
+            " \n",
+            '{"a": ["b"], "b": []}',
+            '{"a": null, "b": [1]}',
+            "{}",
+            "a b\nb c\n",
+            "a, b\n",
+            "a\tb # seen",
+            "10.0.0.1:7946 10.0.0.2:7946",
+            "[::1]:7946 [::2]:7946",
+            "a b {'weight': 3}",
+            "graph { a -- b }",
+            "// DOT\ndigraph{a->b}",
+            "strict graph {a}",
+            "a b\nc d flaky\na c",
+            "graph-1 b",
+            "a b c",
+            '{"verdict":"split","k":2}',
+            "node 1\nnode 2\nlink 1 2\n",
+            '{"a": ["b"]',
+            '{"a":["b"],"a":["c"]}',
+        ):
             self.assertIsNone(views(text), text)
         for form in "views", "edges", "dot":
             self.assertIsNone(views('[["a", "b"]]', form=form))
@@ -46,20 +65,30 @@ class Values(unittest.TestCase):
         nodes, links = [{"id": it} for it in "abcd"], [{"source": a, "target": b} for a, b in ("ab", "bc", "ca")]
         data = [{"data": it} for it in nodes], [{"data": {"id": 1, **it}} for it in links]
         for value in (
-            {"nodes": nodes, "links": links}, {"directed": False, "nodes": nodes, "edges": links},
+            {"nodes": nodes, "links": links},
+            {"directed": False, "nodes": nodes, "edges": links},
             {"type": "NetworkGraph", "protocol": "olsr", "metric": "etx", "nodes": nodes, "links": links},
             {"type": "NetworkCollection", "collection": [{"type": "NetworkGraph", "nodes": nodes, "links": links}]},
-            {"elements": {"nodes": data[0], "edges": data[1]}}, {"graph": {"nodes": nodes, "edges": links}},
-            {"graph": {"nodes": {it: {} for it in "abcd"}, "edges": links}}, {"elements": [*data[0], *data[1]]},
-            {"nodes": list("abcd"), "links": links}, [*data[0], *data[1]],
+            {"elements": {"nodes": data[0], "edges": data[1]}},
+            {"graph": {"nodes": nodes, "edges": links}},
+            {"graph": {"nodes": {it: {} for it in "abcd"}, "edges": links}},
+            {"elements": [*data[0], *data[1]]},
+            {"nodes": list("abcd"), "links": links},
+            [*data[0], *data[1]],
             {"nodes": nodes, "links": [{"source": {"id": it["source"]}, "target": it["target"]} for it in links]},
-            {"nodes": [{"name": it} for it in "abcd"], "links": [{"source": a, "target": b} for a, b in ((0, 1), (1, 2), (2, 0))]},
+            {
+                "nodes": [{"name": it} for it in "abcd"],
+                "links": [{"source": a, "target": b} for a, b in ((0, 1), (1, 2), (2, 0))],
+            },
             {"nodes": nodes, "adjacency": [[{"id": it} for it in TRIANGLE[name]] for name in "abcd"]},
         ):
             self.assertEqual(views(json.dumps(value)), TRIANGLE, value)
 
     def test_names_of_nodes(self):
-        value = {"nodes": [{"id": 0, "label": "oslo"}, {"id": 1, "label": "rome"}], "links": [{"source": 0, "target": 1}]}
+        value = {
+            "nodes": [{"id": 0, "label": "oslo"}, {"id": 1, "label": "rome"}],
+            "links": [{"source": 0, "target": 1}],
+        }
         self.assertEqual(views(json.dumps(value)), {"0": {"1"}, "1": {"0"}})
         self.assertEqual(views(json.dumps(value), by="label"), {"oslo": {"rome"}, "rome": {"oslo"}})
         # an id is meant before a place
@@ -81,21 +110,33 @@ class Values(unittest.TestCase):
         self.assertEqual(views('{"a": ["b"]}\n{"b": ["a"]}\n'), {"a": {"b"}, "b": {"a"}})
 
     def test_lists_of_links(self):
-        for text in ('[["a","b"],["b","c"]]', '[["a","b",3],["c","b",{"w":1}]]', '[{"from":"a","to":"b"},{"from":"b","to":"c"}]',
-                     '{"source":"a","target":"b"}\n\n{"source":"b","target":"c"}\n', '["a","b"]\n["c","b"]\n'):
+        for text in (
+            '[["a","b"],["b","c"]]',
+            '[["a","b",3],["c","b",{"w":1}]]',
+            '[{"from":"a","to":"b"},{"from":"b","to":"c"}]',
+            '{"source":"a","target":"b"}\n\n{"source":"b","target":"c"}\n',
+            '["a","b"]\n["c","b"]\n',
+        ):
             self.assertEqual(views(text), PATH, text)
 
     def test_what_is_refused(self):
         for text, told in (
-            ('["a","b"]', "'a' is neither a link nor a host with its peers"), ('[["a"]]', "a link is a list of two names"),
-            ('{"peers":["a"]}', "does not say of which"), ('{"a":{"port":1}}', "should have the list peers"),
-            ('{"a":7}', "is no list of peers"), ('{"a":[true, {}]}', "True is no name"),
-            ('[{"name":"a"}]', "the host a should have the list"), ('[{"x":1,"peers":[]}]', "peers"),
+            ('["a","b"]', "'a' is neither a link nor a host with its peers"),
+            ('[["a"]]', "a link is a list of two names"),
+            ('{"peers":["a"]}', "does not say of which"),
+            ('{"a":{"port":1}}', "should have the list peers"),
+            ('{"a":7}', "is no list of peers"),
+            ('{"a":[true, {}]}', "True is no name"),
+            ('[{"name":"a"}]', "the host a should have the list"),
+            ('[{"x":1,"peers":[]}]', "peers"),
             ('[{"name":"a","peers":[]},{"name":"a","peers":[]}]', "the host a stands there twice"),
-            ('{"a":{"peers":["b"]},"a":{"peers":[]}}', "the key a twice"), ('["a","b"]\n["a"', "line 2 is no JSON"),
+            ('{"a":{"peers":["b"]},"a":{"peers":[]}}', "the key a twice"),
+            ('["a","b"]\n["a"', "line 2 is no JSON"),
             ('{"nodes":[{"id":"a"}],"links":[{"source":"a","target":"b"}]}', "the end b, which is no node"),
-            ('{"nodes":[{"id":"a"},{"id":"a"}],"links":[]}', "one name"), ('{"nodes":[],"links":[{"a":1}]}', "source and target"),
-            ('{"type":"NetworkCollection","collection":[]}', "0 graphs"), ('{"nodes":["a"],"adjacency":[]}', "for each node"),
+            ('{"nodes":[{"id":"a"},{"id":"a"}],"links":[]}', "one name"),
+            ('{"nodes":[],"links":[{"a":1}]}', "source and target"),
+            ('{"type":"NetworkCollection","collection":[]}', "0 graphs"),
+            ('{"nodes":["a"],"adjacency":[]}', "for each node"),
         ):
             with self.assertRaisesRegex(BadDump, told, msg=text):
                 views(text)
@@ -103,21 +144,37 @@ class Values(unittest.TestCase):
 
 class Lines(unittest.TestCase):
     def test_tables(self):
-        for text in ("source,target\na,b\nb,c\n", "\ufeffFrom;To;cost\na;b;1\nb;c;2\n", "# seen at noon\nSRC\tDST\na\tb\nc\tb\n",
-                     '"id","target","source"\n1,"a","b"\n2,"c","b"\n', "source target\na b\nb c\n", "node1, node2\na, b\nb, c\n"):
+        for text in (
+            "source,target\na,b\nb,c\n",
+            "\ufeffFrom;To;cost\na;b;1\nb;c;2\n",
+            "# seen at noon\nSRC\tDST\na\tb\nc\tb\n",
+            '"id","target","source"\n1,"a","b"\n2,"c","b"\n',
+            "source target\na b\nb c\n",
+            "node1, node2\na, b\nb, c\n",
+        ):
             self.assertEqual(views(text), PATH, text)
         self.assertEqual(views("host,peer\na,b\nb,a\nc,\n"), {"a": {"b"}, "b": {"a"}, "c": set()})
         self.assertEqual(views('source,target\n"a, the first",b\n'), {"a, the first": {"b"}, "b": {"a, the first"}})
         self.assertEqual(views("n,x,y\n1,a,b\n2,b,c\n", columns="x,Y"), PATH)
         # a host of such a name is one
         self.assertIsNone(views("source target\na source\n"))
-        for text, asked, told in (("a,b\n", {"form": "csv"}, "no known header"), ("x,y\na,b\n", {"columns": "x,z"}, "--columns"),
-                                  ("source,target\na\n", {}, "line 2 has 1"), ("source,target\na,\n", {}, "line 2 lacks a name")):
+        for text, asked, told in (
+            ("a,b\n", {"form": "csv"}, "no known header"),
+            ("x,y\na,b\n", {"columns": "x,z"}, "--columns"),
+            ("source,target\na\n", {}, "line 2 has 1"),
+            ("source,target\na,\n", {}, "line 2 lacks a name"),
+        ):
             with self.assertRaisesRegex(BadDump, told, msg=text):
                 views(text, **asked)
 
     def test_weights(self):
-        for text in ("a b 3.5\nb c 1\n", "a\tb\t-2e3\nc\tb\t.5\n", "a;b\nb;c\n", "a; b; 7\nc; b; 8\n", "a, b, 1\nb, c, 2 # late\n"):
+        for text in (
+            "a b 3.5\nb c 1\n",
+            "a\tb\t-2e3\nc\tb\t.5\n",
+            "a;b\nb;c\n",
+            "a; b; 7\nc; b; 8\n",
+            "a, b, 1\nb, c, 2 # late\n",
+        ):
             self.assertEqual(views(text), PATH, text)
         self.assertEqual(views("1 2 3\n2 3 9\n"), {"1": {"2"}, "2": {"1", "3"}, "3": {"2"}})
         for text in "1 2 3\n2 3 1\n", "1 2 3\n2 1 3\n3 1 2\n":
@@ -142,7 +199,9 @@ class Lines(unittest.TestCase):
         for text in "# by hand\na b c\nb c\nc\nd\n", "a b c\nb a c\nc a b\nd\n":
             self.assertEqual(views(text), TRIANGLE, text)
         self.assertEqual(views("a b c\nb c\nc a\n"), {"a": {"b", "c"}, "b": {"c"}, "c": {"a"}})
-        self.assertEqual(views("a b\nb c\nc a\n", form="adjacency"), {"a": {"b", "c"}, "b": {"a", "c"}, "c": {"a", "b"}})
+        self.assertEqual(
+            views("a b\nb c\nc a\n", form="adjacency"), {"a": {"b", "c"}, "b": {"a", "c"}, "c": {"a", "b"}}
+        )
         with self.assertRaisesRegex(BadDump, "line 2: a has a list already"):
             views("a: b\na: c\n")
 
@@ -156,10 +215,17 @@ class Texts(unittest.TestCase):
                     text_of(data)
                 data = ("\ufeff" + "source,target\nb\u00f8rre,a\n").encode(code)
             turned, told = text_of(data)
-            self.assertEqual((views(turned), told), ({"b\u00f8rre": {"a"}, "a": {"b\u00f8rre"}}, ["it was read as UTF-16"]))
+            self.assertEqual(
+                (views(turned), told), ({"b\u00f8rre": {"a"}, "a": {"b\u00f8rre"}}, ["it was read as UTF-16"])
+            )
 
     def test_what_is_no_text(self):
-        for data, told in (b"\x1f\x8b\x08", "gzip"), (b"PK\x03\x04", "zip"), (b"%PDF-1.4", "PDF"), (b"\xff\xfea", "UTF-16"):
+        for data, told in (
+            (b"\x1f\x8b\x08", "gzip"),
+            (b"PK\x03\x04", "zip"),
+            (b"%PDF-1.4", "PDF"),
+            (b"\xff\xfea", "UTF-16"),
+        ):
             with self.assertRaisesRegex(BadDump, told):
                 text_of(data)
         with self.assertRaisesRegex(BadDump, "line 2 is not UTF-8"):
@@ -168,16 +234,35 @@ class Texts(unittest.TestCase):
 
 class Hosts(unittest.TestCase):
     def test_one_file_a_host(self):
-        files = {"oslo-1.json": b'["oslo-2", "10.0.0.1"]', "oslo-2": b"oslo-1 # up\n\n", "peers/10.0.0.1": b'{"peers":[{"name":"oslo-1"}]}',
-                 "rome.txt": b"", "bern.json": b'{"bern": ["rome"]}', "gone.json": b"null"}
+        files = {
+            "oslo-1.json": b'["oslo-2", "10.0.0.1"]',
+            "oslo-2": b"oslo-1 # up\n\n",
+            "peers/10.0.0.1": b'{"peers":[{"name":"oslo-1"}]}',
+            "rome.txt": b"",
+            "bern.json": b'{"bern": ["rome"]}',
+            "gone.json": b"null",
+        }
         found = of_hosts({pathlib.Path(it): data for it, data in files.items()}, Asked())
-        self.assertEqual(found.value, {"oslo-1": ["oslo-2", "10.0.0.1"], "oslo-2": ["oslo-1"], "10.0.0.1": ["oslo-1"],
-                                       "rome": [], "bern": ["rome"], "gone": []})
+        self.assertEqual(
+            found.value,
+            {
+                "oslo-1": ["oslo-2", "10.0.0.1"],
+                "oslo-2": ["oslo-1"],
+                "10.0.0.1": ["oslo-1"],
+                "rome": [],
+                "bern": ["rome"],
+                "gone": [],
+            },
+        )
         self.assertEqual(host_of(pathlib.Path(".json")), ".json")
 
     def test_what_is_refused(self):
-        for files, told in (({"a": b"b c\n"}, "line 1 has several words"), ({"a.json": b"[]", "b/a.txt": b""}, "second file is of"),
-                            ({"a.json": b'{"a":["b"],"b":["a"]}'}, "several files"), ({"a.json": b"[1"}, "no JSON")):
+        for files, told in (
+            ({"a": b"b c\n"}, "line 1 has several words"),
+            ({"a.json": b"[]", "b/a.txt": b""}, "second file is of"),
+            ({"a.json": b'{"a":["b"],"b":["a"]}'}, "several files"),
+            ({"a.json": b"[1"}, "no JSON"),
+        ):
             with self.assertRaisesRegex(BadDump, told, msg=files):
                 of_hosts({pathlib.Path(it): data for it, data in files.items()}, Asked())
 
@@ -187,10 +272,15 @@ class Networkx(unittest.TestCase):
     def test_what_networkx_writes(self):
         graph = networkx.Graph([(a, b) for a, peers in TRIANGLE.items() for b in peers])
         graph.add_node("d")
-        for text in ("\n".join(networkx.generate_adjlist(graph)), "\n".join(networkx.generate_graphml(graph)),
-                     "\n".join(networkx.generate_gml(graph)), "\n".join(networkx.generate_gexf(graph)),
-                     json.dumps(networkx.node_link_data(graph)), json.dumps(networkx.adjacency_data(graph)),
-                     json.dumps(networkx.cytoscape_data(graph))):
+        for text in (
+            "\n".join(networkx.generate_adjlist(graph)),
+            "\n".join(networkx.generate_graphml(graph)),
+            "\n".join(networkx.generate_gml(graph)),
+            "\n".join(networkx.generate_gexf(graph)),
+            json.dumps(networkx.node_link_data(graph)),
+            json.dumps(networkx.adjacency_data(graph)),
+            json.dumps(networkx.cytoscape_data(graph)),
+        ):
             self.assertEqual(views(text), TRIANGLE, text)
 
     def test_graphs_by_ids(self):
@@ -205,8 +295,11 @@ class Networkx(unittest.TestCase):
 
 class Libraries(unittest.TestCase):
     def test_what_is_told_of_a_missing_library(self):
-        for text, place, told in (("<graphml/>", "a", "python3-networkx"), ("graph [\n]\n", "a", "python3-networkx"),
-                                  ("a: [b]\n", "a.yaml", "python3-yaml")):
+        for text, place, told in (
+            ("<graphml/>", "a", "python3-networkx"),
+            ("graph [\n]\n", "a", "python3-networkx"),
+            ("a: [b]\n", "a.yaml", "python3-yaml"),
+        ):
             with mock.patch.dict("sys.modules", {"networkx": None, "yaml": None}):
                 with self.assertRaisesRegex(LibraryMissing, told):
                     views(text, place)
@@ -226,7 +319,12 @@ class Libraries(unittest.TestCase):
         self.assertEqual({name: set(peers) for name, peers in found.peers.items()}, TRIANGLE)
         found = of_graphviz(b"digraph { a -> {b c} -> a }")
         self.assertEqual(found.value, {"a": ["b", "c"], "b": ["a"], "c": ["a"]})
-        for text in b"graph { oslo-1 -- {a b} }", b"graph { 10.0.0.1 -- {a b} }", b"graph { a -- {b", b"graph { 5f3a -- {a b} }":
+        for text in (
+            b"graph { oslo-1 -- {a b} }",
+            b"graph { 10.0.0.1 -- {a b} }",
+            b"graph { a -- {b",
+            b"graph { 5f3a -- {a b} }",
+        ):
             with self.assertRaises(BadDump, msg=text):
                 of_graphviz(text)
 
