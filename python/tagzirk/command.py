@@ -5,6 +5,7 @@ from __future__ import annotations
 import argparse
 import csv
 import datetime
+import io
 import os
 import pathlib
 import sys
@@ -14,7 +15,7 @@ from .crashes import Crash, each, racks_of
 from .dumps import Dump, Options, read_dump
 from .errors import BadDump, TagzirkError, in_words
 from .forms import FORMS, Asked
-from .graphs import NamedGraph, shown
+from .graphs import UNSHOWN, NamedGraph, code, shown
 from .histories import draw, history, need_matplotlib, write_rows
 from .mending import Mended, mend
 from .gauges import metrics
@@ -33,9 +34,9 @@ host, whose name is the host's. Without FILE, or with -, standard input is read.
 
 
 def told(text: str) -> None:
-    """Says something to the person, on standard error, below what is printed."""
+    """Says something to the person, on standard error, below what is printed. Control characters are shown as codes."""
     sys.stdout.flush()
-    print(text, file=sys.stderr, flush=True)
+    print("\n".join(UNSHOWN.sub(code, line) for line in text.split("\n")), file=sys.stderr, flush=True)
 
 
 def some(names: Sequence[object]) -> str:
@@ -277,6 +278,10 @@ def parser() -> argparse.ArgumentParser:
 def main(given: Optional[Sequence[str]] = None) -> int:
     """Runs the command with these words: its status, as those of the two programs. 0 if it reached its end, 1 if
     something could not be done, and 2 if the words are wrong."""
+    for stream in (sys.stdout, sys.stderr):
+        if isinstance(stream, io.TextIOWrapper):
+            # as the programs print, whatever the system prefers
+            stream.reconfigure(encoding="utf-8", errors="backslashreplace", newline="\n")
     words = parser().parse_args(given)
     try:
         status: int = words.run(words)

@@ -12,6 +12,7 @@ from typing import Dict, List, NamedTuple, Optional, Sequence, Tuple
 
 from .errors import BadDump, LibraryMissing, Refused
 from .forms import Asked, NATIVE, listings_of, of_graphviz, of_hosts, text_of
+from .values import Views
 from .graphs import NamedGraph
 from .programs import Program, call, find, refuse
 
@@ -19,6 +20,8 @@ GRAPH_FILE = re.compile(r"(?:\s*#[^\n]*\n|\s*\n)*\s*(?:node|link) +\d")
 NAME = re.compile(r"# (\d+) (.*)")
 ONE_SIDED = re.compile(r"^listed by one end only: (\d+)$", re.MULTILINE)
 WITHOUT_ENTRY = re.compile(r"^listed without an entry: (\d+)$", re.MULTILINE)
+TOO_MANY = """
+leave hosts out of the dump: ask about one site after the other, or about some hosts with all that they are linked to"""
 # The words of a refusal of DOT that Graphviz may read all the same.
 BY_GRAPHVIZ = ("in place of a subgraph", "an HTML text")
 
@@ -118,11 +121,19 @@ def read_dump(
     files = contents_of(places)
     views = of_hosts(files, options.asked)
     name = places[0] if len(places) == 1 else f"{len(files)} files"
-    told = [f"{name}: {len(files)} files were read, one a host"]
+    told = notes_on(views, name)
     try:
         return imported(json.dumps(views.value).encode(), name, ["--views", *options.words], told, overlay)
     except Refused as why:
         raise named_error(why, name) from None
+
+
+def notes_on(views: Views, name: str) -> List[str]:
+    """How a dump was read, and what is likely to be wrong with that."""
+    notes = [f"{name} was read as {views.kind}"]
+    if not views.has_known:
+        notes.append("no host that is listed has an entry; --by FIELD names hosts by another field of objects")
+    return notes
 
 
 def named_error(why: Exception, name: str) -> Exception:
@@ -132,7 +143,8 @@ def named_error(why: Exception, name: str) -> Exception:
         reason = re.sub(
             r"--(views|edges|dot)\b", r"--form \1", why.reason.replace("tip: standard input", f"tip: {name}")
         )
-        return Refused(why.number, why.line, f"{name}: {reason}")
+        advice = TOO_MANY if why.number == 31 else ""
+        return Refused(why.number, why.line, f"{name}: {reason}{advice}")
     return type(why)(f"{name}: {why}")
 
 
@@ -154,6 +166,10 @@ def dump_of(
     data, told = text_of(data)
     notes = [f"{name}: {it}" for it in told]
     if is_graph_taken and not options.asked.form and GRAPH_FILE.match(data.decode(errors="replace")):
+        # overlay says what is wrong with it; what it accepts is read here
+        ended = call(find("overlay", overlay), ["analyse"], data)
+        if ended.status != 0:
+            refuse(*ended.err.partition("\n")[::2])
         return Dump(name, data.decode(errors="backslashreplace"), tuple(notes), None, None)
     views = listings_of(data, name, options.asked)
     if views is None:
@@ -167,7 +183,7 @@ def dump_of(
                 views = of_graphviz(data)
             except (BadDump, LibraryMissing) as other:
                 raise Refused(why.number, why.line, f"{why.reason}\n{other}") from None
-    notes.append(f"{name} was read as {views.kind}")
+    notes += notes_on(views, name)
     return imported(json.dumps(views.value).encode(), name, ["--views", *options.words], notes, overlay)
 
 

@@ -12,7 +12,7 @@ from typing import Any, Dict, List, NamedTuple, Optional, Tuple
 
 from .errors import BadDump, LibraryMissing
 from .lines import of_lines, rows_of
-from .values import Views, is_list_of_names, is_views, key_in, name_of, names_of, PEER_KEYS, views_of
+from .values import NAME_KEYS, PEER_KEYS, Views, is_list_of_names, is_views, key_in, name_of, names_of, views_of
 
 # The forms that can be asked for. Those of `overlay import` are its own.
 NATIVE = ("views", "edges", "dot")
@@ -248,8 +248,22 @@ def host_of(place: pathlib.Path) -> str:
 
 def of_hosts(files: Dict[pathlib.Path, bytes], asked: Asked) -> Views:
     """What hosts list, with one file a host: a list of names or objects, an object with such a list, or a name on each
-    line."""
-    views = Views("one file a host")
+    line. If objects name peers and no host is among these names, another field is tried that names some host."""
+    views = hosts_by(files, asked)
+    for field in () if asked.by or views.has_known else NAME_KEYS:
+        try:
+            others = hosts_by(files, asked._replace(by=field))
+        except BadDump:
+            continue
+        if others.has_known:
+            others.kind += f", with peers by {field}"
+            return others
+    return views
+
+
+def hosts_by(files: Dict[pathlib.Path, bytes], asked: Asked) -> Views:
+    """The same, with peers by the field that is asked for."""
+    views = Views(f"{len(files)} files, one a host")
     for place, data in files.items():
         host = host_of(place)
         try:

@@ -30,7 +30,12 @@ def shown(name: Any) -> str:
     a\\u{a}b a\\u{5c}u{a}b
     """
     text = str(name).replace("\\u{", "\\u{5c}u{")
-    return UNSHOWN.sub(lambda it: f"\\u{{{ord(it[0]):x}}}", text)
+    return UNSHOWN.sub(code, text)
+
+
+def code(found: "re.Match[str]") -> str:
+    """A control character as its code."""
+    return f"\\u{{{ord(found[0]):x}}}"
 
 
 @dataclass(frozen=True)

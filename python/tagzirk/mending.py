@@ -137,15 +137,14 @@ def mend(
     `BadGraph` says that there are no such links, or that none were found: where `most_links` is low, there may be some.
     """
     named: NamedGraph[Node] = graph if isinstance(graph, NamedGraph) else named_graph(graph)
-    if not 1 <= to < max(len(named.ids), 2):
-        raise BadGraph(f"k of {len(named.ids)} hosts is at most {max(len(named.ids) - 1, 0)}, so it can't be {to}")
-    if most_links is not None and most_links < to:
-        raise BadGraph(f"a host with {most_links} links is cut off by as many crashes, so k would be below {to}")
-
     def asked(of: NamedGraph[Node]) -> Report[Node]:
         return analysed(of, overlay=overlay, overlay_check=overlay_check)
 
     before = now = asked(named)
+    if not 1 <= to < len(named.ids):
+        raise BadGraph(f"k of {len(named.ids)} hosts is at most {len(named.ids) - 1}, so it can't be {to}")
+    if most_links is not None and most_links < to:
+        raise BadGraph(f"a host with {most_links} links is cut off by as many crashes, so k would be below {to}")
     mending = Mending(named, to, most_links)
     if now.k < to:
         mending.fill()

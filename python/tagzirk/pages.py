@@ -49,11 +49,11 @@ a{color:var(--link)}
 .t-facts b{display:block;font-size:1.35rem;line-height:1.3}
 .t-names,td{overflow-wrap:anywhere}
 .t-scroll{overflow-x:auto}
-.t-scroll svg{display:block;width:100%;min-width:50rem;height:auto}
-table{border-collapse:collapse;width:100%}
+.t-scroll svg{display:block;max-width:max(100%,50rem);height:auto}
+table{border-collapse:collapse}
 th,td{text-align:left;vertical-align:top;padding:.3rem .8rem .3rem 0;border-bottom:1px solid var(--line)}
 th{font-weight:600}
-th:first-child{min-width:11rem}
+th:first-child{min-width:7rem}
 .t-number{text-align:right;white-space:nowrap}
 pre{background:var(--box);border-radius:.5rem;padding:.7rem .9rem;overflow-x:auto;font-size:.88rem}
 strong.t-warm{color:var(--warm)}

@@ -42,6 +42,12 @@ class Views:
             self.link(one, other)
 
     @property
+    def has_known(self) -> bool:
+        """Whether some host that is listed has an entry, or none is listed at all."""
+        listed = {peer for peers in self.peers.values() for peer in peers}
+        return not listed or not listed.isdisjoint(self.peers)
+
+    @property
     def value(self) -> Dict[str, List[str]]:
         """What JSON has of it."""
         return {name: list(peers) for name, peers in self.peers.items()}

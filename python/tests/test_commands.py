@@ -97,7 +97,7 @@ class Import(Commands):
         for words in [self.room / "hosts"], sorted((self.room / "hosts").iterdir()):
             out, err, status = self.tagzirk("import", *words)
             self.assertEqual((out, status), (wanted, 0))
-            self.assertIn("7 files were read, one a host", err)
+            self.assertIn("was read as 7 files, one a host\n", err)
         self.assertEqual(self.tagzirk("import", given=edges_of(CLIQUES)), (wanted, "", 0))
 
     def test_options_and_notes(self):
@@ -132,6 +132,8 @@ class Import(Commands):
             (["import", DUMPS / "certificate.json"], "certificate", 1),
             (["import", "--form", "csv", graph], "no known header", 1),
             (["each", self.file("bad.graph", "node 1\nlink 1 2\n")], "link 1 2", 1),
+            (["each", self.file("worse.graph", "node 1\nnoode 2\n")], "worse.graph: line 2: no line begins", 1),
+            (["import", self.file("a.json", '{"\\u001b[2J": 7}')], "the entry of \\u{1b}[2J is no list of peers", 1),
             (["mend", graph], "--to", 2),
             (["mend", graph, "--to", 0], "from 1 to 1024", 2),
             (["mend", graph, "--to", "x"], "1024", 2),

@@ -256,6 +256,16 @@ class Hosts(unittest.TestCase):
         )
         self.assertEqual(host_of(pathlib.Path(".json")), ".json")
 
+    def test_the_field_that_names_a_host(self):
+        files = {"k1": b'{"peers":[{"key":"k2","address":"x2"}]}', "k2": b'{"peers":[{"key":"k1","address":"x1"}]}'}
+        places = {pathlib.Path(it): data for it, data in files.items()}
+        found = of_hosts(places, Asked())
+        self.assertEqual(
+            (found.value, found.kind), ({"k1": ["k2"], "k2": ["k1"]}, "2 files, one a host, with peers by key")
+        )
+        found = of_hosts(places, Asked(by="address"))
+        self.assertEqual((found.value, found.has_known), ({"k1": ["x2"], "k2": ["x1"]}, False))
+
     def test_what_is_refused(self):
         for files, told in (
             ({"a": b"b c\n"}, "line 1 has several words"),
