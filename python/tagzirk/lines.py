@@ -21,8 +21,6 @@ LINK_COLUMNS = (
     ("node1", "node2"),
     ("node_a", "node_b"),
     ("from_node", "to_node"),
-    ("start", "end"),
-    ("u", "v"),
 )
 LISTING_COLUMNS = (
     ("host", "peer"),
@@ -34,8 +32,8 @@ LISTING_COLUMNS = (
     ("host", "neighbour"),
     ("node", "neighbour"),
 )
-ARROW = re.compile(r"(\S.*?)\s*(<->|->)\s*(\S.*)|(\S+)\s+(--)\s+(\S+)")
-LIST = re.compile(r"([^\s:]\S*?|\S.*?\S):(?:\s+(.*))?")
+ARROW = re.compile(r"(\S+?)\s*(<->|->)\s*(\S+)|(\S+)\s+(--)\s+(\S+)")
+LIST = re.compile(r"(\S+):(?:\s+(.*))?")
 NUMBER = re.compile(r"[-+]?(\d+\.?\d*|\.\d+)([eE][-+]?\d+)?")
 # What networkx writes behind an edge.
 ATTRIBUTES = re.compile(r"\s*\{.*\}\s*$")
@@ -74,9 +72,11 @@ def of_lines(text: str, form: Optional[str] = None, columns: Optional[str] = Non
         return None
     header = header_of(text, columns) if form in (None, "csv") else None
     if header:
-        return of_table(text, *header)
+        return of_table(text, header)
     if form == "csv":
         raise BadDump("its first line is no known header: --columns FROM,TO names the columns of both ends")
+    if not form and all(ARROW.fullmatch(row.text) for row in rows):
+        return of_arrows(rows)
     if form != "adjacency" and all(";" in row.text for row in rows):
         return of_weighted([(row, [it.strip() for it in row.text.split(";")]) for row in rows])
     if form == "adjacency" or not form and all(LIST.fullmatch(row.text) for row in rows):
@@ -85,24 +85,26 @@ def of_lines(text: str, form: Optional[str] = None, columns: Optional[str] = Non
         return of_weighted([(row, row.words) for row in rows])
     if not form and is_adjacency(rows):
         return of_adjacency(rows)
-    if all(ARROW.fullmatch(row.text) for row in rows):
-        return of_arrows(rows)
     return None
 
 
 class Table(NamedTuple):
-    """How a table is read: what is between two columns, which two are both ends, and whether a row is a listing."""
+    """How a table is read: the place of the header's line, what is between two columns, which two are both ends, and
+    whether a row is a listing."""
 
+    header: int
     between: str
     ends: Tuple[int, int]
     is_listing: bool
     told: str
 
 
-def header_of(text: str, columns: Optional[str]) -> Optional[Tuple[Table]]:
-    """How the table is read whose first line is a header: one that names two columns that are known or were asked for,
-    and no column has these names again."""
-    first = next((line for line in text.split("\n") if line.strip() and not line.lstrip().startswith("#")), "")
+def header_of(text: str, columns: Optional[str]) -> Optional[Table]:
+    """How the table is read whose first line is a header: one that names two columns that are known or were asked for.
+    No row below has these names."""
+    lines = text.split("\n")
+    at = next((at for at, line in enumerate(lines) if line.strip() and not line.lstrip().startswith("#")), 0)
+    first = lines[at]
     between = next((it for it in ("\t", ";", ",") if it in first), " ")
     names = [it.strip().strip('"').lower() for it in first.split(between)]
     asked = tuple(it.strip().lower() for it in columns.split(",")) if columns else None
@@ -113,29 +115,29 @@ def header_of(text: str, columns: Optional[str]) -> Optional[Tuple[Table]]:
             ends = names.index(pair[0]), names.index(pair[1])
             is_listing = pair in LISTING_COLUMNS
             kind = f"a row says that {pair[0]} lists {pair[1]}" if is_listing else "each row is a link"
-            table = Table(between, ends, is_listing, f"a table with the columns {pair[0]} and {pair[1]}: {kind}")
-            rest = table_rows(text, table)[1:]
-            is_name = any(row[end].lower() in pair for _, row in rest for end in ends)
-            return None if is_name and not asked else (table,)
+            table = Table(at, between, ends, is_listing, f"a table with the columns {pair[0]} and {pair[1]}: {kind}")
+            rows = table_rows(text, table)
+            is_name = any(row[end].lower() in pair for _, row in rows for end in ends)
+            return None if is_name and not asked else table
     return None
 
 
 def table_rows(text: str, table: Table) -> List[Tuple[int, List[str]]]:
-    """The rows of a table with the numbers of their lines, the header too."""
-    reader, rows = csv.reader(io.StringIO(text), delimiter=table.between, skipinitialspace=True), []
+    """The rows of a table below its header, with the numbers of their lines."""
+    below = io.StringIO("\n".join(text.split("\n")[table.header + 1 :]), newline="")
+    reader, rows = csv.reader(below, delimiter=table.between, skipinitialspace=True), []
     for row in reader:
-        cells = [it.strip() for it in row if table.between != " " or it]
-        if not any(cells) or cells[0].startswith("#"):
-            continue
-        if len(cells) <= max(table.ends):
-            raise BadDump(f"line {reader.line_num} has {len(cells)} columns, and the header has more")
-        rows.append((reader.line_num, cells))
+        cells, number = [it.strip() for it in row if table.between != " " or it], table.header + 1 + reader.line_num
+        if any(cells) and len(cells) <= max(table.ends):
+            raise BadDump(f"line {number} has {len(cells)} columns, and the header has more")
+        if any(cells):
+            rows.append((number, cells))
     return rows
 
 
 def of_table(text: str, table: Table) -> Views:
     views = Views(table.told)
-    for number, cells in table_rows(text, table)[1:]:
+    for number, cells in table_rows(text, table):
         one, other = (cells[end] for end in table.ends)
         if one and not other and table.is_listing:
             views.enter(one)

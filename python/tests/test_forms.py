@@ -156,8 +156,10 @@ class Lines(unittest.TestCase):
         self.assertEqual(views("host,peer\na,b\nb,a\nc,\n"), {"a": {"b"}, "b": {"a"}, "c": set()})
         self.assertEqual(views('source,target\n"a, the first",b\n'), {"a, the first": {"b"}, "b": {"a, the first"}})
         self.assertEqual(views("n,x,y\n1,a,b\n2,b,c\n", columns="x,Y"), PATH)
-        # a host of such a name is one
+        # a host of such a name is one, and a row that begins with # is a row
         self.assertIsNone(views("source target\na source\n"))
+        self.assertEqual(views("source,target\n"), {})
+        self.assertEqual(views("# by hand\nsource,target\n#1,b\n"), {"#1": {"b"}, "b": {"#1"}})
         for text, asked, told in (
             ("a,b\n", {"form": "csv"}, "no known header"),
             ("x,y\na,b\n", {"columns": "x,z"}, "--columns"),
@@ -190,6 +192,8 @@ class Lines(unittest.TestCase):
         self.assertEqual(views("a -- b\nb -- c\n"), PATH)
         self.assertEqual(views("a <-> b\nc <-> b\n"), PATH)
         self.assertEqual(views("10.0.0.1:655 -> x--1\n"), {"10.0.0.1:655": {"x--1"}, "x--1": set()})
+        self.assertEqual(views("a <-> 1\n"), {"a": {"1"}, "1": {"a"}})
+        self.assertIsNone(views("a -> b c\n"))
 
     def test_lists_of_neighbours(self):
         self.assertEqual(views("a: b, c\nb: a\nc:\n"), {"a": {"b", "c"}, "b": {"a"}, "c": set()})
