@@ -87,6 +87,8 @@ def contents_of(places: Sequence[str]) -> Dict[pathlib.Path, bytes]:
     found: Dict[pathlib.Path, bytes] = {}
     for place in places:
         if place == "-":
+            if not sys.stdin:
+                raise BadDump("standard input is closed; name a file")
             if sys.stdin.isatty():
                 print("reading standard input, to its end (Ctrl-D)", file=sys.stderr)
             found[pathlib.Path("standard input")] = sys.stdin.buffer.read()

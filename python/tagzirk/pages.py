@@ -294,8 +294,8 @@ def checking_of(report: Report[str], graph_file: str, line: str) -> str:
         f"<p>{certificate} and {file_link('overlay.graph', 'text/plain', graph_file)}, the graph with its names.</p>"
         f"<pre>{commands}</pre>"
         "<p>With overlay-check of your own you need not trust who made this page. <code>cmp</code> prints nothing if"
-        " the certificate is of this graph; whether this graph is your overlay, only its hosts can say. Who is in which "
-        "piece, and the weakest hosts, plain Python has counted.</p>"
+        " the certificate is of this graph; whether this graph is your overlay, only its hosts can say. Who is in "
+        "which piece, and the weakest hosts, plain Python has counted.</p>"
     )
 
 
