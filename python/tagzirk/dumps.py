@@ -16,7 +16,7 @@ from .values import Views
 from .graphs import NamedGraph
 from .programs import Program, call, find, refuse
 
-GRAPH_FILE = re.compile(r"(?:\s*#[^\n]*\n|\s*\n)*\s*(?:node|link) +\d")
+GRAPH_FILE = re.compile(r"(?:[ \t\r]*(?:#[^\n]*)?\n)*[ \t\r]*(?:node|link) +\d")
 NAME = re.compile(r"# (\d+) (.*)")
 ONE_SIDED = re.compile(r"^listed by one end only: (\d+)$", re.MULTILINE)
 WITHOUT_ENTRY = re.compile(r"^listed without an entry: (\d+)$", re.MULTILINE)

@@ -154,6 +154,22 @@ class Import(Commands):
         self.assertEqual((out, status), ("", 1))
         self.assertIn("none could not be started", err)
 
+    def test_closed_streams(self):
+        for words, status, told in ("import - >&-", 1, b"standard output is closed"), (
+            "each <&-",
+            1,
+            b"input is closed",
+        ):
+            line = f'"{sys.executable}" -B -m tagzirk {words}'
+            run = subprocess.run(
+                ["sh", "-c", line], input=b"a b\n", stderr=subprocess.PIPE, cwd=CHECKOUT / "python", timeout=60
+            )
+            self.assertEqual((run.returncode, told in run.stderr), (status, True), run.stderr)
+
+    def test_many_blank_lines(self):
+        self.assertEqual(self.tagzirk("import", given="\n" * 5000 + "a b\n")[2], 0)
+        self.assertIn("k is 1 now", self.tagzirk("each", given="\n" * 5000 + "# two\r\nnode 1\nnode 2\nlink 1 2\n")[0])
+
     def test_the_module(self):
         run = subprocess.run(
             [sys.executable, "-B", "-m", "tagzirk", "each"],
