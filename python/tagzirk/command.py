@@ -3,6 +3,7 @@
 from __future__ import annotations
 
 import argparse
+import contextlib
 import csv
 import datetime
 import io
@@ -34,9 +35,11 @@ host, whose name is the host's. Without FILE, or with -, standard input is read.
 
 
 def told(text: str) -> None:
-    """Says something to the person, on standard error, below what is printed. Control characters are shown as codes."""
+    """Says something to the person, on standard error, below what is printed. Control characters are shown as codes.
+    Where standard error is closed or full, it is lost."""
     sys.stdout.flush()
-    print("\n".join(UNSHOWN.sub(code, line) for line in text.split("\n")), file=sys.stderr, flush=True)
+    with contextlib.suppress(OSError):
+        print("\n".join(UNSHOWN.sub(code, line) for line in text.split("\n")), file=sys.stderr, flush=True)
 
 
 def some(names: Sequence[object]) -> str:
@@ -278,6 +281,10 @@ def parser() -> argparse.ArgumentParser:
 def main(given: Optional[Sequence[str]] = None) -> int:
     """Runs the command with these words: its status, as those of the two programs. 0 if it reached its end, 1 if
     something could not be done, and 2 if the words are wrong."""
+    # Python has no stream in the place of one that is closed
+    sys.stderr = sys.stderr or io.StringIO()
+    closed = None if sys.stdout else io.StringIO()
+    sys.stdout = closed or sys.stdout
     for stream in (sys.stdout, sys.stderr):
         if isinstance(stream, io.TextIOWrapper):
             # as the programs print, whatever the system prefers
@@ -286,6 +293,8 @@ def main(given: Optional[Sequence[str]] = None) -> int:
     try:
         status: int = words.run(words)
         sys.stdout.flush()
+        if closed and closed.getvalue():
+            raise OSError("standard output is closed")
         return status
     except BrokenPipeError:
         # nobody reads standard output any more, and Python is not to try again

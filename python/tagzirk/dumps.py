@@ -16,7 +16,7 @@ from .values import Views
 from .graphs import NamedGraph
 from .programs import Program, call, find, refuse
 
-GRAPH_FILE = re.compile(r"(?:\s*#[^\n]*\n|\s*\n)*\s*(?:node|link) +\d")
+GRAPH_FILE = re.compile(r"(?:[ \t\r]*(?:#[^\n]*)?\n)*[ \t\r]*(?:node|link) +\d")
 NAME = re.compile(r"# (\d+) (.*)")
 ONE_SIDED = re.compile(r"^listed by one end only: (\d+)$", re.MULTILINE)
 WITHOUT_ENTRY = re.compile(r"^listed without an entry: (\d+)$", re.MULTILINE)
@@ -87,6 +87,8 @@ def contents_of(places: Sequence[str]) -> Dict[pathlib.Path, bytes]:
     found: Dict[pathlib.Path, bytes] = {}
     for place in places:
         if place == "-":
+            if not sys.stdin:
+                raise BadDump("standard input is closed; name a file")
             if sys.stdin.isatty():
                 print("reading standard input, to its end (Ctrl-D)", file=sys.stderr)
             found[pathlib.Path("standard input")] = sys.stdin.buffer.read()

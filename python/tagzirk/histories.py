@@ -158,7 +158,9 @@ def draw(moments: Sequence[Moment], file: str) -> None:
         (("nodes", [it.nodes for it in moments], "#0072b2"), ("links", [it.links for it in moments], "#00845f")),
         (("listed by one end only", [it.one_sided for it in moments], "#b8408a"),),
     )
-    figure, axes = pyplot.subplots(len(rows), 1, sharex=True, figsize=(10, 6.5), height_ratios=(3, 2, 1.4))
+    figure, axes = pyplot.subplots(
+        len(rows), 1, sharex=True, figsize=(10, 6.5), gridspec_kw={"height_ratios": (3, 2, 1.4)}
+    )
     for axis, lines in zip(axes, rows):
         for label, values, colour in lines:
             known = [float("nan") if it is None else it for it in values]

@@ -35,8 +35,8 @@ LISTING_COLUMNS = (
 ARROW = re.compile(r"(\S+?)\s*(<->|->)\s*(\S+)|(\S+)\s+(--)\s+(\S+)")
 LIST = re.compile(r"(\S+):(?:\s+(.*))?")
 NUMBER = re.compile(r"[-+]?(\d+\.?\d*|\.\d+)([eE][-+]?\d+)?")
-# What networkx writes behind an edge.
-ATTRIBUTES = re.compile(r"\s*\{.*\}\s*$")
+# A comment, and how what networkx writes behind an edge begins.
+COMMENT, ATTRIBUTES = re.compile(r"(^|\s)#.*"), re.compile(r"\s\{")
 
 
 class Row(NamedTuple):
@@ -52,9 +52,14 @@ class Row(NamedTuple):
 
 
 def rows_of(text: str) -> List[Row]:
-    """The lines of a text but those that are blank or comments."""
-    bare = (ATTRIBUTES.sub("", re.sub(r"(^|\s)#.*", "", line)).strip() for line in text.split("\n"))
-    return [Row(number, line) for number, line in enumerate(bare, 1) if line]
+    """The lines of a text but those that are blank or comments, without the attributes that networkx writes."""
+    rows = []
+    for number, line in enumerate(text.split("\n"), 1):
+        bare = COMMENT.sub("", line).strip()
+        attributes = ATTRIBUTES.search(bare) if bare.endswith("}") else None
+        if bare:
+            rows.append(Row(number, bare[: attributes.start()].rstrip() if attributes else bare))
+    return rows
 
 
 def of_lines(text: str, form: Optional[str] = None, columns: Optional[str] = None) -> Optional[Views]:

@@ -6,8 +6,9 @@ import base64
 import datetime
 import html
 import os
+import re
 from string import Template
-from typing import Any, Iterable, List, Optional, Tuple
+from typing import Any, Dict, Iterable, List, Optional, Tuple
 
 from .checks import check
 from .dumps import Dump
@@ -24,6 +25,18 @@ MOST_BYTES = 16_000_000
 # So many names stand in a line; the rest opens below.
 MOST_NAMES, MOST_CUT_OFF = 24, 8
 MOST_WEAK = 10
+# The colours of pieces, on light and on dark ground: of that of near, as `overlay picture` has it; of the largest other
+# one; of further ones; and grey for all that are left.
+COLOURS = (
+    ("#2b8fcb", "#56b4e9"),
+    ("#17a67c", "#3ddbb0"),
+    ("#b8408a", "#f29acb"),
+    ("#c98a00", "#ffc84a"),
+    ("#332288", "#a99bff"),
+    ("#8a8a1a", "#dede6a"),
+    ("#5b6770", "#98a4ae"),
+)
+FAR_NODE = re.compile(r'<circle class="(far|far-side)"([^>]*><title>node (\d+) )')
 
 PAGE = Template(
     """<!DOCTYPE html>
@@ -57,7 +70,8 @@ th:first-child{min-width:7rem}
 .t-number{text-align:right;white-space:nowrap}
 pre{background:var(--box);border-radius:.5rem;padding:.7rem .9rem;overflow-x:auto;font-size:.88rem}
 strong.t-warm{color:var(--warm)}
-</style>
+.t-swatch{display:inline-block;width:.8em;height:.8em;border-radius:50%;background:var(--piece);margin-right:.5em}
+$colours</style>
 </head>
 <body>
 <p class="t-soft">$about</p>
@@ -188,12 +202,38 @@ def wider_of(wide: Optional[Wide[str]], report: Report[str]) -> str:
     )
 
 
+def colours_of(report: Report[str], pieces: List[List[int]]) -> Dict[int, int]:
+    """Which colour each host has that survives: by the piece that it is in."""
+    near = {report.ids[it] for it in report.side}
+    others = sorted((piece for piece in pieces if near.isdisjoint(piece)), key=len, reverse=True)
+    return {host: min(at, len(COLOURS) - 1) for at, piece in enumerate([near, *others]) for host in piece}
+
+
+def colour_rules() -> str:
+    """What CSS has of the colours of pieces, in the table and in the picture."""
+    light, dark = (
+        "".join(f".t-piece-{at}{{--piece:{it[which]}}}" for at, it in enumerate(COLOURS)) for which in (0, 1)
+    )
+    drawn = "".join(f"svg .nodes .t-piece-{at}{{fill:var(--piece)}}" for at in range(2, len(COLOURS)))
+    return f"{light}\n@media (prefers-color-scheme:dark){{{dark}}}\n{drawn}\n"
+
+
+def coloured(picture: str, colours: Dict[int, int]) -> str:
+    """The picture, in which each piece on the far side has a colour of its own."""
+
+    def circle(found: "re.Match[str]") -> str:
+        return f'<circle class="{found[1]} t-piece-{colours[int(found[3])]}"{found[2]}'
+
+    return FAR_NODE.sub(circle, picture)
+
+
 def pieces_of(report: Report[str], graph: NamedGraph[str], pieces: List[List[int]]) -> str:
     """Who is in which connected component after the crash, the largest first."""
-    names = graph.names
+    names, colours = graph.names, colours_of(report, pieces)
     rows = []
     for piece in sorted(pieces, key=len, reverse=True)[:50]:
-        rows.append((counted(len(piece), "host"), names_html(names[it] for it in piece)))
+        kind = f'<span class="t-swatch t-piece-{colours.get(piece[0], 0)}"></span>'
+        rows.append((kind + counted(len(piece), "host"), names_html(names[it] for it in piece)))
     more = f"<p>{len(pieces) - 50} further pieces are not shown.</p>" if len(pieces) > 50 else ""
     told = "" if not report.cut else f"<p>Crashed: {names_html(report.cut)}</p>"
     return told + table(("piece", "its hosts"), rows) + more
@@ -251,11 +291,11 @@ def checking_of(report: Report[str], graph_file: str, line: str) -> str:
         "$ grep -v '^#' overlay.graph | cmp - theirs.graph"
     )
     return (
-        f"<p>{certificate} and {file_link('overlay.graph', 'text/plain', graph_file)}, the graph with its names."
-        "</p>"
-        f"<pre>{commands}</pre><p>With overlay-check of your own you need not trust who made this page. <code>cmp</code>"
-        " prints nothing if the certificate is of this graph; whether this graph is your overlay, only its hosts can "
-        "say. Who is in which piece, and the weakest hosts, plain Python has counted.</p>"
+        f"<p>{certificate} and {file_link('overlay.graph', 'text/plain', graph_file)}, the graph with its names.</p>"
+        f"<pre>{commands}</pre>"
+        "<p>With overlay-check of your own you need not trust who made this page. <code>cmp</code> prints nothing if"
+        " the certificate is of this graph; whether this graph is your overlay, only its hosts can say. Who is in "
+        "which piece, and the weakest hosts, plain Python has counted.</p>"
     )
 
 
@@ -308,7 +348,8 @@ def page(
         answer=f"<p>{answer_of(report, graph, pieces)}</p>{wider_of(wide, report)}"
         + (f'<p class="t-soft">All names end in {shown_html(ending)}, which is left out here.</p>' if ending else ""),
         facts=facts_of(report, graph, dump),
-        picture=report.picture(overlay=overlay),
+        colours=colour_rules(),
+        picture=coloured(report.picture(overlay=overlay), colours_of(report, pieces)),
         pieces_title="All survivors are joined"
         if len(pieces) < 2
         else f"{len(pieces)} pieces after the crash"

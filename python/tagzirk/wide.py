@@ -29,8 +29,11 @@ from .progress import Progress, each_at_once, processors
 from .reports import Report, analysed
 
 Link = Tuple[int, int]
-# More pairs of links than so many are not asked about one by one.
-MOST_PAIRS = 4000
+# What links are asked about, and the anchors.
+Question = Tuple[List[Link], List[Link]]
+# So many links at most are asked about two by two, and so many pairs. Of many links at once no more is asked than takes
+# some ten seconds where there are 300 hosts: this is the most questions, times the crashes in question.
+MOST_LINKS, MOST_PAIRS, MOST_WORK = 400, 2000, 3000
 
 
 @dataclass(frozen=True)
@@ -91,6 +94,8 @@ class Search:
     def anchors(self, number: int) -> List[List[Link]]:
         """Three sets of so many links, no two of which share a host, or fewer if there are not as many: those whose
         ends are linked to most, and that are not linked to each other if that can be."""
+        if 6 * number > len(self.graph.ids):
+            return [[], [], []]
         order = sorted(self.graph.pairs, key=lambda it: -len(self.around(*it)))
         chosen: List[Link] = []
         for is_apart in True, False:
@@ -101,7 +106,7 @@ class Search:
                     taken |= {a, b, *(self.around(a, b) if is_apart else ())}
         return [chosen[at::3] for at in range(3)]
 
-    def batches(self, anchors: List[List[Link]]) -> List[Tuple[List[Link], List[Link]]]:
+    def batches(self, anchors: List[List[Link]]) -> List[Question]:
         """All links, in lists of such as are not linked to each other, each with anchors that they have no host of."""
         batches: List[Tuple[List[Link], List[Link], Set[int]]] = []
         hosts = [{host for link in them for host in link} for them in anchors]
@@ -193,14 +198,21 @@ def settle(search: Search, least: int, workers: int, progress: Optional[Progress
     return True
 
 
-def questions_of(search: Search) -> Optional[List[Tuple[List[Link], List[Link]]]]:
+def questions_of(search: Search) -> Optional[List[Question]]:
     """What is to be asked, so that no crash with fewer than the best is left, or None if that is too much."""
     assert search.best is not None
-    anchors = search.anchors(len(search.best))
-    if all(len(it) == len(search.best) for it in anchors):
-        first = [link for them in anchors for link in them]
-        return [([], first), *search.batches(anchors)]
-    pairs = [
-        ([one], [other]) for one, other in itertools.combinations(search.graph.pairs, 2) if not set(one) & set(other)
-    ]
-    return pairs if len(pairs) <= MOST_PAIRS else None
+    number = len(search.best)
+    anchors = search.anchors(number)
+    if all(len(it) == number for it in anchors):
+        questions: List[Question] = [([], [link for them in anchors for link in them]), *search.batches(anchors)]
+        return questions if len(questions) * number <= MOST_WORK else None
+    if len(search.graph.links) > MOST_LINKS:
+        return None
+    around = {link: search.around(*link) for link in search.graph.pairs}
+    questions = []
+    for one, other in itertools.combinations(around, 2):
+        # links that share a host, or are linked, stay together; a host that is linked to both must crash
+        is_apart = not set(one) & set(other) and around[one].isdisjoint(other)
+        if is_apart and len(around[one] & around[other]) < number:
+            questions.append(([one], [other]))
+    return questions if len(questions) <= MOST_PAIRS else None

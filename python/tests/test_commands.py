@@ -154,6 +154,22 @@ class Import(Commands):
         self.assertEqual((out, status), ("", 1))
         self.assertIn("none could not be started", err)
 
+    def test_closed_streams(self):
+        for words, status, told in ("import - >&-", 1, b"standard output is closed"), (
+            "each <&-",
+            1,
+            b"input is closed",
+        ):
+            line = f'"{sys.executable}" -B -m tagzirk {words}'
+            run = subprocess.run(
+                ["sh", "-c", line], input=b"a b\n", stderr=subprocess.PIPE, cwd=CHECKOUT / "python", timeout=60
+            )
+            self.assertEqual((run.returncode, told in run.stderr), (status, True), run.stderr)
+
+    def test_many_blank_lines(self):
+        self.assertEqual(self.tagzirk("import", given="\n" * 5000 + "a b\n")[2], 0)
+        self.assertIn("k is 1 now", self.tagzirk("each", given="\n" * 5000 + "# two\r\nnode 1\nnode 2\nlink 1 2\n")[0])
+
     def test_the_module(self):
         run = subprocess.run(
             [sys.executable, "-B", "-m", "tagzirk", "each"],
@@ -302,6 +318,19 @@ class Pages(Commands):
             out, _, status = self.tagzirk("report", given=text)
             self.assertEqual((status, told in out), (0, True), text)
 
+    def test_each_piece_has_a_colour(self):
+        out, _, _ = self.tagzirk("report", given="a b\nc d\nd e\nf g\ng h\nh i\n")
+        circles = re.findall(r'<circle class="(\S+)(?: t-piece-(\d))?"[^>]*><title>node \d \(\S+\): (\w)<', out)
+        colours = {}
+        for _, colour, name in circles:
+            colours.setdefault(colour, set()).add(name)
+        # near is on the side without a class, and the largest other piece comes first
+        sizes = sorted((colour, len(names)) for colour, names in colours.items())
+        self.assertEqual([colour for colour, _ in sizes], ["", "1", "2"])
+        self.assertEqual({frozenset(it) for it in colours.values()}, {frozenset(it) for it in ("ab", "cde", "fghi")})
+        self.assertGreater(len(colours["1"]), len(colours["2"]))
+        self.assertIn("3 pieces", out)
+
     def test_names_are_text(self):
         out, _, _ = self.tagzirk(
             "report", given=json.dumps(views_of(["<b>", "&amp;", "\x1b"], [("<b>", "&amp;"), ("&amp;", "\x1b")]))
@@ -316,7 +345,7 @@ class Liars(Commands):
 
     def test_a_checker_that_says_no(self):
         checker = self.room / "no"
-        checker.write_text(f"#!{sys.executable}\nimport sys\nsys.stdin.read()\nprint('fails 44 3')\nsys.exit(1)\n")
+        checker.write_text("#!/bin/sh\ncat > /dev/null\necho fails 44 3\nexit 1\n")
         checker.chmod(0o755)
         path = self.file("net", edges_of(CLIQUES))
         with mock.patch.dict(os.environ, {"TAGZIRK_OVERLAY_CHECK": str(checker)}):

@@ -1,4 +1,5 @@
-"""The examples of README.md are run: each line `$ ..` of a block `console`, with what it prints."""
+"""The examples of README.md are run: each line `$ ..` of a block `console`, with what it prints. And the types of the
+package are checked, if mypy is there."""
 
 import os
 import pathlib
@@ -52,6 +53,14 @@ class Page(unittest.TestCase):
                 timeout=60,
             )
             self.assertEqual(ended.stdout.decode(), printed, command)
+
+
+class Types(unittest.TestCase):
+    @unittest.skipUnless(shutil.which("mypy"), "mypy is not there")
+    def test_the_package(self):
+        words = ["mypy", "--config-file=pyproject.toml", f"--cache-dir={CHECKOUT}/out/mypy", "tagzirk"]
+        ended = subprocess.run(words, cwd=CHECKOUT / "python", stdout=subprocess.PIPE, stderr=subprocess.STDOUT)
+        self.assertEqual(ended.returncode, 0, ended.stdout.decode())
 
 
 if __name__ == "__main__":

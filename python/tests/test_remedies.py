@@ -165,8 +165,8 @@ class Wide(Commands):
                 self.assertGreaterEqual(len(found.cut_off), 2)
 
     def test_with_anchors(self):
-        # 60 hosts in a ring, each linked to the two next ones: 4 crashes, of which no three cut off two
-        ring = [(at, (at + step) % 60) for at in range(60) for step in (1, 2)]
+        # 30 hosts in a ring, each linked to the two next ones: 4 crashes, of which no three cut off two
+        ring = [(at, (at + step) % 30) for at in range(30) for step in (1, 2)]
         found = tagzirk.widest([*ring, (0, 100), (100, 1)])
         self.assertEqual((found.is_fewest, len(found.crashed)), (True, 4))
 
