@@ -30,8 +30,8 @@ TOP = pathlib.Path(__file__).resolve().parents[2]
 SIZES = {2: 5, 3: 6, 4: 7}
 # So many fresh overlays of each size lose one host fewer than the cut has.
 FEWER_ROUNDS = 3
-# A script ends after so many seconds, whatever happens.
-LIMIT = 400
+# Whatever happens, a kind of overlay is given up after so many seconds.
+LIMIT = 500
 
 Hosts = FrozenSet[str]
 # Each host with the hosts that it is linked to.
@@ -167,8 +167,9 @@ class Programs:
 
     def make(self) -> None:
         """Has both programs be built, if they are those of this repository and are not there yet."""
-        for it in self.overlay, self.overlay_check:
-            subprocess.run([it], stdin=subprocess.DEVNULL, stdout=subprocess.DEVNULL, stderr=subprocess.DEVNULL)
+        for words in [self.overlay], [self.overlay_check, str(TOP / "examples/square.json")]:
+            if subprocess.run(words, stdin=subprocess.DEVNULL, stdout=subprocess.DEVNULL).returncode != 0:
+                raise Trouble(f"{words[0]} does not run")
 
     @staticmethod
     def printed(words: Sequence[str], given: str) -> str:
@@ -242,8 +243,9 @@ class Overlay(ABC):
         """A dump of what the live hosts say, if there is one that was made since this time."""
 
     @abstractmethod
-    def reached(self) -> dict[str, Hosts]:
-        """Whom each live host reaches by its own words, and itself."""
+    def reached(self, told: Mapping[str, Hosts]) -> dict[str, Hosts]:
+        """Whom each live host reaches by its own words, and itself. What was told since the crash need not be asked
+        again."""
 
     def forget_the_dead(self) -> None:
         """Has all daemons forget whom they don't reach, if they keep such hosts at all."""
@@ -272,7 +274,7 @@ class Trial:
         said: dict[str, Hosts] = {}
 
         def agree() -> Optional[bool]:
-            said.update(self.overlay.reached())
+            said.update(self.overlay.reached(said))
             return True if said == expected else None
 
         what = f"{self.overlay.name}, {', '.join(self.killed)} crashed: survivors reach just their group"

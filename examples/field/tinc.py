@@ -13,7 +13,7 @@ import shlex
 import signal
 import subprocess
 import sys
-from typing import Optional
+from typing import Mapping, Optional
 
 import field
 
@@ -70,7 +70,7 @@ class Tinc(field.Overlay):
         file = self.folder / self.alive()[0] / "graph.dot"
         return file.read_text() if file.exists() and file.stat().st_mtime > since else None
 
-    def reached(self) -> dict[str, field.Hosts]:
+    def reached(self, told: Mapping[str, field.Hosts]) -> dict[str, field.Hosts]:
         """The nodes that each live daemon writes into its log as reached."""
         logs = {host: self.folder / host / "log" for host in self.alive()}
         read = {host: log.stat().st_size for host, log in logs.items()}
@@ -78,10 +78,10 @@ class Tinc(field.Overlay):
             self.daemons[host].send_signal(signal.SIGUSR2)
 
         def nodes(host: str) -> Optional[field.Hosts]:
-            told = logs[host].read_bytes()[read[host] :].decode()
-            if "End of nodes." not in told:
+            new = logs[host].read_bytes()[read[host] :].decode()
+            if "End of nodes." not in new:
                 return None
-            return frozenset(name for name, status in NODE.findall(told) if int(status, 16) & REACHED)
+            return frozenset(name for name, status in NODE.findall(new) if int(status, 16) & REACHED)
 
         return {host: field.wait_for(f"{host} tells its nodes", 10, lambda: nodes(host), 0.05) for host in logs}
 

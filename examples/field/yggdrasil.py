@@ -13,7 +13,7 @@ import json
 import subprocess
 import sys
 from concurrent.futures import ThreadPoolExecutor
-from typing import Any, Optional
+from typing import Any, Mapping, Optional
 
 import field
 
@@ -26,7 +26,8 @@ class Yggdrasil(field.Overlay):
     """An overlay of Yggdrasil."""
 
     package, program, form = "yggdrasil", "yggdrasil", "--views"
-    dump_seconds, reach_seconds, is_light = 100.0, 90.0, False
+    # After a crash some ways are found again only after half a minute.
+    dump_seconds, reach_seconds, is_light = 100.0, 150.0, False
 
     def start(self) -> None:
         """Starts all daemons."""
@@ -77,27 +78,24 @@ class Yggdrasil(field.Overlay):
             views[host] = [names.get(peer["key"], peer["key"]) for peer in said["peers"]]
         return json.dumps(views)
 
-    def reached(self) -> dict[str, field.Hosts]:
-        """The live hosts that answer each live host."""
+    def reached(self, told: Mapping[str, field.Hosts]) -> dict[str, field.Hosts]:
+        """The live hosts that answer each live host, or have answered it before."""
         hosts = self.alive()
+        asked = [(one, other) for one in hosts for other in hosts if other not in told.get(one, (one,))]
         pool = ThreadPoolExecutor(AT_ONCE)
         try:
-            answers = {
-                (one, other): pool.submit(self.ask, one, "getNodeInfo", f"key={self.keys[other]}")
-                for one in hosts
-                for other in hosts
-                if one != other
-            }
+            answers = {pair: pool.submit(self.is_answered, *pair) for pair in asked}
             return {
-                one: frozenset(it for it in hosts if it == one or self.is_from(it, answers[one, it].result()))
+                one: frozenset(it for it in hosts if (one, it) not in answers or answers[one, it].result())
                 for one in hosts
             }
         finally:
             pool.shutdown(wait=False, cancel_futures=True)
 
-    def is_from(self, host: str, answer: Optional[Any]) -> bool:
-        """Whether this is the answer of a host."""
-        return answer is not None and answer[self.keys[host]]["name"] == host
+    def is_answered(self, one: str, other: str) -> bool:
+        """Whether a host gets an answer of another, with its name."""
+        answer = self.ask(one, "getNodeInfo", f"key={self.keys[other]}")
+        return answer is not None and answer[self.keys[other]]["name"] == other
 
 
 if __name__ == "__main__":
