@@ -192,7 +192,7 @@ def told_of_writes(writes):
     return "in blocks" if all(60_000 < it <= 65_536 for it in most[:-1]) and most[-1] <= 65_536 else f"writes of {most}"
 
 
-@case("devices", "output in blocks", "large output into a socket that keeps writes apart",
+@case("blocks", "output in blocks", "large output into a socket that keeps writes apart",
       "blocks of 64 KB, and at the end the rest; with `--explain` line by line (FORMATS.md)")
 def blocks(lab):
     file = lab.large("scenario")
