@@ -35,7 +35,7 @@ fan_depth p = let a = paths_depth p.paths in omega (arith, a)
 links_depth : (ls : List (ℕ × ℕ)) → depth (list_data link_data ls) ≤ 2
 links_depth = list_depth link_data 1 (λ l. omega arith)
 
-version_depth : (version : Version) (c : Cert) (g : LinkGraph) (q : List ℕ) (m : ℕ)
+pub version_depth : (version : Version) (c : Cert) (g : LinkGraph) (q : List ℕ) (m : ℕ)
     → depth (data_in version c g q m) ≤ max_depth
 unfolding data_in
 version_depth One (cert.Linked k) g q m =

@@ -33,7 +33,7 @@ use Rattle.ov_certfile.specs.ReadsBack.{ReadsBack, TextReadsBack}
 use Rattle.ov_certfile.specs.Code.Writing.{FileReadsBack}
 use Rattle.ov_certfile.specs.declared.version.Version.{Version}
 use Rattle.ov_certfile.specs.declared.version.Version.TheVariants.{One, Two}
-use Rattle.ov_certfile.proofs.Depth.{depth_within}
+use Rattle.ov_certfile.proofs.Depth.{depth_within, version_depth}
 
 -- ---- a value that its text says
 
@@ -59,15 +59,21 @@ mutual
   members_outline_depth no_members = refl
   members_outline_depth (member k d ms) = ap₂ max (outline_depth d) (members_outline_depth ms)
 
+-- a text with the tokens of such a value reads as the value
+lexed_reads : (text : List ℕ) (d : Data) → IsReadable d → depth d ≤ max_depth → tokens text ≡ json_tokens (outline d)
+    → read text ≡ Some d
+lexed_reads text d h shallow lexed =
+    let j = outline d in
+    let within : tree.depth j ≤ max_depth = subst (λ n. n ≤ max_depth) (sym (outline_depth d)) shallow in
+    ap (λ o. option_and_then of_json (option_and_then (λ p. json.if_last p.0 p.1) o))
+    (ap (json.value max_depth) (lexed ∙ sym (append-nil _)) ∙ value-json_tokens j max_depth [] within) ∙ h.reads
+
 -- the compact text of such a value reads as the value
 text_reads : (d : Data) → IsReadable d → depth d ≤ max_depth → read (compact_text d) ≡ Some d
 text_reads d h shallow =
     let j = outline d in
-    let lexed : tokens (compact_text d) ≡ json_tokens j =
-    ap tokens (sym (print-outline d)) ∙ tokens-print (json_tokens j) (ArePrintable-json_tokens j h.numbers) in
-    let within : tree.depth j ≤ max_depth = subst (λ n. n ≤ max_depth) (sym (outline_depth d)) shallow in
-    ap (λ o. option_and_then of_json (option_and_then (λ p. json.if_last p.0 p.1) o))
-    (ap (json.value max_depth) (lexed ∙ sym (append-nil _)) ∙ value-json_tokens j max_depth [] within) ∙ h.reads
+    lexed_reads (compact_text d) d h shallow
+    (ap tokens (sym (print-outline d)) ∙ tokens-print (json_tokens j) (ArePrintable-json_tokens j h.numbers))
 
 -- ---- what reads back can be read
 
@@ -248,6 +254,13 @@ file_readable Two (cert.Split c) g q m h t =
     (one_more _ _ _ _ _ (ids_readable c.side cut.side)
     (one_more _ _ _ _ _ (text_readable _)
     (one_more _ _ _ _ _ (whole_readable 2 (omega arith)) (no_more _))))))))))))))
+
+-- a text with the tokens of the object reads as the object
+pub tokens_read : (text : List ℕ) (version : Version) (c : Cert) (g : LinkGraph) (q : List ℕ) (m : ℕ)
+    → FileReadsBack version c g q → m ≤ last_moment → tokens text ≡ json_tokens (outline (data_in version c g q m))
+    → read text ≡ Some (data_in version c g q m)
+tokens_read text version c g q m h t lexed =
+    lexed_reads text (data_in version c g q m) (file_readable version c g q m h t) (version_depth version c g q m) lexed
 
 -- the object of the version that is written is the object that is written
 pub in_version_for : (version : Version) (c : Cert) (g : LinkGraph) (q : List ℕ) (m : ℕ) → version ≡ version_for g q

@@ -23,7 +23,7 @@ use Rattle.ov_certfile.specs.declared.version.Version.{Version}
 use Rattle.ov_certfile.specs.declared.version.Version.TheVariants.{One, Two}
 
 -- there are no more nodes than the version allows
-abbrev IsFew : Version → LinkGraph → Type 0
+abbrev pub IsFew : Version → LinkGraph → Type 0
 IsFew version g = length g.nodes ≤ most_nodes_of version
 
 -- a graph within the limit of all graphs and of the version has no fault
@@ -56,11 +56,12 @@ two_split_met c m g q h b p t =
     rw (b.0, b.1.cut, b.1.near, b.1.far, b.1.side, b.2.pairs, b.2.fans, p, t, h.nodes, h.links) refl
 
 -- in version 1 the group is all nodes
-abbrev IsGroupOf : Version → LinkGraph → List ℕ → Type 0
+abbrev pub IsGroupOf : Version → LinkGraph → List ℕ → Type 0
 IsGroupOf One g q = q ≡ g.nodes
 IsGroupOf Two g q = Unit {0}
 
-in_version : (version : Version) (c : Cert) (g : LinkGraph) (q : List ℕ) (m : ℕ) → GraphReadsBack g → CertReadsBack c
+-- the value of this version says the file
+pub in_version : (version : Version) (c : Cert) (g : LinkGraph) (q : List ℕ) (m : ℕ) → GraphReadsBack g → CertReadsBack c
     → GroupReadsBack version q → IsGroupOf version g q → IsFew version g → moment_in (whole_data m) ≡ Some m
     → Says (data_in version c g q m) (record { moment = m; graph = g; group = q; cert = c })
 unfolding data_in serde_json_on_literals
@@ -138,7 +139,7 @@ ruled g q n =
     few_and_all (are_same q g.nodes) (nat_le (length g.nodes) (most_nodes_of One)) g q
     (λ e. same_text q g.nodes (sym e)) (leb-true (length g.nodes) (most_nodes_of One)) n
 
-moment_back : (m : ℕ) → m ≤ last_moment → moment_in (whole_data m) ≡ Some m
+pub moment_back : (m : ℕ) → m ≤ last_moment → moment_in (whole_data m) ≡ Some m
 moment_back m h = let e : nat_lt m (last_moment + 1) ≡ true = grind (arith, common_steps) in rw e refl
 
 pub reads_back : (version : Version) (c : Cert) (g : LinkGraph) (q : List ℕ) (m : ℕ) → version ≡ version_for g q

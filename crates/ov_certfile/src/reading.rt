@@ -16,6 +16,7 @@ use crate::fault::FileFault;
 use crate::fields::{read_at, whole_at};
 use crate::file_keys::Key;
 use crate::no_json::NoJson;
+use crate::token_reading::in_form;
 use crate::verdict::Verdict;
 use crate::version::Version;
 use crate::version_and_verdict_reading::heading_of;
@@ -57,6 +58,19 @@ pub struct Filed {
 ///
 /// `OutOfMemory` (99) is returned as soon as an allocation fails.
 pub fn from_text(alloc: Global, text: &str) -> Result<Filed, FileFault>
+    ensures says { result ≢ Err FileFault.OutOfMemory → SaysText text.now result }
+    ensures only { (answer : Result Filed FileFault) → result ≢ Err FileFault.OutOfMemory
+        → SaysText text.now answer → kind_in answer ≡ kind_in result }
+{
+    match in_form(alloc, text) {
+        Ok(Some(filed)) => Ok(filed),
+        Ok(None) => from_json(alloc, text),
+        Err(_) => Err(FileFault::OutOfMemory),
+    }
+}
+
+/// Does what `from_text` does, by the JSON value of the text.
+fn from_json(alloc: Global, text: &str) -> Result<Filed, FileFault>
     ensures says { result ≢ Err FileFault.OutOfMemory → SaysText text.now result }
     ensures only { (answer : Result Filed FileFault) → result ≢ Err FileFault.OutOfMemory
         → SaysText text.now answer → kind_in answer ≡ kind_in result }

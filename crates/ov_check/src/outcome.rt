@@ -8,7 +8,7 @@ ghost use Rattle.ov_check.specs.Outcome.{BytesSay, IsRefused, IsOutcome, AreAlik
 use crate::check_or_memory_fault::ParallelFault;
 use crate::parallel::check_group_parallel;
 use ov_cert::{CheckFault, check_group};
-use ov_certfile::{FileFault, Filed, NoJson, from_value, json_in};
+use ov_certfile::{FileFault, Filed, NoJson, from_value, in_form, json_in};
 use ov_ids::OutOfMemory;
 use serde_json::Value;
 use std::alloc::Global;
@@ -94,6 +94,22 @@ pub fn filed_in(alloc: Global, bytes: &[u8]) -> Result<Filed, Refusal>
 
 /// The certificate file in this text.
 fn filed_in_text(alloc: Global, text: &str) -> Result<Filed, Refusal>
+    ensures { MatchResult result (λ filed. SaysText text.now (Ok filed))
+        (λ refusal. refusal.fault ≢ FileFault.OutOfMemory → SaysText text.now (Err refusal.fault)
+        × MatchOption refusal.value (read text.now ≡ None) (λ value. read text.now ≡ Some (view value))) }
+{
+    match in_form(alloc, text) {
+        Ok(Some(filed)) => Ok(filed),
+        Ok(None) => filed_by_json(alloc, text),
+        Err(_) => Err(Refusal {
+            fault: FileFault::OutOfMemory,
+            value: None,
+        }),
+    }
+}
+
+/// The certificate file in this text, by the JSON value in it, which is kept if the file is refused.
+fn filed_by_json(alloc: Global, text: &str) -> Result<Filed, Refusal>
     ensures { MatchResult result (λ filed. SaysText text.now (Ok filed))
         (λ refusal. refusal.fault ≢ FileFault.OutOfMemory → SaysText text.now (Err refusal.fault)
         × MatchOption refusal.value (read text.now ≡ None) (λ value. read text.now ≡ Some (view value))) }

@@ -1,9 +1,10 @@
 -- A text has one meaning only.
-use Rattle.serde_json.specs.View.{view}
-use Rattle.ov_certfile.proofs.OneAnswer.{read_text_one}
+use Rattle.std.proofs.Common.{Ok, rules}
+use Rattle.ov_certfile.specs.Says.{SaysText}
+use Rattle.ov_certfile.proofs.OneAnswer.{text_one}
 use Rattle.ov_certfile.proofs.reading.from_text.Goals as goal
 
-pub returns-in-Ok-clause-only : goal.returns-in-Ok-clause-only
-returns-in-Ok-clause-only c = λ answer told h.
-    read_text_one c.args.text.now (view c.in-Ok.value) answer c.from_value.result c.in-Ok.ensures
-    (c.from_value.ensures told) h
+pub returns-in-Ok-Some-clause-only : goal.returns-in-Ok-Some-clause-only
+returns-in-Ok-Some-clause-only c = λ answer told h.
+    let says : SaysText c.args.text.now (Ok c.in-Ok-Some.filed) = search rules in
+    text_one c.args.text.now answer (Ok c.in-Ok-Some.filed) h says

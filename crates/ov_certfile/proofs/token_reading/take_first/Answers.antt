@@ -1,0 +1,8 @@
+-- One member after another.
+use Rattle.ov_certfile.proofs.Taking.{then_taken}
+use Rattle.ov_certfile.proofs.token_reading.take_first.Goals as goal
+
+pub returns-clause-members : goal.returns-clause-members
+returns-clause-members c =
+    then_taken _ _ _ _ _ c.in_ok-cut.ensures.taken
+    (then_taken _ _ _ _ _ c.in_ok-fans.ensures.taken c.in_ok-far.ensures.taken)

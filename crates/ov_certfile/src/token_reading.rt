@@ -1,0 +1,260 @@
+//! Certificate files that are read token by token, without the JSON value of the whole text. This takes less time and
+//! memory than `from_value`, and makes nothing of a file with any fault.
+ghost use Rattle.std.specs.Prelude.{◌≡◌, ◌≤◌, ◌++◌, Some, Ok, IfOk, IfSome, OnOk};
+ghost use Rattle.json.specs.Tree.{members_tokens};
+ghost use Rattle.serde_json.specs.Data.{Members, string, no_members, member};
+ghost use Rattle.serde_json.specs.Written.{members_outline};
+ghost use Rattle.ov_certfile.specs.Forms.{count_in, id_in, ids_in, links_in, pairs_in, fans_in, last_moment};
+ghost use Rattle.ov_certfile.specs.Kinds.{name_of, verdict_text, version_number};
+ghost use Rattle.ov_certfile.specs.DataOf.{whole_data, ids_data, list_data, link_data, pair_data, fan_data};
+ghost use Rattle.ov_certfile.specs.Says.{SaysText};
+ghost use Rattle.ov_certfile.specs.Code.Tokens.{TakesMembers};
+ghost use Rattle.ov_certfile.specs.Code.Content.{TakesContent, NamedReadsBack, IsGraphWithin};
+ghost use Rattle.ov_certfile.specs.Code.Content.{version_with, named_then, graph_in, filed_in};
+ghost use Rattle.ov_certfile.specs.declared.file_keys.Key.TheVariants as key;
+
+use crate::file_keys::Key;
+use crate::reading::Filed;
+use crate::token_cursor::{Stop, TokenCursor};
+use crate::token_fields::{take_count, take_member, take_moment};
+use crate::verdict::Verdict;
+use crate::version::Version;
+use ov_cert::{Cert, FanPaths, PairPaths, Split};
+use ov_graph::{Graph, GraphFault};
+use ov_ids::{NodeId, OutOfMemory, Seq};
+use std::alloc::Global;
+
+/// Reads a certificate file that is written as `to_text` writes it, with its keys in the order of their bytes, but for
+/// white space. None: the text is not such a file, or has a fault; `from_text` tells which. It is much faster than
+/// `from_value`, and takes a fraction of the memory.
+///
+/// `OutOfMemory` (99): an allocation was refused.
+pub fn in_form(alloc: Global, text: &str) -> Result<Option<Filed>, OutOfMemory>
+    ensures says { IfOk result (λ found. IfSome found (λ filed. SaysText text.now (Ok filed))) }
+{
+    match take_file(alloc, text) {
+        Ok(filed) => Ok(Some(filed)),
+        Err(Stop::OtherForm) => Ok(None),
+        Err(Stop::OutOfMemory) => Err(OutOfMemory),
+    }
+}
+
+/// Reads a file that takes up the whole text.
+fn take_file(alloc: Global, text: &str) -> Result<Filed, Stop>
+    ensures { IfOk result (λ filed. SaysText text.now (Ok filed)) }
+{
+    let mut cursor = TokenCursor::new(text);
+    cursor.begin_object()?;
+    let content = take_content(alloc, &mut cursor)?;
+    if !cursor.is_at_end() {
+        return Err(Stop::OtherForm);
+    }
+    let filed = filed_of(alloc, content)?;
+    Ok(filed)
+}
+
+/// What a file has, before it is known whether its nodes and links are a graph.
+#[derive(Drop)]
+struct Content {
+    moment: u32,
+    nodes: Seq<NodeId>,
+    links: Seq<(NodeId, NodeId)>,
+    /// The group, if it is named.
+    group: Option<Seq<NodeId>>,
+    cert: Cert,
+}
+
+/// The file with this content, if its nodes and links are a graph.
+fn filed_of(alloc: Global, content: Content) -> Result<Filed, Stop>
+    ensures filed { IfOk result (λ f. f ≡ filed_in content) }
+    ensures graph { OnOk result (IsGraphWithin (version_with content.group) (graph_in content)) }
+{
+    let version = version_with(&content.group);
+    let Content {
+        moment,
+        nodes,
+        links,
+        group,
+        cert,
+    } = content;
+    let graph = graph_of(alloc, version, nodes.as_slice(), links.as_slice())?;
+    Ok(Filed {
+        moment,
+        graph,
+        group: group.unwrap_or(nodes),
+        cert,
+    })
+}
+
+/// The version of a file that names this group, or none.
+fn version_with(group: &Option<Seq<NodeId>>) -> Version
+    ensures { result ≡ version_with group.now }
+{
+    match group {
+        None => Version::One,
+        Some(_) => Version::Two,
+    }
+}
+
+/// The graph of these nodes and links, if there is one and the version allows this many nodes.
+fn graph_of(
+    alloc: Global,
+    version: Version,
+    nodes: &[NodeId],
+    links: &[(NodeId, NodeId)],
+) -> Result<Graph, Stop>
+    ensures graph { IfOk result (λ g. g ≡ record { nodes = nodes.now; links = links.now }) }
+    ensures within { IfOk result (IsGraphWithin version) }
+{
+    if nodes.len() > version.most_nodes() {
+        return Err(Stop::OtherForm);
+    }
+    match Graph::new(alloc, nodes, links) {
+        Ok(graph) => Ok(graph),
+        Err(GraphFault::OutOfMemory) => Err(Stop::OutOfMemory),
+        Err(_) => Err(Stop::OtherForm),
+    }
+}
+
+/// Takes the members of a file, and the brace that closes it.
+fn take_content(alloc: Global, cursor: &mut TokenCursor<'_>) -> Result<Content, Stop>
+    ensures { IfOk result (λ c. TakesContent c cursor.old cursor.new) }
+{
+    if cursor.is_at_key(Key::Cut) {
+        take_split(alloc, cursor)
+    } else {
+        take_linked(alloc, cursor)
+    }
+}
+
+/// Takes the members of a file with verdict linked.
+fn take_linked(alloc: Global, cursor: &mut TokenCursor<'_>) -> Result<Content, Stop>
+    ensures { IfOk result (λ c. TakesContent c cursor.old cursor.new) }
+{
+    let middle = take_middle(alloc, cursor)?;
+    let nodes = take_member(alloc, cursor, Key::Nodes)?;
+    take_end(cursor, Verdict::Linked, version_with(&middle.group))?;
+    Ok(Content {
+        moment: middle.moment,
+        nodes,
+        links: middle.links,
+        group: middle.group,
+        cert: Cert::Linked { k: middle.k },
+    })
+}
+
+/// Takes the members of a file with verdict split.
+fn take_split(alloc: Global, cursor: &mut TokenCursor<'_>) -> Result<Content, Stop>
+    ensures { IfOk result (λ c. TakesContent c cursor.old cursor.new) }
+{
+    let first = take_first(alloc, cursor)?;
+    let middle = take_middle(alloc, cursor)?;
+    let near = take_member(alloc, cursor, Key::Near)?;
+    let nodes = take_member(alloc, cursor, Key::Nodes)?;
+    let pairs = take_member(alloc, cursor, Key::Pairs)?;
+    let side = take_member(alloc, cursor, Key::Side)?;
+    take_end(cursor, Verdict::Split, version_with(&middle.group))?;
+    let split = Split {
+        k: middle.k,
+        cut: first.cut,
+        near,
+        far: first.far,
+        side,
+        pairs,
+        fans: first.fans,
+    };
+    Ok(Content {
+        moment: middle.moment,
+        nodes,
+        links: middle.links,
+        group: middle.group,
+        cert: Cert::Split(split),
+    })
+}
+
+/// The first members of a file with verdict split: those before the group.
+#[derive(Drop)]
+struct First {
+    cut: Seq<NodeId>,
+    fans: Seq<FanPaths>,
+    far: NodeId,
+}
+
+fn take_first(alloc: Global, cursor: &mut TokenCursor<'_>) -> Result<First, Stop>
+    ensures members { IfOk result (λ f. TakesMembers
+        (λ ms. member (name_of key.Cut) (ids_data f.cut)
+        (member (name_of key.Fans) (list_data fan_data f.fans)
+        (member (name_of key.Far) (whole_data f.far) ms)))
+        cursor.old cursor.new) }
+    ensures cut { IfOk result (λ f. ids_in (ids_data f.cut) ≡ Some f.cut) }
+    ensures fans { IfOk result (λ f. fans_in (list_data fan_data f.fans) ≡ Some f.fans) }
+    ensures far { IfOk result (λ f. id_in (whole_data f.far) ≡ Some f.far) }
+{
+    let cut = take_member(alloc, cursor, Key::Cut)?;
+    let fans = take_member(alloc, cursor, Key::Fans)?;
+    let far = take_member(alloc, cursor, Key::Far)?;
+    Ok(First { cut, fans, far })
+}
+
+/// The members from the group to the moment.
+#[derive(Drop)]
+struct Middle {
+    group: Option<Seq<NodeId>>,
+    k: u32,
+    links: Seq<(NodeId, NodeId)>,
+    moment: u32,
+}
+
+fn take_middle(alloc: Global, cursor: &mut TokenCursor<'_>) -> Result<Middle, Stop>
+    ensures members { IfOk result (λ m. TakesMembers
+        (λ ms. named_then m.group
+        (member (name_of key.K) (whole_data m.k)
+        (member (name_of key.Links) (list_data link_data m.links)
+        (member (name_of key.Moment) (whole_data m.moment) ms))))
+        cursor.old cursor.new) }
+    ensures group { IfOk result (λ m. NamedReadsBack m.group) }
+    ensures k { IfOk result (λ m. count_in (whole_data m.k) ≡ Some m.k) }
+    ensures links { IfOk result (λ m. links_in (list_data link_data m.links) ≡ Some m.links) }
+    ensures moment { IfOk result (λ m. m.moment ≤ last_moment) }
+{
+    let group = take_group(alloc, cursor)?;
+    let k = take_count(cursor, Key::K)?;
+    let links = take_member(alloc, cursor, Key::Links)?;
+    let moment = take_moment(cursor)?;
+    Ok(Middle {
+        group,
+        k,
+        links,
+        moment,
+    })
+}
+
+/// Takes the member of the group, if it is next.
+#[tactic(auto, using(crate::proofs::Taking::none_taken))]
+fn take_group(alloc: Global, cursor: &mut TokenCursor<'_>) -> Result<Option<Seq<NodeId>>, Stop>
+    ensures members { IfOk result (λ group. TakesMembers (named_then group) cursor.old cursor.new) }
+    ensures reads_back { IfOk result NamedReadsBack }
+{
+    if !cursor.is_at_key(Key::Group) {
+        return Ok(None);
+    }
+    let group = take_member(alloc, cursor, Key::Group)?;
+    Ok(Some(group))
+}
+
+/// Takes the last members of a file, and the brace that closes it.
+#[tactic(auto, using(crate::proofs::Taking::end_taken))]
+fn take_end(cursor: &mut TokenCursor<'_>, verdict: Verdict, version: Version) -> Result<(), Stop>
+    ensures { OnOk result (cursor.old ≡ members_tokens (members_outline
+        (member (name_of key.Verdict) (string (verdict_text verdict))
+        (member (name_of key.Version) (whole_data (version_number version)) no_members))) ++ cursor.new) }
+{
+    cursor.key(Key::Verdict)?;
+    cursor.verdict(verdict)?;
+    let number = take_count(cursor, Key::Version)?;
+    if number != version.number() {
+        return Err(Stop::OtherForm);
+    }
+    cursor.end_object()?;
+    Ok(())
+}
