@@ -9,7 +9,7 @@ use crate::token_cursor::{Stop, TokenCursor};
 use crate::token_fields::{TokenField, take_member};
 use ov_cert::{FanPaths, PairPaths, Paths};
 use ov_ids::NodeId;
-use ov_paths::PathsBuilder;
+use ov_lists::PathsBuilder;
 use std::alloc::Global;
 
 impl TokenField for PairPaths {
