@@ -3,8 +3,8 @@
 
 usage: large.py OVERLAY BEFORE NOW [GRAPH ..]
 
-OVERLAY makes the certificates that are missing in out/; BEFORE and NOW are executables of overlay-check. They take
-turns, so that a busy moment strikes both. A time is the wall clock of a whole process, the least of ROUNDS; memory is
+OVERLAY makes the certificates that are missing in out/; BEFORE and NOW are executables of overlay-check, and - in place
+of BEFORE is none. They take turns, so that a busy moment strikes both. A time is the wall clock of a whole process, the least of ROUNDS; memory is
 the peak that the system tells, in bytes a byte of the file. Ends with an error if the two print different lines.
 
 The graphs: half-256 and half-1024 have half of all links, at random; three-parts has 1,024 nodes in three parts, each
@@ -70,23 +70,27 @@ def row(name, file, before, now):
     least = {}
     for _ in range(ROUNDS):
         answers = set()
-        for program in before, now:
+        for program in filter(None, [before, now]):
             line, *figures = run(program, file)
             answers.add(line)
             least[program] = [min(pair) for pair in zip(least.get(program, figures), figures)]
         if len(answers) != 1:
             sys.exit(f"{name}: the programs differ: {answers}")
     size = file.stat().st_size
-    (old, old_peak), (new, new_peak) = least[before], least[now]
-    return [name, f"{size:,}", f"{old:.2f}", f"{new:.2f}", f"{new / old:.2f}" if old else "-",
-            f"{old_peak / size:.2f}", f"{new_peak / size:.2f}", f"{new_peak / 1e6:,.0f}"]
+    seconds, peak = least[now]
+    cells = [f"{seconds:.2f}", f"{peak / size:.2f}", f"{peak / 1e6:,.0f}"]
+    if before is None:
+        return [name, f"{size:,}", "-", "-", *cells, "-"]
+    old_seconds, old_peak = least[before]
+    ratio = f"{seconds / old_seconds:.2f}" if old_seconds else "-"
+    return [name, f"{size:,}", f"{old_seconds:.2f}", f"{old_peak / size:.2f}", *cells, ratio]
 
 
 def main():
     if len(sys.argv) < 4 or any(name not in GRAPHS for name in sys.argv[4:]):
         sys.exit(__doc__)
-    overlay, before, now = (Path(word).resolve() for word in sys.argv[1:4])
-    titles = ["graph", "bytes", "before, s", "now, s", "ratio", "before, bytes a byte", "now, bytes a byte", "now, MB"]
+    overlay, before, now = (None if word == "-" else Path(word).resolve() for word in sys.argv[1:4])
+    titles = ["graph", "bytes", "before, s", "bytes a byte", "now, s", "bytes a byte", "MB", "ratio of time"]
     for cells in titles, ["---"] * len(titles):
         print("|", " | ".join(cells), "|")
     for name in sys.argv[4:] or GRAPHS:

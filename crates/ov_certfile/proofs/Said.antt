@@ -1,12 +1,11 @@
 -- A file whose members were taken off the tokens of a text is what the text says.
-use Rattle.std.proofs.Common.{◌≡◌, ◌∙◌, ℕ, ◌≤◌, List, [], ◌∷◌, ◌++◌, Option, Some, None, Ok, refl, sym, ap, subst}
+use Rattle.std.proofs.Common.{◌≡◌, ◌∙◌, ℕ, List, [], ◌∷◌, ◌++◌, Option, Some, None, Ok, refl, sym, ap, subst}
 use Rattle.std.proofs.Common.{append-nil, unwrap_or}
 use Rattle.json.specs.Token.{Token}
 use Rattle.json.specs.Lex.{tokens}
-use Rattle.json.specs.Tree.{json_tokens, members_tokens}
+use Rattle.json.specs.Tree.{members_tokens}
 use Rattle.serde_json.specs.Data.{Members, member}
-use Rattle.serde_json.specs.Read.{read}
-use Rattle.serde_json.specs.Written.{outline, members_outline}
+use Rattle.serde_json.specs.Written.{members_outline}
 use Rattle.ov_graph.specs.Links.{LinkGraph}
 use Rattle.ov_cert.specs.declared.cert.Cert.TheVariants as cert
 use Rattle.ov_cert.specs.declared.cert.PairPaths.{PairPaths}
@@ -14,15 +13,13 @@ use Rattle.ov_cert.specs.declared.cert.FanPaths.{FanPaths}
 use Rattle.ov_certfile.specs.DataOf.{whole_data, ids_data, list_data, link_data, pair_data, fan_data}
 use Rattle.ov_certfile.specs.DataOf.{data_in, cert_members, group_then}
 use Rattle.ov_certfile.specs.Kinds.{name_of}
-use Rattle.ov_certfile.specs.Says.{Says, SaysText}
+use Rattle.ov_certfile.specs.Says.{SaysText}
 use Rattle.ov_certfile.specs.Code.Writing.{GraphReadsBack, GroupReadsBack, FileReadsBack}
 use Rattle.ov_certfile.specs.Code.Tokens.{TakesMembers}
 use Rattle.ov_certfile.specs.Code.Content.{TakesContent, IsGraphWithin, NamedReadsBack, version_with, named_then}
 use Rattle.ov_certfile.specs.Code.Content.{graph_in, group_in, filed_in}
 use Rattle.ov_certfile.specs.declared.file_keys.Key.TheVariants as key
 use Rattle.ov_certfile.specs.declared.verdict.Verdict.TheVariants.{Linked, Split as VerdictSplit}
-use Rattle.ov_certfile.specs.declared.version.Version.{Version}
-use Rattle.ov_certfile.specs.declared.version.Version.TheVariants.{One, Two}
 use Rattle.ov_certfile.specs.declared.reading.Filed.{Filed}
 use Rattle.ov_certfile.specs.declared.token_reading.Content.{Content}
 use Rattle.ov_certfile.proofs.Taking.{then_taken, end_members}

@@ -53,6 +53,7 @@ pub(crate) enum Place {
 
 impl Place {
     /// Whether a value or a key may begin here.
+    #[inline(always)]
     fn may_begin(self) -> bool
         ensures { result ≡ may_begin (place_in self) }
     {
@@ -60,6 +61,7 @@ impl Place {
     }
 
     /// Whether a closing bracket may stand here.
+    #[inline(always)]
     fn may_close(self) -> bool
         ensures { result ≡ may_close (place_in self) }
     {
@@ -148,6 +150,7 @@ impl<'a> TokenCursor<'a> {
     }
 
     /// Takes the bracket that closes an array, if it is next.
+    #[inline(always)]
     #[tactic(auto, using(crate::proofs::Lexed::array_ended))]
     pub(crate) fn end_array(&mut self) -> bool
         ensures { MatchBool result (self.old ≡ json_token.end_array ∷ self.new) (self.new ≡ self.old) }
@@ -216,6 +219,7 @@ impl<'a> TokenCursor<'a> {
     }
 
     /// Takes a whole number.
+    #[inline(always)]
     #[tactic(auto, using(crate::proofs::Lexed::number_taken, crate::proofs::Lexed::number_lexed))]
     pub(crate) fn number(&mut self) -> Result<u32, Stop>
         ensures { IfOk result (λ n. self.old ≡ json_token.number (decimal n) ∷ self.new) }
@@ -234,6 +238,7 @@ impl<'a> TokenCursor<'a> {
     }
 
     /// Goes to what follows a value, behind the comma if there is one.
+    #[inline(always)]
     #[tactic(auto, using(crate::proofs::Lexed::comma_passed))]
     fn pass_value(&mut self, rest: &'a [u8])
         ensures { self.new ≡ punctuate after_value (lex between rest.now) }

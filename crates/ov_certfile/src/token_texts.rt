@@ -6,6 +6,7 @@ ghost use Rattle.json.specs.Lex.{between, lex, token, class, operator, operator_
 ghost use Rattle.json.specs.Print.{escape};
 
 /// A text without the white space at its front.
+#[inline(always)]
 #[tactic(auto, using(crate::proofs::Lexed::space_passed))]
 pub(crate) fn after_space(text: &[u8]) -> &[u8]
     ensures { lex between result.now ≡ lex between text.now }
@@ -21,6 +22,7 @@ pub(crate) fn after_space(text: &[u8]) -> &[u8]
 }
 
 /// Whether a byte is white space of JSON.
+#[inline(always)]
 fn is_space(byte: u8) -> bool
     ensures { result ≡ is_space byte }
 {
@@ -28,6 +30,7 @@ fn is_space(byte: u8) -> bool
 }
 
 /// What follows a bracket, a comma or a colon and white space, if the text begins with this mark.
+#[inline(always)]
 #[tactic(auto, using(crate::proofs::Lexed::mark_lexed))]
 pub(crate) fn after_mark(text: &[u8], mark: u8) -> Option<&[u8]>
     requires { class mark ≡ operator }
@@ -62,6 +65,7 @@ fn after_prefix<'a>(text: &'a [u8], prefix: &[u8]) -> Option<&'a [u8]>
 }
 
 /// Whether a word has ended where this text begins.
+#[inline(always)]
 pub(crate) fn ends_word(text: &[u8]) -> bool
     ensures { IsTrue result → ends_word text.now ≡ true }
 {
@@ -72,6 +76,7 @@ pub(crate) fn ends_word(text: &[u8]) -> bool
 }
 
 /// The whole number at the front of a text if it fits 32 bits, and what follows it. Zeros may not lead.
+#[inline(always)]
 #[tactic(auto, using(crate::proofs::Lexed::digit_first))]
 pub(crate) fn number_in(text: &[u8]) -> Option<(u32, &[u8])>
     ensures { IfSome result (λ p. text.now ≡ decimal p.0 ++ p.1.now) }
@@ -86,6 +91,7 @@ pub(crate) fn number_in(text: &[u8]) -> Option<(u32, &[u8])>
 }
 
 /// The number whose first digit is this one, and whose others are at the front of a text.
+#[inline(always)]
 #[tactic(auto, using(crate::proofs::Lexed::digit_more))]
 fn with_digits(first: u32, text: &[u8]) -> Option<(u32, &[u8])>
     requires some { 0 < first }
@@ -105,6 +111,7 @@ fn with_digits(first: u32, text: &[u8]) -> Option<(u32, &[u8])>
 }
 
 /// The value of a decimal digit.
+#[inline(always)]
 fn digit_of(byte: u8) -> Option<u32>
     ensures { IfSome result (λ digit. (byte ≡ 48 + digit) × (digit < 10)) }
 {
