@@ -8,7 +8,7 @@ or keeps much. The same name gives the same bytes.
 import itertools
 import sys
 
-# The most entries that a journal may have, and the most nodes that a graph may have.
+# The most entries that a journal may have, and the most nodes that a world may bear.
 MOST_ENTRIES = 65536
 MOST_NODES = 256
 # The most sections that a block may have.
@@ -26,7 +26,7 @@ def missed_moments(size=999_000):
 
 
 def many_groups(size=823_000):
-    """A snapshot of as many nodes as a graph has, and an analysis of each pair of them, as far as the size goes."""
+    """A snapshot of as many nodes as a world may bear, and an analysis of each pair of them, as far as the size goes."""
     written = 0
 
     def lines():

@@ -1,7 +1,7 @@
 #!/usr/bin/env python3
-"""measure.py PROGRAM [PROGRAM ..]: what each build of `overlay` takes for each input of inputs.py, in one sitting.
+"""measure.py [--runs N] PROGRAM [PROGRAM ..]: what each build of `overlay` takes for each input of inputs.py, in one sitting.
 
-Each input is given to each program in turn, RUNS times, as a whole process that writes into files. Of each the lowest
+Each input is given to each program in turn, N times, or three, as a whole process that writes into files. Of each the lowest
 processor time and the highest peak of memory are printed: other work on the machine makes a run last longer, but hardly
 costs it processor time. A run that lasts longer than LONGEST seconds is ended, and told so.
 """
@@ -51,4 +51,6 @@ def main(programs, runs):
 
 
 if __name__ == "__main__":
-    main(sys.argv[1:], RUNS)
+    words = sys.argv[1:]
+    asked = words[:1] == ["--runs"]
+    main(words[2:] if asked else words, int(words[1]) if asked else RUNS)
