@@ -4,8 +4,9 @@
 usage: large.py OVERLAY BEFORE NOW [GRAPH ..]
 
 OVERLAY makes the certificates that are missing in out/; BEFORE and NOW are executables of overlay-check, and - in place
-of BEFORE is none. They take turns, so that a busy moment strikes both. A time is the wall clock of a whole process, the least of ROUNDS; memory is
-the peak that the system tells, in bytes a byte of the file. Ends with an error if the two print different lines.
+of BEFORE is none. They take turns, so that a busy moment strikes both. A time is the wall clock of a whole process, the
+least of ROUNDS; memory is the peak that the system tells, in bytes a byte of the file. Ends with an error if the two
+print different lines.
 
 The graphs: half-256 and half-1024 have half of all links, at random; three-parts has 1,024 nodes in three parts, each
 node linked to all of the other parts. Without words all of them are taken. The certificate of three-parts has a
