@@ -2,15 +2,15 @@
 //! board, two words at which workers in threads claim, look, and fail, without waiting.
 #![tactic(auto)]
 
+mod atomic_exchange_rules;
 mod claim_board;
 mod claim_desk;
-mod exchange_rule;
 mod ghost_views;
+mod legal_claims_theorems;
 mod seat;
-mod theorems;
 mod worker_claims;
 
 pub use claim_board::Board;
 pub use claim_desk::Desk;
+pub use legal_claims_theorems::{ends_done, stays_legal};
 pub use seat::Seat;
-pub use theorems::{ends_done, stays_legal};

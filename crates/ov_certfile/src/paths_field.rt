@@ -6,7 +6,7 @@ ghost use Rattle.ov_certfile.specs.DataOf.{paths_data};
 ghost use Rattle.ov_certfile.specs.Code.Reading.{Reads};
 ghost use Rattle.ov_certfile.specs.Code.Writing.{WritesValue};
 
-use crate::fields::Field;
+use crate::field_reading_and_writing::Field;
 use crate::value_fault::{Misfit, Step, ValueFault, Wanted};
 use crate::value_writing::{write_comma, write_list, write_mark};
 use ov_cert::Paths;

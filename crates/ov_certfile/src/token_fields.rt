@@ -7,7 +7,7 @@ ghost use Rattle.ov_certfile.specs.DataOf.{whole_data, list_data};
 ghost use Rattle.ov_certfile.specs.Code.Tokens.{TakesValue, TakesMembers};
 ghost use Rattle.ov_certfile.specs.declared.file_keys.Key.TheVariants as key_name;
 
-use crate::fields::Field;
+use crate::field_reading_and_writing::Field;
 use crate::file_keys::Key;
 use crate::reading::LAST_MOMENT;
 use crate::token_cursor::{Stop, TokenCursor};

@@ -5,8 +5,8 @@ use Rattle.ov_io.specs.Device.{SourceState, SinkState, read_faults, write_faults
 use Rattle.ov_io.specs.Device.{AppendsPrefixOf}
 use Rattle.ov_check.specs.declared.engine.Judged.{Judged}
 use Rattle.ov_check.specs.declared.outcome.Outcome.{Outcome}
-use Rattle.ov_check.specs.declared.judge_fault.JudgeFault.{JudgeFault}
-use Rattle.ov_check.specs.declared.judge_fault.JudgeFault.TheVariants.{Read, Write, OutOfMemory}
+use Rattle.ov_check.specs.declared.read_or_write_fault.JudgeFault.{JudgeFault}
+use Rattle.ov_check.specs.declared.read_or_write_fault.JudgeFault.TheVariants.{Read, Write, OutOfMemory}
 use Rattle.ov_check.specs.Faults.{number_of}
 use Rattle.ov_check.specs.Line.{printed_of}
 use Rattle.ov_check.specs.Outcome.{IsOutcome, SaysExactNumber, status_of}

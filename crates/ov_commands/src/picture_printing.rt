@@ -6,12 +6,12 @@ ghost use Rattle.ov_io.specs.Device.{most_faults};
 ghost use Rattle.ov_commands.specs.Pictures.{WasPicturePrinted, EndsAsAsked, NamesGraph, chosen_entry};
 ghost use Rattle.ov_commands.specs.Pictures.{outcome_number};
 ghost use Rattle.ov_commands.specs.Code.Endings.{IsNotHeld, IsNotNamed};
-ghost use Rattle.ov_commands.specs.declared.file_command_fault.FileCommandFault.TheVariants as ended;
+ghost use Rattle.ov_commands.specs.declared.conversion_fault.FileCommandFault.TheVariants as ended;
 
-use crate::entry_listing::entries_of;
-use crate::file_command_fault::FileCommandFault;
-use crate::graph_printing::{told, written};
-use crate::tips::print_file_tip;
+use crate::certificate_entry_listing::entries_of;
+use crate::certificate_graph_printing::{told, written};
+use crate::conversion_fault::FileCommandFault;
+use crate::which_command_tips::print_file_tip;
 use ov_arguments::{AskedEntry, PictureRequest};
 use ov_cert::Cert;
 use ov_certfile::Filed;

@@ -12,7 +12,7 @@ use Rattle.ov_fans.specs.Pieces.{IsPiece}
 use Rattle.ov_fans.specs.Cuts.{IsRight}
 use Rattle.ov_fans.specs.Theorems.{IsNoCut}
 use Rattle.ov_fans.specs.declared.piece.Piece.{Piece}
-use Rattle.ov_fans.specs.declared.settled.Settled.{Settled}
+use Rattle.ov_fans.specs.declared.piece_result.Settled.{Settled}
 use Rattle.ov_board.specs.Claims.{WorkerState, fresh}
 use Rattle.ov_board.specs.Steps.{failing}
 use Rattle.ov_board.proofs.Staying.{gaining, ascends_push}

@@ -8,7 +8,7 @@ ghost use Rattle.ov_board.specs.Claims.{fresh};
 ghost use Rattle.ov_even.specs.Order.{AreMoreThan};
 ghost use Rattle.ov_crew.specs.Code.Examined.{HasExamined, HasExaminedPiece, lower_of};
 
-use crate::ascending_pieces::AscendingPieces;
+use crate::ascending_piece_lookup::AscendingPieces;
 use crate::hook_after_claim::Gate;
 use crate::worker::take_number;
 use ov_board::{Board, Seat};

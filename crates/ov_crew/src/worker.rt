@@ -11,7 +11,7 @@ ghost use Rattle.ov_even.specs.Order.{AreMoreThan, AreSoMany};
 ghost use Rattle.ov_crew.specs.Hauls.{IsHaulOf};
 ghost use Rattle.ov_crew.specs.Code.Turns.{HasTaken, HasStopped, HasSettled};
 
-use crate::ascending_pieces::AscendingPieces;
+use crate::ascending_piece_lookup::AscendingPieces;
 use crate::hook_after_claim::Gate;
 use ov_board::{Board, Seat};
 use ov_even::Haul;

@@ -13,7 +13,7 @@ use Rattle.ov_fans.specs.Pieces.{IsPiece, IsGood}
 use Rattle.ov_fans.specs.Cuts.{IsRight}
 use Rattle.ov_fans.specs.Theorems.{IsNoCut}
 use Rattle.ov_fans.specs.declared.piece.Piece.{Piece}
-use Rattle.ov_fans.specs.declared.settled.Settled.{Settled}
+use Rattle.ov_fans.specs.declared.piece_result.Settled.{Settled}
 use Rattle.ov_fans.proofs.PieceCuts.Decided.{decides}
 use Rattle.ov_board.specs.Claims.{WorkerState, HasWorker, HasFailed}
 use Rattle.ov_board.specs.Theorems.{AllEnded, IsDone}

@@ -8,8 +8,8 @@ use Rattle.ov_ids.specs.Members.{Has}
 use Rattle.ov_ids.specs.Sets.{adding}
 use Rattle.ov_graph.specs.Links.{LinkGraph, IsGroup}
 use Rattle.ov_fans.specs.Theorems.{IsNoCut}
-use Rattle.ov_fans.specs.declared.settled.Found.{Found}
-use Rattle.ov_fans.specs.declared.settled.Settled.{Settled}
+use Rattle.ov_fans.specs.declared.piece_result.Found.{Found}
+use Rattle.ov_fans.specs.declared.piece_result.Settled.{Settled}
 use Rattle.ov_board.specs.Claims.{WorkerState, DeskState, HasWorker, IsLegal, fresh}
 use Rattle.ov_ids.specs.Workers.{MayWork}
 use Rattle.ov_board.specs.Steps.{claiming, looking, failing}

@@ -4,7 +4,7 @@ use Rattle.std.specs.Prelude.{if◌then◌else◌}
 use Rattle.ov_graph.specs.Links.{LinkGraph}
 use Rattle.ov_fans.specs.Cuts.{IsRight}
 use Rattle.ov_fans.specs.Theorems.{IsNoCut}
-use Rattle.ov_fans.specs.declared.settled.Settled.{Settled}
+use Rattle.ov_fans.specs.declared.piece_result.Settled.{Settled}
 use Rattle.ov_board.specs.Claims.{WorkerState, HasWorker}
 use Rattle.ov_board.specs.Steps.{Claims, Looks, Fails}
 use Rattle.ov_even.specs.Order.{IsNumbered}

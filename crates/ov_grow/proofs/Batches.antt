@@ -14,7 +14,7 @@ use Rattle.ov_sweep_rows.specs.declared.row.Row.{Row}
 use Rattle.ov_grow.specs.Sweeps.{AreFirstRowsOf, AreRowsOf, EndsAt, IsOutcomeAt, IsSweepOf, AreSwept, WereGiven}
 use Rattle.ov_grow.specs.Sweeps.{WereTaken}
 use Rattle.ov_grow.specs.declared.fault.GrowFault.{GrowFault}
-use Rattle.ov_grow.specs.declared.batch.RefusedRun.{RefusedRun}
+use Rattle.ov_grow.specs.declared.overlay_batch_growing.RefusedRun.{RefusedRun}
 use Rattle.ov_grow.specs.declared.sweep_fault.SweepFault.{SweepFault}
 use Rattle.ov_grow.specs.declared.sweep_fault.SweepFault.TheVariants.{Run, Write, OutOfMemory}
 

@@ -7,7 +7,7 @@ use Rattle.ov_grow.specs.Growing.{IsGrowRefusal}
 use Rattle.ov_grow.specs.declared.fault.GrowFault.{GrowFault}
 use Rattle.ov_sweep_rows.specs.declared.row.Row.{Row}
 use Rattle.ov_grow.specs.Rows.{IsRowOf}
-use Rattle.ov_grow.specs.declared.batch.RefusedRun.{RefusedRun}
+use Rattle.ov_grow.specs.declared.overlay_batch_growing.RefusedRun.{RefusedRun}
 use Rattle.ov_grow.specs.declared.sweep_fault.SweepFault.{SweepFault}
 use Rattle.ov_grow.specs.declared.sweep_fault.SweepFault.TheVariants.{Run}
 

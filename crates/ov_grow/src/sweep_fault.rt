@@ -3,7 +3,7 @@ ghost use Rattle.ov_grow.specs.SweepFaults.{number_of};
 ghost use Rattle.ov_grow.specs.declared.sweep_fault.SweepFault.TheVariants.{OutOfMemory as out_of_memory};
 ghost use Rattle.ov_grow.specs.declared.sweep_fault.SweepFault.TheVariants.{Write as write_failed};
 
-use crate::batch::RefusedRun;
+use crate::overlay_batch_growing::RefusedRun;
 use ov_ids::OutOfMemory;
 use ov_io::WriteFault;
 use std::alloc::{AllocError, AllocFailed};

@@ -2,7 +2,7 @@ ghost use Rattle.std.specs.Prelude.{◌≡◌};
 ghost use Rattle.std.specs.Iterator.{IsFinite};
 ghost use Rattle.ov_grow.specs.Sweeps.{AreSwept, IsSweepOf};
 
-use crate::batch::{GrownBatch, grow_batch};
+use crate::overlay_batch_growing::{GrownBatch, grow_batch};
 use crate::sweep_fault::SweepFault;
 use ov_grow_options::GrowOptions;
 use ov_ids::Workers;

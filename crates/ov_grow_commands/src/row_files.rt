@@ -1,5 +1,5 @@
+use crate::grow_command::told;
 use crate::grow_command_fault::GrowthFault;
-use crate::scenario_growing::told;
 use ov_io::{ReadFault, Source, shown_name, unopened_text, unread_text};
 use ov_sweep_rows::{Row, RowFault, read_rows};
 use std::fs::File;

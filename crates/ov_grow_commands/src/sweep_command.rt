@@ -1,10 +1,10 @@
 ghost use Rattle.std.specs.Prelude.{IsTrue};
 ghost use Rattle.ov_grow_commands.specs.KeptRows.{AreGrown, needs_rows};
 
+use crate::grow_command::{print_refusal, told};
 use crate::grow_command_fault::GrowthFault;
 use crate::row_files::rows_of_files;
 use crate::row_printing::{RowPrinter, write_rows};
-use crate::scenario_growing::{print_refusal, told};
 use ov_arguments::{Printed, SweepRequest};
 use ov_grow::{RefusedRun, SweepFault, sweep};
 use ov_ids::OutOfMemory;

@@ -5,27 +5,27 @@
 #![tactic(auto)]
 
 mod comma_hints;
+mod file_kind_lookup;
 mod file_kinds;
-mod file_lookup;
 mod file_tips;
 mod id_list_reading;
 mod line_and_word_splitting;
 mod numeral;
 mod text_start;
-mod unread;
+mod unexpected_word;
 mod unskipped_lines;
 mod word_cursor;
 mod workers_reading;
 
 pub use comma_hints::comma_hint;
+pub use file_kind_lookup::{is_folder, kind_of_file};
 pub use file_kinds::{FileKind, looks_like};
-pub use file_lookup::{is_folder, kind_of_file};
 pub use file_tips::{command_tip, file_tip, folder_tip};
 pub use id_list_reading::read_ids;
 pub use line_and_word_splitting::split_line;
 pub use numeral::read_number;
 pub use text_start::behind_mark;
-pub use unread::{END, ID, Kind, Unread};
+pub use unexpected_word::{END, ID, Kind, Unread};
 pub use unskipped_lines::{KeptLine, KeptLines};
 pub use word_cursor::{LineCursor, is_word};
 pub use workers_reading::read_workers;

@@ -4,7 +4,7 @@ ghost use Rattle.std.specs.List.{remove};
 ghost use Rattle.ov_lists.specs.Listed.{Listed};
 
 use crate::block::{BLOCK, Block};
-use crate::blocks::{add_spare, begin, countable, find, take_out, tidy};
+use crate::block_sequence::{add_spare, begin, countable, find, take_out, tidy};
 use crate::item_iter::Items;
 use ov_ids::OutOfMemory;
 use std::alloc::Global;

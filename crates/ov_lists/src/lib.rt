@@ -5,7 +5,7 @@
 
 mod block;
 mod block_list;
-mod blocks;
+mod block_sequence;
 mod id_range;
 mod item_iter;
 mod path_iter;

@@ -8,8 +8,8 @@ mod line_running;
 mod recent_reports;
 mod report_filing;
 mod run_watcher;
+mod section_jobs_by_thread;
 mod section_running;
-mod section_shifts;
 mod sections_at_once;
 
 pub use engine::{run, run_bytes, run_in_blocks, run_watched};

@@ -4,8 +4,8 @@
 
 mod line_progress;
 mod refusal_watcher;
+mod refusals_and_progress;
 mod run_command;
-mod run_news;
-mod runs_in_blocks;
+mod run_with_buffered_output;
 
 pub use run_command::run_asked;

@@ -3,8 +3,8 @@ ghost use Rattle.ov_io.specs.Device.{most_faults};
 ghost use Rattle.ov_run_meaning.specs.Run.{IsRunOf};
 ghost use Rattle.ov_run_meaning.specs.Strict.{strictness_of};
 
-use crate::run_news::RunNews;
-use crate::runs_in_blocks::run_into_blocks;
+use crate::refusals_and_progress::RunNews;
+use crate::run_with_buffered_output::run_into_blocks;
 use ov_arguments::RunRequest;
 use ov_commands::{
     STANDARD_INPUT, bytes_of, opened, print_fault, print_reason, print_unread_tip, run_reason,

@@ -1,6 +1,6 @@
 -- The invariant of a desk.
 use Rattle.std.specs.Prelude.{◌≡◌, ℕ, false, List, length, map}
-use Rattle.ov_fans.specs.declared.settled.Settled.{Settled}
+use Rattle.ov_fans.specs.declared.piece_result.Settled.{Settled}
 use Rattle.ov_board.specs.Claims.{WorkerState, DeskState, HasWorker}
 use Rattle.ov_ids.specs.Workers.{MayWork}
 use Rattle.ov_board.specs.Steps.{IsLast}

@@ -21,8 +21,8 @@ use Rattle.ov_run.specs.Code.Failing.{IsOfRunning}
 use Rattle.ov_run.specs.declared.line_outcome.BlockTold.{BlockTold}
 use Rattle.ov_run.specs.declared.line_outcome.Came.{Came}
 use Rattle.ov_run.specs.declared.line_outcome.Came.TheVariants.{Alone, Block}
-use Rattle.ov_run_meaning.specs.declared.outcome.Outcome.{Outcome}
-use Rattle.ov_run_meaning.specs.declared.outcome.Outcome.TheVariants.{Accepted, Refused}
+use Rattle.ov_run_meaning.specs.declared.line_run_outcome.Outcome.{Outcome}
+use Rattle.ov_run_meaning.specs.declared.line_run_outcome.Outcome.TheVariants.{Accepted, Refused}
 use Rattle.ov_run_meaning.specs.declared.refusal.Refusal.{Refusal}
 use Rattle.ov_run_meaning.specs.declared.run_fault.RunFault.{RunFault}
 use Rattle.ov_run_meaning.specs.declared.run_fault.RunFault.TheVariants as fault

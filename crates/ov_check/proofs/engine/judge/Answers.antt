@@ -2,8 +2,8 @@
 use Rattle.std.proofs.Common.{◌≡◌, List, ℕ, Result, Ok, Err, IsErrAnd, sym, ap, subst}
 use Rattle.ov_check.specs.Outcome.{IsOutcome, SaysExactNumber}
 use Rattle.ov_check.specs.Run.{IsRun}
-use Rattle.ov_check.specs.declared.judge_fault.JudgeFault.{JudgeFault}
-use Rattle.ov_check.specs.declared.judge_fault.JudgeFault.TheVariants.{Read, Write, OutOfMemory}
+use Rattle.ov_check.specs.declared.read_or_write_fault.JudgeFault.{JudgeFault}
+use Rattle.ov_check.specs.declared.read_or_write_fault.JudgeFault.TheVariants.{Read, Write, OutOfMemory}
 use Rattle.ov_check.proofs.Running.{IsRead, same_fault, written}
 use Rattle.ov_check.proofs.engine.judge.Goals as goal
 
