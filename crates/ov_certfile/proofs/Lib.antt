@@ -8,3 +8,8 @@ pub mod OneAnswer
 pub mod Rewritten
 pub mod Depth
 pub mod ReadAsWritten
+pub mod PutTexts
+pub mod EntryTexts
+pub mod Filled
+pub mod Sending
+pub mod InParts

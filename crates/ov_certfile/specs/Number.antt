@@ -1,9 +1,12 @@
 -- The numbers of the faults of a certificate file.
 use Rattle.std.specs.Prelude.{ℕ}
 use Rattle.ov_graph.specs.Faults as graph
+use Rattle.ov_io.specs.Device.{write_failed}
 use Rattle.ov_certfile.specs.declared.fault.FileFault.{FileFault}
 use Rattle.ov_certfile.specs.declared.fault.FileFault.TheVariants.{NotJson, MissingKey, UnknownKey, BadValue}
 use Rattle.ov_certfile.specs.declared.fault.FileFault.TheVariants.{BadVersion, Graph, OutOfMemory}
+use Rattle.ov_certfile.specs.declared.writing_fault.WritingFault.{WritingFault}
+use Rattle.ov_certfile.specs.declared.writing_fault.WritingFault.TheVariants as writing
 
 -- the number of each fault; a fault of the graph keeps its own number
 abbrev pub number_of : FileFault → ℕ
@@ -14,3 +17,8 @@ number_of (BadValue bad) = 63
 number_of BadVersion = 64
 number_of (Graph f) = graph.number_of f
 number_of OutOfMemory = 99
+
+-- the number of each fault of writing one
+abbrev pub writing_number : WritingFault → ℕ
+writing_number writing.Write = write_failed
+writing_number writing.OutOfMemory = 99

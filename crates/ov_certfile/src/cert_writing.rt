@@ -104,7 +104,7 @@ fn write_cut_and_fans(out: &mut String, split: &Split) -> Result<(), AllocError>
 }
 
 /// Appends the group, if the version names one, and k.
-fn write_group_and_k(
+pub(crate) fn write_group_and_k(
     out: &mut String,
     later: bool,
     version: Version,
@@ -142,7 +142,11 @@ fn write_pairs_and_side(out: &mut String, split: &Split) -> Result<(), AllocErro
 }
 
 /// Appends the verdict and the version, and ends the object.
-fn write_end(out: &mut String, verdict: Verdict, version: Version) -> Result<(), AllocError>
+pub(crate) fn write_end(
+    out: &mut String,
+    verdict: Verdict,
+    version: Version,
+) -> Result<(), AllocError>
     ensures { OnOk result (string_bytes out.new ≡ string_bytes out.old ++ members_text true
         (member (name_of key.Verdict) (string (verdict_text verdict))
         (member (name_of key.Version) (whole_data (version_number version)) no_members))) }

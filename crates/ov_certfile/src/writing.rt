@@ -52,7 +52,7 @@ pub fn to_text_group(
 
 /// The version that is written for a graph and a group.
 #[tactic(auto, unfolding(crate::specs::DataOf::version_for))]
-fn version_for(graph: &Graph, group: &[NodeId]) -> Version
+pub(crate) fn version_for(graph: &Graph, group: &[NodeId]) -> Version
     ensures { result ≡ version_for graph.now group.now }
 {
     let nodes = graph.nodes();
