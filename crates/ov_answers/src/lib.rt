@@ -3,6 +3,7 @@
 #![tactic(auto)]
 
 mod answer_making;
+mod answer_writing;
 mod answered;
 mod component_finding;
 mod component_list;
