@@ -1,10 +1,10 @@
 -- A run of a judge that came to the line of its outcome.
-use Rattle.std.proofs.Common.{◌≡◌, ◌≢◌, ◌+◌, ◌∙◌, ℕ, List, Option, IfSome, IfOk, Result, Ok, Err, refl, sym}
+use Rattle.std.proofs.Common.{◌≡◌, ◌≢◌, ◌+◌, ◌∙◌, ℕ, List, Option, IfSome, IfOk, Result, Ok, Err, refl, sym, ap}
 use Rattle.std.specs.Io.KnownBytes.{Appends, IsAtEnd}
 use Rattle.ov_io.specs.Device.{SourceState, SinkState, write_faults, AppendsPrefixOf}
 use Rattle.ov_check.specs.declared.outcome.Outcome.{Outcome}
-use Rattle.ov_check.specs.declared.judge_fault.JudgeFault.{JudgeFault}
-use Rattle.ov_check.specs.declared.judge_fault.JudgeFault.TheVariants.{Read, Write, OutOfMemory}
+use Rattle.ov_check.specs.declared.read_or_write_fault.JudgeFault.{JudgeFault}
+use Rattle.ov_check.specs.declared.read_or_write_fault.JudgeFault.TheVariants.{Read, Write, OutOfMemory}
 use Rattle.ov_check.specs.Faults.{number_of}
 use Rattle.ov_check.specs.Line.{printed_of}
 use Rattle.ov_check.specs.Outcome.{IsOutcome, SaysExactNumber, status_of}
@@ -25,6 +25,14 @@ pub record IsWritten {W : Type 0} (contents : W → Option (List ℕ)) (o : Outc
   pub faults : sink'.faults ≡ sink.faults + write_faults number_of result
   pub unread : result ≢ Err Read
   pub no_memory : result ≡ Err OutOfMemory → sink' ≡ sink
+
+-- a result of this type that fails
+abbrev pub failing : (A : Type 0) → JudgeFault → Result A JudgeFault
+failing A f = Err f
+
+-- a fault is the same one, whatever would have been returned without it
+pub same_fault : (A B : Type 0) (f g : JudgeFault) → failing A f ≡ failing A g → failing B f ≡ failing B g
+same_fault A B f g e = let same : f ≡ g = cc in ap (failing B) same
 
 module _ {R W : Type 0} (remaining : R → Option (List ℕ)) (contents : W → Option (List ℕ))
     (source source' : SourceState R) (sink sink' : SinkState W) (bytes : List ℕ) (o : Outcome)

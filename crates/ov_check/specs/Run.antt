@@ -3,9 +3,10 @@ use Rattle.std.specs.Prelude.{◌≡◌, ◌≢◌, ◌+◌, ℕ, List, Option, 
 use Rattle.std.specs.Io.KnownBytes.{Appends, IsAtEnd}
 use Rattle.ov_io.specs.Device.{SourceState, SinkState, read_faults, write_faults, ReaderFailed}
 use Rattle.ov_io.specs.Device.{AppendsPrefixOf}
+use Rattle.ov_check.specs.declared.engine.Judged.{Judged}
 use Rattle.ov_check.specs.declared.outcome.Outcome.{Outcome}
-use Rattle.ov_check.specs.declared.judge_fault.JudgeFault.{JudgeFault}
-use Rattle.ov_check.specs.declared.judge_fault.JudgeFault.TheVariants.{Read, Write, OutOfMemory}
+use Rattle.ov_check.specs.declared.read_or_write_fault.JudgeFault.{JudgeFault}
+use Rattle.ov_check.specs.declared.read_or_write_fault.JudgeFault.TheVariants.{Read, Write, OutOfMemory}
 use Rattle.ov_check.specs.Faults.{number_of}
 use Rattle.ov_check.specs.Line.{printed_of}
 use Rattle.ov_check.specs.Outcome.{IsOutcome, SaysExactNumber, status_of}
@@ -50,6 +51,6 @@ pub record IsRun {R W : Type 0} (remaining : R → Option (List ℕ)) (contents 
   pub no_memory : result ≡ Err OutOfMemory → sink_after ≡ sink
 
 -- the status of the outcome that is returned, or why there is none
-abbrev pub status_in : Result Outcome JudgeFault → Result ℕ JudgeFault
-status_in (Ok outcome) = Ok (status_of outcome)
+abbrev pub status_in : Result Judged JudgeFault → Result ℕ JudgeFault
+status_in (Ok judged) = Ok (status_of judged.outcome)
 status_in (Err fault) = Err fault

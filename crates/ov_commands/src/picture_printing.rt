@@ -6,12 +6,12 @@ ghost use Rattle.ov_io.specs.Device.{most_faults};
 ghost use Rattle.ov_commands.specs.Pictures.{WasPicturePrinted, EndsAsAsked, NamesGraph, chosen_entry};
 ghost use Rattle.ov_commands.specs.Pictures.{outcome_number};
 ghost use Rattle.ov_commands.specs.Code.Endings.{IsNotHeld, IsNotNamed};
-ghost use Rattle.ov_commands.specs.declared.file_command_fault.FileCommandFault.TheVariants as ended;
+ghost use Rattle.ov_commands.specs.declared.conversion_fault.FileCommandFault.TheVariants as ended;
 
-use crate::entry_listing::entries_of;
-use crate::file_command_fault::FileCommandFault;
-use crate::graph_printing::{told, written};
-use crate::tips::print_file_tip;
+use crate::certificate_entry_listing::entries_of;
+use crate::certificate_graph_printing::{told, written};
+use crate::conversion_fault::FileCommandFault;
+use crate::which_command_tips::print_file_tip;
 use ov_arguments::{AskedEntry, PictureRequest};
 use ov_cert::Cert;
 use ov_certfile::Filed;
@@ -19,9 +19,9 @@ use ov_check::{Outcome, outcome_of};
 use ov_check_reasons::reasons;
 use ov_graph::Graph;
 use ov_graphfile::{GraphFileFault, read_graph, read_names};
-use ov_hints::FileKind;
 use ov_ids::OutOfMemory;
 use ov_io::Sink;
+use ov_lines::FileKind;
 use ov_picture::{ChosenEntry, Drawing, PictureFault, dot, draw, svg};
 use std::alloc::Global;
 use std::io::Write;
@@ -178,8 +178,8 @@ fn same_graph(
     }
 }
 
-/// Ends since the file with names, of these bytes and this name, is no graph file. Prints which line is at fault; and if
-/// it can't be read, which command reads such a file.
+/// Ends since the file with names, of these bytes and this name, is no graph file. Prints which line is at fault; and
+/// if it can't be read, which command reads such a file.
 fn no_graph_file(
     rt: &HostRuntime,
     bytes: &[u8],

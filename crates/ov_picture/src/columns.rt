@@ -1,4 +1,4 @@
-use crate::geometry::{LEFT, Place, RIGHT, UP, number};
+use crate::node_position::{LEFT, Place, RIGHT, UP, number};
 
 /// How many nodes stand in one column at most, if there is one column only.
 const MOST_IN_ONE: usize = 16;

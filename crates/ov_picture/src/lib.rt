@@ -2,7 +2,6 @@
 //! SVG and as DOT.
 #![tactic(auto)]
 
-mod bands;
 mod chosen_entry;
 mod class_names;
 mod classes;
@@ -11,11 +10,12 @@ mod dot_writing;
 mod drawing;
 mod escaped_texts;
 mod fault;
-mod geometry;
 mod headings;
 mod labels;
 mod layout;
 mod node_classes;
+mod node_position;
+mod nodes_by_part;
 mod path_colours;
 mod path_numbers;
 mod rings;

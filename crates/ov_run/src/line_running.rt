@@ -15,13 +15,13 @@ ghost use Rattle.ov_scenario.specs.declared.scenario.Line.TheVariants as kind;
 
 use crate::hall_of_run::RunHall;
 use crate::line_outcome::{BlockTold, Came, ToldLine};
+use crate::line_output_writing::{
+    write_certificate, write_done, write_entry, write_node, write_packets, write_rest,
+};
 use crate::recent_reports::RecentReports;
 use crate::report_filing::file_analysis;
 use crate::run_watcher::{RanLine, RunWatcher};
 use crate::sections_at_once::{BlockRan, run_together};
-use crate::sink_writing::{
-    write_certificate, write_done, write_entry, write_node, write_packets, write_rest,
-};
 use ov_hall::HallName;
 use ov_ids::{OutOfMemory, Seq, Workers};
 use ov_io::{Sink, WriteFault};

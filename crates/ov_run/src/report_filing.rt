@@ -8,7 +8,7 @@ ghost use Rattle.ov_snap.specs.Refusals.{FilingJudged};
 ghost use Rattle.ov_run.specs.Code.Recent.{HasAnswer};
 ghost use Rattle.ov_run_meaning.specs.Printed.{report_line};
 ghost use Rattle.ov_run_meaning.specs.Subjects.{members_of, IsReportOf, AnalysisJudged, WasAnalysed};
-ghost use Rattle.ov_snap.specs.declared.fault.CoreFault.TheVariants.{OutOfMemory as out_of_memory};
+ghost use Rattle.ov_snap.specs.declared.core_fault.CoreFault.TheVariants.{OutOfMemory as out_of_memory};
 
 use crate::hall_of_run::RunHall;
 use crate::recent_reports::RecentReports;

@@ -1,7 +1,7 @@
 use crate::Phase;
 use crate::picture_layout::Layout;
 use crate::picture_style::tone;
-use crate::settings::number;
+use crate::runs_by_setting::number;
 use std::alloc::AllocError;
 use std::fmt::Write;
 

@@ -8,12 +8,12 @@ ghost use Rattle.ov_check.specs.Outcome.{status_of};
 ghost use Rattle.ov_check.specs.Run.{Prints};
 
 use ov_check::{
-    JudgeFault, Outcome, ProgramFault, exit_status, failure_text, input_named, judge_kept,
+    JudgeFault, Judged, Outcome, ProgramFault, exit_status, failure_text, input_named, judge_kept,
     why_no_input,
 };
 use ov_check_reasons::reasons;
-use ov_hints::{FileKind, file_tip, folder_tip, is_folder, kind_of_file};
 use ov_io::{Sink, Source, unopened_text};
+use ov_lines::{FileKind, file_tip, folder_tip, is_folder, looks_like};
 use std::alloc::AllocError;
 use std::env::FillError;
 use std::fs::File;
@@ -43,7 +43,7 @@ fn run<R: Runtime + AllocGlobal + Threads + Sync>(rt: &R) -> Result<u8, ProgramF
             let mut sink = Sink::new(io::writer(rt));
             Ok(judge_from(rt, rt.reader(), &mut sink, None)?)
         }
-        Ok(Some(path)) => Ok(judge_file(rt, path)?),
+        Ok(Some(path)) => Ok(judge_named(rt, path)?),
         Err(fault) => {
             let why = why_no_input(&fault);
             let _ = eprintln!(rt; "{fault}\n{why}");
@@ -67,7 +67,7 @@ fn print_fault(rt: &impl Runtime, fault: JudgeFault) -> JudgeFault
 }
 
 /// Judges what the file of this name has.
-fn judge_file<R: Runtime + AllocGlobal + Threads + Sync>(
+fn judge_named<R: Runtime + AllocGlobal + Threads + Sync>(
     rt: &R,
     path: &str,
 ) -> Result<u8, JudgeFault> {
@@ -104,7 +104,7 @@ fn judge_from<R: Runtime + AllocGlobal + Threads + Sync, I: Read + Drop, W: Writ
 {
     let mut source = Source::new(reader);
     match judge_kept(rt, &mut source, sink) {
-        Ok(outcome) => Ok(explained(rt, outcome, file)),
+        Ok(judged) => Ok(explained(rt, &judged, file)),
         Err(fault) => {
             let ended = print_fault(rt, fault);
             explain_failure(rt, fault, file);
@@ -126,34 +126,32 @@ fn explain_failure<R: Runtime + AllocGlobal>(rt: &R, fault: JudgeFault, file: Op
     }
 }
 
-/// The status of an outcome. If it is not 0, standard error says why the certificate does not hold, or why the file is
+/// The status of the outcome. If it is not 0, standard error says why the certificate does not hold, or why the file is
 /// refused.
-fn explained<R: Runtime + AllocGlobal>(rt: &R, outcome: Outcome, file: Option<&str>) -> u8
-    ensures { result ≡ status_of outcome }
+fn explained<R: Runtime + AllocGlobal>(rt: &R, judged: &Judged, file: Option<&str>) -> u8
+    ensures { result ≡ status_of judged.now.outcome }
 {
-    let status = outcome.status();
+    let status = judged.outcome.status();
     if status != 0 {
-        explain(rt, &outcome, file);
+        explain(rt, judged, file);
     }
     status
 }
 
-/// Prints why an outcome is not that a certificate holds. Of a file that looks like one of another kind, it says which
+/// Prints why the outcome is not that a certificate holds. Of a file that looks like one of another kind, it says which
 /// command reads it.
-fn explain<R: Runtime + AllocGlobal>(rt: &R, outcome: &Outcome, file: Option<&str>) {
-    if let Ok(text) = reasons(rt.alloc(), outcome) {
+fn explain<R: Runtime + AllocGlobal>(rt: &R, judged: &Judged, file: Option<&str>) {
+    if let Ok(text) = reasons(rt.alloc(), &judged.outcome) {
         let _ = eprintln!(rt; "{text}");
     }
-    if let (Outcome::Refused(_), Some(path)) = (outcome, file) {
-        tell_kind(rt, path);
+    if let (Outcome::Refused(_), Some(path)) = (&judged.outcome, file) {
+        tell_kind(rt, &judged.bytes, path);
     }
 }
 
-/// Prints which command reads the file of this name, if it does not look like a certificate file.
-fn tell_kind<R: Runtime + AllocGlobal>(rt: &R, path: &str) {
-    let Some(kind) = kind_of_file(rt, path) else {
-        return;
-    };
+/// Prints which command reads the file of this name, if its bytes do not look like a certificate file.
+fn tell_kind<R: Runtime + AllocGlobal>(rt: &R, bytes: &[u8], path: &str) {
+    let kind = looks_like(bytes);
     if kind != FileKind::Certificate {
         print_tip(rt, file_tip(rt.alloc(), kind, Some(path)));
     }

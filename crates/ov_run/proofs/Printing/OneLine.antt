@@ -20,8 +20,8 @@ use Rattle.ov_run.specs.Code.Writing.{IsOfWriting, Writes, WritesPrefix}
 use Rattle.ov_run.specs.declared.line_outcome.BlockTold.{BlockTold}
 use Rattle.ov_run.specs.declared.line_outcome.Came.{Came}
 use Rattle.ov_run.specs.declared.line_outcome.Came.TheVariants.{Alone, Block}
-use Rattle.ov_run_meaning.specs.declared.outcome.Outcome.{Outcome}
-use Rattle.ov_run_meaning.specs.declared.outcome.Outcome.TheVariants.{Accepted, Refused}
+use Rattle.ov_run_meaning.specs.declared.line_outcome.Outcome.{Outcome}
+use Rattle.ov_run_meaning.specs.declared.line_outcome.Outcome.TheVariants.{Accepted, Refused}
 use Rattle.ov_run_meaning.specs.declared.run_fault.RunFault.{RunFault}
 use Rattle.ov_run_meaning.specs.declared.run_fault.RunFault.TheVariants.{Write, OutOfMemory}
 use Rattle.ov_run_meaning.specs.declared.strictness.Strictness.TheVariants.{Strict}

@@ -4,8 +4,8 @@ use Rattle.std.specs.Io.KnownBytes.{Appends, Keeps}
 use Rattle.ov_io.specs.Device.{AppendsPrefixOf}
 use Rattle.ov_run.specs.Code.Outcomes.{WritesOutcome}
 use Rattle.ov_run.specs.Code.Writing.{Writes, WritesPrefix}
-use Rattle.ov_run_meaning.specs.declared.outcome.Outcome.{Outcome}
-use Rattle.ov_run_meaning.specs.declared.outcome.Outcome.TheVariants.{Accepted, Refused}
+use Rattle.ov_run_meaning.specs.declared.line_outcome.Outcome.{Outcome}
+use Rattle.ov_run_meaning.specs.declared.line_outcome.Outcome.TheVariants.{Accepted, Refused}
 use Rattle.ov_run_meaning.specs.declared.refusal.Refusal.{Refusal}
 use Rattle.ov_run.proofs.Printing.Ending.{kept_appended, wrote}
 
