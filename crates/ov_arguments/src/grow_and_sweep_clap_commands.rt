@@ -1,4 +1,4 @@
-use crate::clap_commands_and_help;
+use crate::clap_commands_and_help::{self, flag};
 use crate::growing_option_table::{OPTIONS, ORDERS, OptionForm, SWEEP_OPTIONS, Takes};
 use clap::{Arg, ArgAction, Command};
 use std::alloc::{AllocError, Global};
@@ -174,12 +174,4 @@ fn files<'a>(alloc: Global) -> Result<Arg<'a>, AllocError> {
         arg = arg.conflicts_with(option.name)?;
     }
     Ok(arg)
-}
-
-/// An option of this name, without a text.
-fn flag<'a>(alloc: Global, name: &'static str, help: &'static str) -> Arg<'a> {
-    Arg::new(alloc, name)
-        .long(name)
-        .action(ArgAction::SetTrue)
-        .help(help)
 }

@@ -1,7 +1,8 @@
 use crate::GrowArgumentsFault;
+use crate::arguments::has_flag;
 use crate::clap_parsing_and_faults::found_in;
 use crate::grow_and_sweep_clap_commands::CommandName;
-use crate::option_values::{has_flag, long_walk, value};
+use crate::option_values::{long_walk, value};
 use clap::ArgMatches;
 use ov_grow_options::{Crash, GrowOptions, Pace};
 use ov_ids::Params;

@@ -100,11 +100,6 @@ fn short(text: &str) -> Option<u32> {
     text.parse::<u32>().ok()
 }
 
-/// Whether a flag is there.
-pub(crate) fn has_flag(found: &ArgMatches<'_>, name: &str) -> bool {
-    found.get_flag(name)
-}
-
 /// The value of an option.
 pub(crate) fn value<T: OptionValue>(
     alloc: Global,

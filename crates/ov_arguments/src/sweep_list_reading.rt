@@ -1,6 +1,7 @@
 use crate::GrowArgumentsFault;
+use crate::arguments::has_flag;
 use crate::clap_parsing_and_faults::bad_value_since;
-use crate::option_values::{TWICE, has_flag, long_walk, values};
+use crate::option_values::{TWICE, long_walk, values};
 use crate::setting_lists::{PacketLists, ParamLists, PhaseLists, SettingLists};
 use clap::ArgMatches;
 use clap::parser::ValueSource;

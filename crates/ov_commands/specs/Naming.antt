@@ -1,11 +1,10 @@
 -- What `overlay analyse` prints with `--names` or `--explain`, where a group may be asked for by names too.
 use Rattle.std.specs.Prelude.{◌≡◌, ◌≢◌, ◌⊎◌, ℕ, Bool, List, Option, Some, None, Result, Ok, Err}
-use Rattle.ov_graph.specs.Links.{LinkGraph}
-use Rattle.ov_graphfile.specs.GraphFiles.{IsGraphFile, IsGraphFileFault}
+use Rattle.ov_graphfile.specs.GraphFiles.{IsGraphFileFault}
 use Rattle.ov_graphfile.specs.declared.fault.GraphFileFault.{GraphFileFault}
 use Rattle.ov_graphfile.specs.declared.fault.GraphFileFault.TheVariants as graph_file
 use Rattle.ov_graphfile.specs.NamesState.{NamesState}
-use Rattle.ov_graphfile.specs.NameLines.{AreNamesOf}
+use Rattle.ov_graphfile.specs.NameLines.{KeepsNames}
 use Rattle.ov_graphfile.specs.Groups.{IsGroupNamed, IsGroupFault, parts_of}
 use Rattle.ov_graphfile.specs.declared.group_fault.GroupFault.{GroupFault}
 use Rattle.ov_io.specs.Device.{SinkState}
@@ -14,10 +13,6 @@ use Rattle.ov_answers.specs.declared.request.Told.{Told}
 use Rattle.ov_run_meaning.specs.declared.run_fault.RunFault.TheVariants as run
 use Rattle.ov_commands.specs.declared.command_fault.CommandFault.{CommandFault}
 use Rattle.ov_commands.specs.declared.command_fault.CommandFault.TheVariants.{Group, Run}
-
--- these are the names that the graph file of these bytes keeps of its nodes
-abbrev pub KeepsNames : List ℕ → NamesState → Type 0
-KeepsNames bytes names = (g : LinkGraph) × IsGraphFile bytes g × AreNamesOf bytes g names
 
 -- the bytes are no graph file
 abbrev pub IsNoGraphFile : List ℕ → Type 0

@@ -1,9 +1,10 @@
 //! Analyses whose answer is told in names, or in words.
-ghost use Rattle.std.specs.Prelude.{◌≡◌, ◌<◌, option_map, string_bytes, IfOk, IfErr};
+ghost use Rattle.std.specs.Prelude.{◌≡◌, ◌<◌, ℕ, List, option_map, string_bytes, IfOk, IfErr};
+ghost use Rattle.ov_graphfile.specs.NameLines.{KeepsNames};
 ghost use Rattle.ov_io.specs.Device.{most_faults};
 ghost use Rattle.ov_commands.specs.Naming.{IsGroupIn, WasTold, picked};
 ghost use Rattle.ov_commands.specs.Code.Named.{IsNotFound};
-ghost use Rattle.ov_commands.specs.declared.command_fault.CommandFault.TheVariants.{Group};
+ghost use Rattle.ov_commands.specs.declared.command_fault.CommandFault.TheVariants.{Group, Run};
 
 use crate::analyse_command::print_refusal;
 use crate::analysis_progress::PieceProgress;
@@ -13,10 +14,11 @@ use crate::fault_reasons::analysis_reason;
 use crate::which_command_tips::print_unread_tip;
 use ov_answers::{Answered, Request, Told, analyse_told};
 use ov_arguments::AnalysisRequest;
-use ov_graphfile::{GraphFileFault, GroupFault, ids_of_group, read_graph, read_names};
+use ov_graphfile::{GroupFault, Names, ids_of_group, read_named_graph};
 use ov_ids::NodeId;
 use ov_io::{Sink, shown_name};
 use ov_lines::{FileKind, comma_hint};
+use ov_run_meaning::RunFault;
 use std::io::Write;
 use std::thread::Threads;
 
@@ -35,7 +37,11 @@ pub(crate) fn analyse_in_words<T: Threads + Sync, W: Write>(
         (option_map string_bytes analysis.now.group_names) W.contents sink.old analysis.now.certificate
         analysis.now.names sink.new result }
 {
-    let named = named_group(rt, bytes, analysis)?;
+    let names = match read_named_graph(rt.alloc(), bytes) {
+        Ok(names) => names,
+        Err(fault) => return Err(not_told(rt, bytes, file, RunFault::of_graph_file(&fault))),
+    };
+    let named = named_group(rt, &names, analysis)?;
     let group = picked_group(&named, &analysis.group);
     let request = Request {
         group,
@@ -45,18 +51,23 @@ pub(crate) fn analyse_in_words<T: Threads + Sync, W: Write>(
         explain: analysis.explain,
     };
     let mut progress = PieceProgress::new(rt, analysis.progress);
-    match analyse_told(threads, rt.alloc(), bytes, sink, &request, &mut progress) {
+    match analyse_told(threads, rt.alloc(), &names, sink, &request, &mut progress) {
         Ok(told) => {
             explain(rt, bytes, group, &told);
             Ok(0)
         }
-        Err(fault) => {
-            print_fault(rt, fault);
-            print_reason(rt, analysis_reason(rt.alloc(), bytes, &fault));
-            print_unread_tip(rt, bytes, file, &fault, FileKind::Graph);
-            Err(fault.into())
-        }
+        Err(fault) => Err(not_told(rt, bytes, file, fault)),
     }
+}
+
+/// Ends since nothing, or not all, was told of a file. Prints why.
+fn not_told(rt: &HostRuntime, bytes: &[u8], file: Option<&str>, fault: RunFault) -> CommandFault
+    ensures { result ≡ Run fault }
+{
+    print_fault(rt, fault);
+    print_reason(rt, analysis_reason(rt.alloc(), bytes, &fault));
+    print_unread_tip(rt, bytes, file, &fault, FileKind::Graph);
+    CommandFault::Run(fault)
 }
 
 /// The group that is named, or else that of these ids.
@@ -85,28 +96,21 @@ fn explain(rt: &HostRuntime, bytes: &[u8], group: Option<&[NodeId]>, told: &Told
     }
 }
 
-/// The group whose members are named, if they are. A file that is no graph file names none: its analysis says why.
+/// The group whose members are named, if they are.
 fn named_group(
     rt: &HostRuntime,
-    bytes: &[u8],
+    names: &Names<'_>,
     analysis: &AnalysisRequest,
 ) -> Result<Option<Vec<NodeId>>, CommandFault>
-    ensures found { IfOk result (λ named. IsGroupIn bytes.now (option_map string_bytes analysis.now.group_names)
-        (option_map (λ ids. ids.items) named)) }
-    ensures fault { IfErr result (IsNotFound bytes.now (option_map string_bytes analysis.now.group_names)) }
+    ensures found { IfOk result (λ named. (bytes : List ℕ) → KeepsNames bytes names.now
+        → IsGroupIn bytes (option_map string_bytes analysis.now.group_names) (option_map (λ ids. ids.items) named)) }
+    ensures fault { IfErr result (λ fault. (bytes : List ℕ) → KeepsNames bytes names.now
+        → IsNotFound bytes (option_map string_bytes analysis.now.group_names) fault) }
 {
     let Some(text) = &analysis.group_names else {
         return Ok(None);
     };
-    let graph = match read_graph(rt.alloc(), bytes) {
-        Ok(graph) => graph,
-        Err(GraphFileFault::OutOfMemory) => return Err(without_memory(rt).into()),
-        Err(_) => return Ok(None),
-    };
-    let Ok(names) = read_names(rt.alloc(), &graph, bytes) else {
-        return Err(without_memory(rt).into());
-    };
-    match ids_of_group(rt.alloc(), &names, text.as_bytes()) {
+    match ids_of_group(rt.alloc(), names, text.as_bytes()) {
         Ok(ids) => Ok(Some(ids)),
         Err(GroupFault::OutOfMemory) => Err(without_memory(rt).into()),
         Err(fault) => Err(no_group(rt, text.as_str(), fault)),

@@ -3,7 +3,7 @@ pub mod Sayings
 pub mod Naming
 pub mod Lined
 pub mod Tables
-pub mod Readings
+pub mod Told
 pub mod Meanings
 pub mod Sole
 pub mod Commented

@@ -10,15 +10,10 @@ use Rattle.ov_graph.specs.Links.{LinkGraph, IsGraph}
 use Rattle.ov_graph.specs.Paths.{node_at}
 use Rattle.ov_graph.proofs.BitRows.Read.{one_place}
 use Rattle.ov_graphfile.specs.NamesState.{NamesState, IsNamed}
-use Rattle.ov_graphfile.specs.Code.Table.{names_of, Keeps}
 
--- one place more without a name
-pub none_more : {X : Type 0} (f : X → Option (List ℕ)) (xs : List X) (x : X) → f x ≡ None
-    → ((p : ℕ) → get_or (map f xs) p None ≡ None) → (p : ℕ) → get_or (map f (xs ++ x ∷ [])) p None ≡ None
-none_more f [] x e none zero = e
-none_more f [] x e none (suc p) = refl
-none_more f (y ∷ ys) x e none zero = none 0
-none_more f (y ∷ ys) x e none (suc p) = none_more f ys x e (λ q. none (suc q)) p
+-- the names of the nodes of g are these
+abbrev pub names_of : LinkGraph → List (Option (List ℕ)) → NamesState
+names_of g told = record { graph = g; told = told }
 
 -- what a list of references has at a place
 pub copied_at : {X Y : Type 0} (f : X → Y) (d : Y) (xs : List X) (p : ℕ) (x : X) → p < length xs
@@ -29,40 +24,6 @@ copied_at f d (y ∷ ys) (suc p) x l e = copied_at f d ys p x (omega arith) e
 
 pub some_one : (a b : List ℕ) → Some a ≡ Some b → a ≡ b
 some_one a b e = cc
-
--- a node gets a name
-pub keeps_put : (g : LinkGraph) (n : ℕ) (name : List ℕ) (old : List (Option (List ℕ))) (place : ℕ) → IsGraph g
-    → place < length g.nodes → node_at g place ≡ n → length old ≡ length g.nodes
-    → Keeps g n name old (set old place (Some name))
-keeps_put g n name old place graph below node size =
-    let within : place < length old = omega (arith, below, size) in
-    let here : get_or (set old place (Some name)) place None ≡ Some name =
-    get_or-set_same old place (Some name) None within in
-    let there : (p : ℕ) → p ≢ place → get_or (set old place (Some name)) p None ≡ get_or old p None = λ p ne.
-    get_or-set_other old place p (Some name) None ne in
-    record {
-      from = λ m s h. elim (cases_eq h.0 place) [
-        | inl e ↦
-            let at : get_or (set old place (Some name)) place None ≡ Some s =
-            subst (λ (i : ℕ). get_or (set old place (Some name)) i None ≡ Some s) e h.3 in
-            inr (sym h.2 ∙ ap (node_at g) e ∙ node, some_one s name (sym at ∙ here))
-        | inr ne ↦ inl (h.0, h.1, h.2, sym (there h.0 ne) ∙ h.3)
-      ];
-      stay = λ m s h. elim (cases_eq h.0 place) [
-        | inl e ↦ (name, (place, below, sym (ap (node_at g) e) ∙ h.2, here))
-        | inr ne ↦ (s, (h.0, h.1, h.2, there h.0 ne ∙ h.3))
-      ];
-      gains = λ has. (name, (place, below, node, here));
-    }
-
--- an id that is no node gets none
-pub keeps_none : (g : LinkGraph) (n : ℕ) (name : List ℕ) (old : List (Option (List ℕ))) → ¬ Has g.nodes n
-    → Keeps g n name old old
-keeps_none g n name old none = record {
-  from = λ m s h. inl h;
-  stay = λ m s h. (s, h);
-  gains = λ has. absurd (none has);
-}
 
 -- the name at the place of a node is the node's
 pub named_at : (g : LinkGraph) (told : List (Option (List ℕ))) (n place : ℕ) (s : List ℕ) → IsGraph g

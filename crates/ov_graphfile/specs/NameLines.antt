@@ -5,7 +5,7 @@ use Rattle.std.specs.Str.Lines.{lines}
 use Rattle.ov_ids.specs.Members.{Has}
 use Rattle.ov_ids.specs.Options.{◌>>=◌}
 use Rattle.ov_graph.specs.Links.{LinkGraph}
-use Rattle.ov_graphfile.specs.GraphFiles.{graph_line, node_said}
+use Rattle.ov_graphfile.specs.GraphFiles.{graph_line, node_said, IsGraphFile}
 use Rattle.ov_lines.specs.Lines.{words_of, behind_word, without_space, same, short_bits}
 use Rattle.ov_lines.specs.Code.Spaced.{first_number}
 use Rattle.ov_graphfile.specs.NamesState.{NamesState, IsNamed}
@@ -47,3 +47,7 @@ pub record AreNamesOf (bytes : List ℕ) (g : LinkGraph) (names : NamesState) : 
   pub graph : names.graph ≡ g
   pub said : (n : ℕ) (name : List ℕ) → IsNamed names n name → NameSaid bytes n name
   pub all : (n : ℕ) (name : List ℕ) → Has g.nodes n → NameSaid bytes n name → (s : List ℕ) × IsNamed names n s
+
+-- the bytes of a file say a graph, and these are that graph and the names that the file keeps of its nodes
+abbrev pub KeepsNames : List ℕ → NamesState → Type 0
+KeepsNames bytes names = IsGraphFile bytes names.graph × AreNamesOf bytes names.graph names

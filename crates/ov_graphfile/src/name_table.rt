@@ -4,11 +4,11 @@ use ov_graph::Graph;
 use ov_ids::NodeId;
 use std::marker::Model;
 
-/// The names of the nodes of a graph. Contracts see the graph, and for each of its nodes, in order, the name if there
+/// A graph with the names of its nodes. Contracts see the graph, and for each of its nodes, in order, the name if there
 /// is one.
 #[derive(Drop)]
 pub struct Names<'a> {
-    graph: &'a Graph,
+    graph: Graph,
     told: Vec<Option<&'a [u8]>>,
 }
 
@@ -19,9 +19,9 @@ impl<'a> Model for Names<'a> {
 
     ghost Value = { NamesState };
 
-    ghost view = { λ n. record { graph = n.graph.now; told = map (λ t. option_copied t) n.told.items } };
+    ghost view = { λ n. record { graph = n.graph; told = map (λ t. option_copied t) n.told.items } };
 
-    ghost invariant = { λ n. length n.told.items ≡ length n.graph.now.nodes };
+    ghost invariant = { λ n. length n.told.items ≡ length n.graph.nodes };
 }
 
 impl<'a> Names<'a> {
@@ -29,17 +29,24 @@ impl<'a> Names<'a> {
     ghost use Rattle.std.specs.Option.{option_copied};
     ghost use Rattle.ov_graphfile.specs.NamesState.{IsNamed};
 
-    /// The names of these nodes, each at the place of its node.
-    pub(crate) fn new(graph: &'a Graph, told: Vec<Option<&'a [u8]>>) -> Names<'a>
-        requires { length told.items ≡ length graph.now.nodes }
-        ensures { result ≡ record { graph = graph.now; told = map (λ t. option_copied t) told.entry.items } }
+    /// A graph with these names, each at the place of its node.
+    pub(crate) fn new(graph: Graph, told: Vec<Option<&'a [u8]>>) -> Names<'a>
+        requires { length told.items ≡ length graph.nodes }
+        ensures { result ≡ record { graph = graph; told = map (λ t. option_copied t) told.entry.items } }
     {
         Names { graph, told }
     }
 
     /// The graph.
-    pub fn graph(&self) -> &'a Graph
+    pub fn graph(&self) -> &Graph
         ensures { result.now ≡ self.now.graph }
+    {
+        &self.graph
+    }
+
+    /// The graph, without the names.
+    pub fn into_graph(self) -> Graph
+        ensures { result ≡ self.entry.graph }
     {
         self.graph
     }

@@ -2,7 +2,11 @@ ghost use Rattle.std.specs.Prelude.{◌≡◌, ◌≢◌, ◌<◌, ◌≤◌, �
 ghost use Rattle.std.specs.FinMap.{empty};
 ghost use Rattle.ov_net.specs.Limits.{most_packets};
 ghost use Rattle.ov_net.specs.Net.{IsGone};
+ghost use Rattle.ov_net.specs.World.{Stands};
+ghost use Rattle.ov_scenario.specs.Scenarios.{IsScenario};
+ghost use Rattle.ov_snap.specs.CoreState.{IsSound};
 ghost use Rattle.ov_recording.specs.Replay.{Replays};
+ghost use Rattle.ov_recording.specs.Scripts.{scenario_of};
 ghost use Rattle.ov_recording.specs.WrittenLines.{comment_line};
 ghost use Rattle.ov_grow.specs.Growth.{AreLive, Does, IsLive, Writes};
 ghost use Rattle.ov_grow.specs.Growing.{beginning};
@@ -48,6 +52,17 @@ impl Growing {
         self.recording.core().world()
     }
 
+    /// Does nothing. Its clauses say what every recording keeps; code calls it where only its proof asks for that.
+    pub(crate) fn keeps(&self)
+        ensures stands { Stands self.now.recording.core.world }
+        ensures sound { IsSound self.now.recording.core }
+        ensures says { IsScenario self.now.recording.script.text (scenario_of self.now.recording.script) }
+    {
+        let _journal = self.world().journal();
+        let _world = self.recording.core().world();
+        let _text = self.recording.text();
+    }
+
     /// How many packets are on their way.
     pub(crate) fn packets(&self) -> usize
         ensures value { result ≡ length self.now.recording.core.world.net.packets }
@@ -60,7 +75,7 @@ impl Growing {
     pub(crate) fn live(&self) -> Result<Vec<NodeId>, OutOfMemory>
         ensures { IfOk result (λ ids. AreLive (growth_of self.now) ids.items) }
     {
-        let _journal = self.world().journal();
+        self.keeps();
         Ok(self.world().graph().nodes().to_vec(self.alloc)?)
     }
 
@@ -88,7 +103,7 @@ impl Growing {
         ensures judged { IfErr result (IsRefusedAct act self.old) }
     {
         self.recording.act(act)?;
-        let _text = self.recording.text();
+        self.keeps();
         Ok(())
     }
 

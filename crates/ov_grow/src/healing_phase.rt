@@ -50,7 +50,7 @@ impl Growing {
         ensures some { IfSome result (λ found. AreFirst (growth_of self.now) found.0 found.1) }
         ensures none { IfNone result (HasNone (growth_of self.now)) }
     {
-        let _journal = self.world().journal();
+        self.keeps();
         for node in self.world().graph().nodes() {
             match self.first_crashed_at(*node) {
                 Some(crashed) => return Some((*node, crashed)),

@@ -50,7 +50,7 @@ impl Growing {
         self.take_snapshot()?;
         let moment = self.entries();
         self.analyse(moment)?;
-        let _journal = self.world().journal();
+        self.keeps();
         Ok(moment)
     }
 
@@ -61,9 +61,9 @@ impl Growing {
         ensures refused { IfErr result (IsNoWay (λ s u. Does s act.Snapshot u) self.old) }
         ensures full { IfErr result IsFull }
     {
-        let _world = self.recording.core().world();
+        self.keeps();
         self.recording.act(Act::Snapshot)?;
-        let _text = self.recording.text();
+        self.keeps();
         Ok(())
     }
 
@@ -76,7 +76,7 @@ impl Growing {
         ensures live { OnOk result (SomebodyLives (growth_of self.new)) }
         ensures refused { IfErr result (λ f. (f ≡ out_of_memory) ⊎ ¬ SomebodyLives (growth_of self.old)) }
     {
-        let _journal = self.world().journal();
+        self.keeps();
         self.recording.analyse(moment)?;
         Ok(())
     }

@@ -89,9 +89,8 @@ impl Growing {
         requires { IsAnswered self.now.recording.core moment }
         ensures { IfOk result (λ cut. IsCutAt self.now.recording.core.world.journal moment cut.items) }
     {
-        let core = self.recording.core();
-        let _world = core.world();
-        let Some(report) = core.report(moment) else {
+        self.keeps();
+        let Some(report) = self.recording.core().report(moment) else {
             return Ok(Vec::new(self.alloc));
         };
         match report.checked().cert() {

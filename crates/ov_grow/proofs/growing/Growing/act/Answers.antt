@@ -16,7 +16,7 @@ returns-in_err-act-clause-refused c =
 
 pub returns-clause-goes : goal.returns-clause-goes
 returns-clause-goes c = act_goes _ _ _ _ _ refl c.in_ok-act.ensures.happened c.in_ok-act.ensures.written
-    c.text-text.ensures.value c.text-text.ensures.says
+    refl c.keeps.ensures.says
 
 pub returns-in_err-act-clause-judged : goal.returns-in_err-act-clause-judged
 returns-in_err-act-clause-judged c =

@@ -1,5 +1,4 @@
-use Rattle.std.proofs.Common.{◌≡◌, ◌⊎◌, subst, refl}
-use Rattle.ov_net.specs.World.{Stands}
+use Rattle.std.proofs.Common.{◌≡◌, ◌⊎◌, refl}
 use Rattle.ov_grow.specs.Faults.{of_analysis}
 use Rattle.ov_grow.specs.Growth.{SomebodyLives}
 use Rattle.ov_grow.specs.Code.Standing.{growth_of}
@@ -15,7 +14,7 @@ returns-in_err-analyse-clause-refused c =
     passes_on (λ e. (e ≡ OutOfMemory) ⊎ ¬ SomebodyLives (growth_of c.args.self.now)) c.from_residual.result
     (of_analysis f) c.from_residual.ensures.1
     (analysis_fails c.args.self.now c.args.moment f
-    (subst (λ w. Stands w) c.world.ensures c.journal-journal.ensures.stands) c.requires.now c.requires.fresh
+    c.keeps.ensures.stands c.requires.now c.requires.fresh
     c.in_err-analyse.ensures.refused)
 
 pub returns-clause-answered : goal.returns-clause-answered
@@ -30,5 +29,5 @@ returns-clause-goes c =
 pub returns-clause-live : goal.returns-clause-live
 returns-clause-live c =
     somebody_lives c.args.self.now (record c.args.self.now { recording = c.analyse.new.self }) c.args.moment
-    c.in_ok-analyse.ensures.analysed.0 (subst (λ w. Stands w) c.world.ensures c.journal-journal.ensures.stands)
+    c.in_ok-analyse.ensures.analysed.0 c.keeps.ensures.stands
     c.requires.now c.in_ok-analyse.ensures.analysed.1

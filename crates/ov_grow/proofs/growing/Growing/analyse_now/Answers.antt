@@ -5,8 +5,7 @@ use Rattle.ov_grow.specs.Code.Standing.{IsNoWay, growth_of}
 use Rattle.ov_grow.proofs.Analysing.{lived_before}
 use Rattle.ov_grow.proofs.Going.{goes_on, passes_on}
 use Rattle.ov_grow.proofs.NoPhase.{no_way_analysis, no_way_snapshot}
-use Rattle.std.proofs.Common.{◌≡◌, ◌∙◌, ap, length, subst, sym}
-use Rattle.ov_net.specs.World.{Stands}
+use Rattle.std.proofs.Common.{◌≡◌, ◌∙◌, ap, length, sym}
 use Rattle.ov_grow.specs.Faults.{IsFull}
 use Rattle.ov_grow.proofs.Full.{analysis_full}
 use Rattle.ov_grow.proofs.Keeping.{snapshot_keeps}
@@ -55,5 +54,5 @@ returns-clause-lasting c =
     let u = growth_of c.analyse.new.self in
     let same : length u.world.journal ≡ length (growth_of c.take_snapshot.new.self).world.journal =
     ap (λ g. length g.world.journal) c.in_ok-analyse.ensures.goes.way in
-    still_now c.entries-moment.result u (subst (λ w. Stands w) c.world.ensures c.journal-journal.ensures.stands)
+    still_now c.entries-moment.result u c.keeps.ensures.stands
     (c.entries-moment.ensures ∙ sym same)

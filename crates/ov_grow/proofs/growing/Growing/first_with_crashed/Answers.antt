@@ -1,6 +1,5 @@
 use Rattle.std.proofs.Common.{◌<◌, ◌≤◌, ℕ, length, subst, arith}
 use Rattle.ov_net.specs.Journal.{AreLinks}
-use Rattle.ov_net.specs.World.{Stands}
 use Rattle.ov_grow.specs.Phases.{IsCrashedNeighbour}
 use Rattle.ov_grow.specs.Code.Standing.{growth_of}
 use Rattle.ov_grow.proofs.Healing.{first_pair, is_item, no_pair, none_next}
@@ -12,8 +11,8 @@ returns-in-Some-clause-some c =
     let within : c.loop-node.node-index < length c.nodes-node-items.result.now = omega arith in
     first_pair (growth_of c.args.self.now) c.nodes-node-items.result.now _ _ _
     (live_nodes (growth_of c.args.self.now) c.graph.result.now _
-    (subst (λ w. Stands w) c.world.ensures c.journal-journal.ensures.stands)
-    (subst (λ w. AreLinks w.journal (length w.journal) c.graph.result.now) c.world-2.ensures c.graph.ensures)
+    c.keeps.ensures.stands
+    (subst (λ w. AreLinks w.journal (length w.journal) c.graph.result.now) c.world.ensures c.graph.ensures)
     c.nodes-node-items.ensures.nodes)
     within (is_item _ _ _ within c.node-item.is) c.loop-node.invariant c.in-Some.ensures.some c.in-Some.ensures.least
 
@@ -28,7 +27,7 @@ returns-clause-none c =
     let past : length c.nodes-node-items.result.now ≤ c.loop-node.node-index = omega arith in
     no_pair (growth_of c.args.self.now) c.nodes-node-items.result.now _
     (live_nodes (growth_of c.args.self.now) c.graph.result.now _
-    (subst (λ w. Stands w) c.world.ensures c.journal-journal.ensures.stands)
-    (subst (λ w. AreLinks w.journal (length w.journal) c.graph.result.now) c.world-2.ensures c.graph.ensures)
+    c.keeps.ensures.stands
+    (subst (λ w. AreLinks w.journal (length w.journal) c.graph.result.now) c.world.ensures c.graph.ensures)
     c.nodes-node-items.ensures.nodes)
     past c.loop-node.invariant

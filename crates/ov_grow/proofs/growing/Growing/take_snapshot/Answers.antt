@@ -1,6 +1,5 @@
-use Rattle.std.proofs.Common.{refl, subst}
+use Rattle.std.proofs.Common.{refl}
 use Rattle.ov_recording.specs.declared.recordable_event.Act.TheVariants as act
-use Rattle.ov_snap.specs.CoreState.{IsSound}
 use Rattle.ov_grow.specs.Faults.{of_event}
 use Rattle.ov_grow.specs.Growth.{Does}
 use Rattle.ov_grow.specs.Code.Standing.{IsNoWay}
@@ -21,10 +20,10 @@ returns-in_err-act-clause-refused c =
 
 pub returns-clause-goes : goal.returns-clause-goes
 returns-clause-goes c = act_goes _ _ _ _ _ refl c.in_ok-act.ensures.happened c.in_ok-act.ensures.written
-    c.text-text.ensures.value c.text-text.ensures.says
+    refl c.keeps-2.ensures.says
 
 pub returns-clause-fresh : goal.returns-clause-fresh
-returns-clause-fresh c = snapshot_fresh _ _ _ _ (subst (λ b. IsSound b) c.core.ensures c.world-world.ensures.sound)
+returns-clause-fresh c = snapshot_fresh _ _ _ _ c.keeps.ensures.sound
     c.in_ok-act.ensures.happened
 
 pub returns-in_err-act-clause-full : goal.returns-in_err-act-clause-full
