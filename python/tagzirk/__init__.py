@@ -1,7 +1,9 @@
 """How many crashes an overlay survives: a package over the programs overlay and overlay-check of Tagzirk.
 
 `analyse` finds the fewest crashes that split a graph, `check` asks about a certificate, and `run` runs a scenario of a
-simulated world.
+simulated world. `mend` finds links to add, `each` tells what each single crash does, and `widest` which crashes cut off
+more than one host. `read_dump` reads what a cluster says of its links, and `history`, `metrics` and `page` tell of
+dumps. The command tagzirk calls these.
 
 >>> import tagzirk
 >>> report = tagzirk.analyse([("a", "b"), ("b", "c"), ("c", "d"), ("d", "a")])
@@ -15,13 +17,81 @@ True
 
 from .answers import Answer
 from .checks import Verdict, check
-from .errors import BadGraph, NotConfirmed, ProgramFailed, ProgramMissing, Refused, TagzirkError, ViewsDiffer
+from .crashes import Crash, each
+from .dumps import Dump, Options, read_dump
+from .errors import (
+    BadDump,
+    BadGraph,
+    LibraryMissing,
+    NotConfirmed,
+    ProgramFailed,
+    ProgramMissing,
+    Refused,
+    TagzirkError,
+    ViewsDiffer,
+)
+from .forms import Asked
+from .gauges import Metrics, metrics
+from .histories import Moment, history
+from .mending import Mended, mend
+from .pages import page
 from .reports import Report, analyse
-from .scenarios import (Certificate, Change, Delivery, Entry, FiledReport, OtherLine, Packet, Refusal, Run, Sections,
-                        View, run)
+from .scenarios import (
+    Certificate,
+    Change,
+    Delivery,
+    Entry,
+    FiledReport,
+    OtherLine,
+    Packet,
+    Refusal,
+    Run,
+    Sections,
+    View,
+    run,
+)
+from .wide import Wide, widest
 
 __all__ = [
-    "Answer", "BadGraph", "Certificate", "Change", "Delivery", "Entry", "FiledReport", "NotConfirmed", "OtherLine",
-    "Packet", "ProgramFailed", "ProgramMissing", "Refusal", "Refused", "Report", "Run", "Sections", "TagzirkError",
-    "Verdict", "View", "ViewsDiffer", "analyse", "check", "run",
+    "Answer",
+    "Asked",
+    "BadDump",
+    "BadGraph",
+    "Certificate",
+    "Change",
+    "Crash",
+    "Delivery",
+    "Dump",
+    "Entry",
+    "FiledReport",
+    "LibraryMissing",
+    "Mended",
+    "Metrics",
+    "Moment",
+    "NotConfirmed",
+    "Options",
+    "OtherLine",
+    "Packet",
+    "ProgramFailed",
+    "ProgramMissing",
+    "Refusal",
+    "Refused",
+    "Report",
+    "Run",
+    "Sections",
+    "TagzirkError",
+    "Verdict",
+    "View",
+    "ViewsDiffer",
+    "Wide",
+    "analyse",
+    "check",
+    "each",
+    "history",
+    "mend",
+    "metrics",
+    "page",
+    "read_dump",
+    "run",
+    "widest",
 ]

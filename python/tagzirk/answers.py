@@ -37,7 +37,7 @@ class Answer:
 
 def ids_of(text: Optional[str]) -> Ids:
     """The ids of a list as the programs print it."""
-    return () if text in (None, "-") else tuple(map(int, text.split(",")))
+    return () if text is None or text == "-" else tuple(map(int, text.split(",")))
 
 
 def read_answer(line: str, word: str) -> Optional[Answer]:

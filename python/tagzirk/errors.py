@@ -11,6 +11,14 @@ class BadGraph(TagzirkError, ValueError):
     """What was given is no graph, or no group of its nodes."""
 
 
+class BadDump(TagzirkError, ValueError):
+    """A file is no dump that `tagzirk import` reads, or what was asked of a dump can't be done with it."""
+
+
+class LibraryMissing(TagzirkError):
+    """A library or a program is not there that only what was asked for needs."""
+
+
 class ViewsDiffer(UserWarning):
     """A warning: some node of a dict of views lists whom lists it not, or whom has no view. It says how many, and the
     first ten. `warnings.simplefilter("ignore", ViewsDiffer)` silences it, and "error" in place of "ignore" makes it an
@@ -35,6 +43,20 @@ class Refused(TagzirkError):
     def __init__(self, number: int, line: str, reason: str) -> None:
         super().__init__(f"{line}\n{reason}" if reason else line)
         self.number, self.line, self.reason = number, line, reason
+
+
+def in_words(why: Exception) -> str:
+    """An error as a person is told it: the reason first, and then its number.
+
+    >>> print(in_words(Refused(30, "refused 30", "the graph has no nodes")))
+    the graph has no nodes (refused 30)
+    """
+    if isinstance(why, Refused) and why.reason:
+        first, *rest = why.reason.split("\n")
+        return "\n".join([f"{first} ({why.line})", *rest])
+    if isinstance(why, OSError) and why.strerror:
+        return f"{why.filename}: {why.strerror}" if why.filename else why.strerror
+    return str(why)
 
 
 class NotConfirmed(TagzirkError):

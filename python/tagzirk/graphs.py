@@ -5,8 +5,9 @@ from __future__ import annotations
 import re
 import warnings
 from dataclasses import dataclass
-from typing import (Any, Dict, Generic, Hashable, Iterable, List, Mapping, Optional, Sequence, Set, Tuple, TypeVar,
-                    Union)
+from functools import cached_property
+from typing import (AbstractSet, Any, Dict, Generic, Hashable, Iterable, List, Mapping, Optional, Sequence, Set, Tuple,
+                    TypeVar, Union, cast)
 
 from .errors import BadGraph, ViewsDiffer
 
@@ -29,7 +30,12 @@ def shown(name: Any) -> str:
     a\\u{a}b a\\u{5c}u{a}b
     """
     text = str(name).replace("\\u{", "\\u{5c}u{")
-    return UNSHOWN.sub(lambda it: f"\\u{{{ord(it[0]):x}}}", text)
+    return UNSHOWN.sub(code, text)
+
+
+def code(found: "re.Match[str]") -> str:
+    """A control character as its code."""
+    return f"\\u{{{ord(found[0]):x}}}"
 
 
 @dataclass(frozen=True)
@@ -73,6 +79,50 @@ class NamedGraph(Generic[Node]):
     def _link_lines(self) -> List[str]:
         return [f"link {a} {b}\n" for a, b in self.links]
 
+    @property
+    def pairs(self) -> List[Tuple[int, int]]:
+        """The links as pairs of ids."""
+        return [(a, b) for a, b in self.links]
+
+    @cached_property
+    def peers(self) -> Dict[int, Set[int]]:
+        """The ids of the nodes that each node is linked to."""
+        peers: Dict[int, Set[int]] = {place: set() for place in self.nodes}
+        for a, b in self.links:
+            peers[a].add(b)
+            peers[b].add(a)
+        return peers
+
+    def without(self, crashed: AbstractSet[int]) -> NamedGraph[Node]:
+        """The graph that a crash of these nodes leaves, with the same ids."""
+        ids = {name: place for name, place in self.ids.items() if place not in crashed}
+        return NamedGraph(ids, [link for link in self.links if crashed.isdisjoint(link)])
+
+    def with_links(self, added: Iterable[Tuple[int, int]]) -> NamedGraph[Node]:
+        """The graph with further links between its nodes."""
+        pairs = sorted({*self.pairs, *((min(it), max(it)) for it in added)})
+        return NamedGraph(self.ids, [[a, b] for a, b in pairs])
+
+    def pieces(self, crashed: AbstractSet[int] = frozenset()) -> List[List[int]]:
+        """The connected components that a crash of these nodes leaves, in the order of their lowest ids.
+
+        >>> named_graph([(1, 2), (2, 3), (3, 4)]).pieces({2})
+        [[1], [3, 4]]
+        """
+        seen, pieces = set(crashed), []
+        for start in self.nodes:
+            if start in seen:
+                continue
+            piece, more = [start], [start]
+            seen.add(start)
+            while more:
+                found = self.peers[more.pop()] - seen
+                seen |= found
+                piece += found
+                more += found
+            pieces.append(sorted(piece))
+        return pieces
+
     def members(self, group: Optional[Iterable[Node]]) -> Optional[List[int]]:
         """The ids of a group, ascending. None is all nodes."""
         if group is None:
@@ -101,7 +151,7 @@ def in_order(names: Iterable[Node]) -> List[Node]:
     """These names, each once: in the order of their bytes in UTF-8 if all are texts, and else as they are given."""
     different = list(dict.fromkeys(names))
     if all(isinstance(name, str) for name in different):
-        different.sort(key=lambda name: name.encode(errors="surrogatepass"))  # type: ignore[attr-defined]
+        different.sort(key=lambda name: cast(str, name).encode(errors="surrogatepass"))
     return different
 
 
@@ -166,7 +216,7 @@ def of_edges(edges: Iterable[Sequence[Node]]) -> NamedGraph[Node]:
         ends = () if isinstance(edge, (str, bytes)) else tuple(edge) if isinstance(edge, Iterable) else ()
         if len(ends) != 2 or not all(map(is_name, ends)):
             raise BadGraph(f"an edge is a pair of names, and this is none: {edge!r}")
-        pairs.append(ends)
+        pairs.append((ends[0], ends[1]))
     return numbered((name for pair in pairs for name in pair), pairs)
 
 

@@ -80,8 +80,9 @@ class Report(Generic[Node]):
 
     def _pair(self, pair: Tuple[Node, Node]) -> str:
         """The option that names two nodes."""
-        is_text = isinstance(pair, (str, bytes))
-        members = {self._id_of(node) for node in pair} if isinstance(pair, Iterable) and not is_text else set()
+        given: Any = pair
+        is_text = isinstance(given, (str, bytes))
+        members = {self._id_of(node) for node in given} if isinstance(given, Iterable) and not is_text else set()
         if len(members) != 2:
             raise BadGraph(f"a pair is two nodes, and this is none: {pair!r}")
         return f"--pair={min(members)},{max(members)}"
@@ -159,7 +160,12 @@ def analyse(graph: Graph[Node], group: Optional[Iterable[Node]] = None, workers:
     why it refuses a graph: it takes 1 to 1,024 nodes.
     """
     named = named_graph(graph)
-    members = named.members(group)
+    return analysed(named, named.members(group), workers, overlay=overlay, overlay_check=overlay_check)
+
+
+def analysed(named: NamedGraph[Node], members: Optional[List[int]] = None, workers: int = 1, *,
+             overlay: Optional[Program] = None, overlay_check: Optional[Program] = None) -> Report[Node]:
+    """The same for a graph whose nodes have ids already, and a group of these."""
     words = ["analyse", "--certificate", f"--workers={workers}"]
     if members is not None:
         words.append(f"--group={','.join(map(str, members))}")

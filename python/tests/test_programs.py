@@ -26,8 +26,8 @@ from tagzirk.programs import CHECKOUT, find
 
 EXAMPLES = CHECKOUT / "examples"
 CHECKER = CHECKOUT / "tools" / "check.py"
-MODULES = ("tagzirk", "tagzirk.answers", "tagzirk.checks", "tagzirk.graphs", "tagzirk.pictures", "tagzirk.reports",
-           "tagzirk.scenarios")
+# all but that which runs the command
+MODULES = ["tagzirk", *(f"tagzirk.{it.stem}" for it in sorted((CHECKOUT / "python" / "tagzirk").glob("[a-z]*.py")))]
 RING_WITH_TAIL = [(1, 2), (2, 3), (3, 4), (4, 5), (1, 5), (2, 6)]
 
 

@@ -3,7 +3,7 @@
 use Rattle.std.proofs.Common.{◌≡◌, ◌⊎◌, inl, inr, ◌∙◌, ℕ, Bool, List, Option, Some, IfSome, Result, Ok, Err, subst}
 use Rattle.ov_io.specs.Device.{SinkState}
 use Rattle.ov_answers.specs.Analysing.{IsAnalysis, PrintsAnalysis, BeginsAnalysis, IsAnalysisOf}
-use Rattle.ov_answers.specs.declared.answered.Answered.{Answered}
+use Rattle.ov_answers.specs.declared.report_or_refusal.Answered.{Answered}
 use Rattle.ov_run_meaning.specs.Faults.{IsAnalysisFileFault, IsAnalysisFault}
 use Rattle.ov_run_meaning.specs.declared.run_fault.RunFault.{RunFault}
 use Rattle.ov_run_meaning.specs.declared.run_fault.RunFault.TheVariants as fault

@@ -18,8 +18,8 @@ use Rattle.ov_run_meaning.specs.Faults.{write_faults}
 use Rattle.ov_answers.specs.Code.TextFaults.{IsTextFault}
 use Rattle.ov_run_meaning.specs.Printed.{report_line, file_text}
 use Rattle.ov_run_meaning.specs.Subjects.{members_of}
-use Rattle.ov_answers.specs.declared.answered.Answered.{Answered}
-use Rattle.ov_answers.specs.declared.answered.Answered.TheVariants.{Report, NoNodes, BadGroup}
+use Rattle.ov_answers.specs.declared.report_or_refusal.Answered.{Answered}
+use Rattle.ov_answers.specs.declared.report_or_refusal.Answered.TheVariants.{Report, NoNodes, BadGroup}
 use Rattle.ov_run_meaning.specs.declared.run_fault.RunFault.{RunFault}
 use Rattle.ov_run_meaning.specs.declared.run_fault.RunFault.TheVariants as fault
 use Rattle.ov_answers.proofs.SameLines.{same_line}

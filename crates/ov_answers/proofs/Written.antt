@@ -11,7 +11,7 @@ use Rattle.ov_run_meaning.specs.declared.run_fault.RunFault.{RunFault}
 use Rattle.ov_run_meaning.specs.declared.run_fault.RunFault.TheVariants as fault
 use Rattle.ov_answers.specs.Analysing.{IsAnalysis, PrintsAnalysis, BeginsAnalysis, IsAnalysisOf}
 use Rattle.ov_answers.specs.Code.TextFaults.{IsTextFault}
-use Rattle.ov_answers.specs.declared.answered.Answered.{Answered}
+use Rattle.ov_answers.specs.declared.report_or_refusal.Answered.{Answered}
 
 -- a refusal of an analysis is the first applicable one, or out of memory
 pub refused_or_memory :

@@ -16,8 +16,8 @@ use Rattle.ov_graphfile.specs.NameLines.{AreNamesOf}
 use Rattle.ov_run_meaning.specs.Faults.{write_faults, IsAnalysisFault}
 use Rattle.ov_run_meaning.specs.Printed.{report_line, file_text, refused_line}
 use Rattle.ov_run_meaning.specs.Subjects.{members_of}
-use Rattle.ov_answers.specs.declared.answered.Answered.{Answered}
-use Rattle.ov_answers.specs.declared.answered.Answered.TheVariants.{Report, NoNodes, BadGroup}
+use Rattle.ov_answers.specs.declared.report_or_refusal.Answered.{Answered}
+use Rattle.ov_answers.specs.declared.report_or_refusal.Answered.TheVariants.{Report, NoNodes, BadGroup}
 use Rattle.ov_run_meaning.specs.declared.run_fault.RunFault.{RunFault}
 use Rattle.ov_run_meaning.specs.declared.run_fault.RunFault.TheVariants.{Write}
 use Rattle.ov_answers.specs.Lines.{AreNameLines}

@@ -10,8 +10,8 @@ ghost use Rattle.ov_answers.specs.Code.GivenNames.{HasNames, given_names};
 ghost use Rattle.ov_answers.specs.Code.TextFaults.{IsTextFault};
 ghost use Rattle.ov_run_meaning.specs.Printed.{file_text, refused_line, report_line};
 
-use crate::answered::Answered;
 use crate::name_lines::write_lines;
+use crate::report_or_refusal::Answered;
 use crate::request::{Request, Told};
 use crate::sentences::explanation;
 use ov_cert::{Cert, Checked};

@@ -8,7 +8,7 @@ use crate::survivor_rows::row_of_survivors;
 use ov_graph::Graph;
 use ov_graph::row::{WORDS, first_from, has};
 use ov_ids::{NodeId, OutOfMemory};
-use ov_paths::PathsBuilder;
+use ov_lists::PathsBuilder;
 use std::alloc::Global;
 
 /// The components that the crash of these nodes leaves: the survivors, of which two are in one component exactly if

@@ -1,7 +1,7 @@
 ghost use Rattle.std.specs.Prelude.{◌≡◌, length, slice_get, None, Some, MatchOption};
 
 use ov_ids::NodeId;
-use ov_paths::Paths;
+use ov_lists::Paths;
 use std::marker::Model;
 
 /// The components that a crash leaves, each a list of ids in ascending order. Contracts see a list of lists.

@@ -2,25 +2,25 @@
 //! components that a crash of nodes leaves.
 #![tactic(auto)]
 
+mod analysis_with_names;
 mod answer_making;
-mod answered;
 mod component_finding;
 mod component_list;
 mod component_texts;
-mod counts;
+mod counts_for_sentences;
 mod flood_fill;
-mod graph_analysis;
-mod graph_telling;
+mod graph_file_analysis;
 mod name_lines;
+mod report_or_refusal;
 mod request;
 mod sentences;
 mod survivor_rows;
-mod theorems;
+mod unique_components_theorem;
 
-pub use answered::Answered;
-pub use graph_analysis::{analyse_bytes, analyse_file};
-pub use graph_telling::analyse_told;
+pub use analysis_with_names::analyse_told;
+pub use graph_file_analysis::{analyse_bytes, analyse_file};
 pub use ov_run_meaning::RunFault;
+pub use report_or_refusal::Answered;
 pub use request::{Request, Told};
 pub use sentences::explanation;
-pub use theorems::one_division;
+pub use unique_components_theorem::one_division;

@@ -1,4 +1,4 @@
-use crate::answered::Answered;
+use crate::report_or_refusal::Answered;
 use ov_ids::{NodeId, Workers};
 
 /// What an analysis of a graph file is asked for.

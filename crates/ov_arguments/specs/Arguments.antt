@@ -14,10 +14,10 @@ use Rattle.ov_ids.specs.Options.{◌>>=◌}
 use Rattle.ov_lines.specs.Lines.{ids_of, workers_of}
 use Rattle.ov_arguments.specs.declared.arguments.Request.{Request}
 use Rattle.ov_arguments.specs.declared.arguments.Request.TheVariants.{Run, Analyse, Import, Picture, Graph}
-use Rattle.ov_arguments.specs.declared.file_requests.AskedEntry.{AskedEntry}
-use Rattle.ov_arguments.specs.declared.file_requests.AskedEntry.TheVariants.{Pair, Fan}
-use Rattle.ov_arguments.specs.declared.file_requests.DumpFormat.{DumpFormat}
-use Rattle.ov_arguments.specs.declared.file_requests.DumpFormat.TheVariants.{Views, Edges, Dot}
+use Rattle.ov_arguments.specs.declared.import_and_picture_requests.AskedEntry.{AskedEntry}
+use Rattle.ov_arguments.specs.declared.import_and_picture_requests.AskedEntry.TheVariants.{Pair, Fan}
+use Rattle.ov_arguments.specs.declared.import_and_picture_requests.DumpFormat.{DumpFormat}
+use Rattle.ov_arguments.specs.declared.import_and_picture_requests.DumpFormat.TheVariants.{Views, Edges, Dot}
 use Rattle.ov_arguments.specs.declared.arguments.ArgumentsFault.{ArgumentsFault}
 use Rattle.ov_arguments.specs.declared.arguments.ArgumentsFault.TheVariants.{BadArguments, OutOfMemory}
 

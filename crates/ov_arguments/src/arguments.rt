@@ -8,8 +8,8 @@ ghost use Rattle.ov_arguments.specs.Arguments.{workers_asked, fault_of_parse, fa
 ghost use Rattle.ov_arguments.specs.declared.arguments.ArgumentsFault.TheVariants.{BadArguments};
 ghost use Rattle.ov_arguments.specs.declared.arguments.ArgumentsFault.TheVariants.{OutOfMemory as out_of_memory};
 
-use crate::file_requests::{ImportRequest, PictureRequest, import_of, picture_of};
-use crate::taken_arguments::command;
+use crate::clap_commands_and_help::command;
+use crate::import_and_picture_requests::{ImportRequest, PictureRequest, import_of, picture_of};
 use clap::error::ErrorKind;
 use clap::{ArgMatches, Error as ClapError};
 use ov_ids::{NodeId, OutOfMemory, Workers};

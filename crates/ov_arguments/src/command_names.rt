@@ -1,7 +1,7 @@
 ghost use Rattle.std.specs.Prelude.{◌≡◌, IfOk};
 ghost use Rattle.ov_arguments.specs.CommandNames.{is_command};
 
-use crate::taken_arguments::command;
+use crate::clap_commands_and_help::command;
 use std::alloc::{AllocError, Global};
 
 /// Whether a command that `read_arguments` reads has this name.

@@ -1,7 +1,7 @@
 use crate::GrowArgumentsFault;
-use crate::commands::CommandName;
+use crate::clap_parsing_and_faults::found_in;
+use crate::grow_and_sweep_clap_commands::CommandName;
 use crate::option_values::{has_flag, long_walk, value};
-use crate::word_parsing::found_in;
 use clap::ArgMatches;
 use ov_grow_options::{Crash, GrowOptions, Pace};
 use ov_ids::Params;

@@ -2,31 +2,31 @@
 #![tactic(auto)]
 
 mod arguments;
-mod arguments_fault;
-mod certificate_tip;
+mod certificate_option_tip;
+mod clap_commands_and_help;
+mod clap_parsing_and_faults;
 mod command_names;
-mod commands;
-mod file_requests;
+mod grow_and_sweep_clap_commands;
+mod grow_arguments_fault;
+mod grow_or_sweep_request;
 mod grow_request;
-mod growing_request;
-mod list_reading;
-mod option_forms;
+mod growing_option_table;
+mod import_and_picture_requests;
 mod option_values;
-mod refused_arguments;
+mod refused_argument_texts;
 mod setting_lists;
 mod sweep_blocks;
+mod sweep_list_reading;
 mod sweep_request;
 mod sweep_runs;
-mod taken_arguments;
-mod word_parsing;
 
 pub use arguments::{AnalysisRequest, ArgumentsFault, Request, RunRequest, read_arguments};
-pub use arguments_fault::GrowArgumentsFault;
 pub use command_names::is_command;
-pub use file_requests::{AskedEntry, DumpFormat, ImportRequest, PictureRequest};
+pub use grow_arguments_fault::GrowArgumentsFault;
+pub use grow_or_sweep_request::{GrowingRequest, read_growing};
 pub use grow_request::{GrowRequest, read_grow_arguments};
-pub use growing_request::{GrowingRequest, read_growing};
-pub use refused_arguments::argument_reasons;
+pub use import_and_picture_requests::{AskedEntry, DumpFormat, ImportRequest, PictureRequest};
+pub use refused_argument_texts::argument_reasons;
 pub use setting_lists::SettingLists;
 pub use sweep_blocks::{SweepBlock, SweepBlocks};
 pub use sweep_request::{Printed, SweepRequest, read_sweep_arguments};

@@ -1,6 +1,6 @@
 use crate::GrowArgumentsFault;
-use crate::option_forms::limits_of;
-use crate::word_parsing::{bad_value, bad_value_since};
+use crate::clap_parsing_and_faults::{bad_value, bad_value_since};
+use crate::growing_option_table::limits_of;
 use clap::ArgMatches;
 use ov_grow_options::{Chance, Count, Crash, NodeCount, Order, Pace, Share};
 use ov_ids::Workers;

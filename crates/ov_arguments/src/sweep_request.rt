@@ -1,9 +1,9 @@
 ghost use Rattle.std.specs.Prelude.{◌≡◌, ◌+◌, ◌%◌, ◌^◌, IfSome};
 
-use crate::commands::CommandName;
-use crate::list_reading::lists_of;
+use crate::clap_parsing_and_faults::{bad_value_since, found_in};
+use crate::grow_and_sweep_clap_commands::CommandName;
 use crate::option_values::{has_flag, value};
-use crate::word_parsing::{bad_value_since, found_in};
+use crate::sweep_list_reading::lists_of;
 use crate::{GrowArgumentsFault, SettingLists, SweepBlocks, SweepRuns};
 use clap::ArgMatches;
 use ov_grow_options::GrowOptions;

@@ -11,11 +11,11 @@ use mathlib.Core.Option.{some, some-injective, some-ne-none}
 use lib.ListN.{get_elem?}
 use Rattle.atomic_table.specs.Table.{State, Final, Seen, opening}
 use Rattle.ov_ids.specs.Members.{Has}
-use Rattle.ov_claims.specs.Claims.{WorkerState, HasWorker, fresh, opening_claims}
+use Rattle.ov_board.specs.Claims.{WorkerState, HasWorker, fresh, opening_claims}
 use Rattle.ov_ids.specs.Workers.{MayWork}
-use Rattle.ov_claims.proofs.Changing.{one_worker}
-use Rattle.ov_claims.proofs.Staying.{stays_legal}
-use Rattle.ov_claims.proofs.Ending.{ends_done}
+use Rattle.ov_board.proofs.Changing.{one_worker}
+use Rattle.ov_board.proofs.Staying.{stays_legal}
+use Rattle.ov_board.proofs.Ending.{ends_done}
 use Rattle.ov_board.specs.Rule.{Numbered, times, ShowsClaims}
 use Rattle.ov_board.specs.declared.ghost_views.BoardSize.{BoardSize}
 use Rattle.ov_board.specs.declared.ghost_views.SeatView.{SeatView}

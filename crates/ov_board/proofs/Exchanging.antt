@@ -7,12 +7,12 @@ use Rattle.atomic_table.specs.Seated.{TableId}
 use Rattle.atomic_table.specs.Table.{State, step, keeps, Allows}
 use Rattle.atomic_table.proofs.Lists.{at_set}
 use Rattle.ov_ids.specs.Members.{Has}
-use Rattle.ov_claims.specs.Claims.{WorkerState, DeskState, HasWorker, IsLegal}
+use Rattle.ov_board.specs.Claims.{WorkerState, DeskState, HasWorker, IsLegal}
 use Rattle.ov_ids.specs.Workers.{MayWork}
-use Rattle.ov_claims.specs.Steps.{claiming, looking, failing, Claims, Looks, Fails}
-use Rattle.ov_claims.proofs.Changing.{after, here, elsewhere}
-use Rattle.ov_claims.proofs.Staying.{stays_legal}
-use Rattle.ov_claims.proofs.Turns.{next_small}
+use Rattle.ov_board.specs.Steps.{claiming, looking, failing, Claims, Looks, Fails}
+use Rattle.ov_board.proofs.Changing.{after, here, elsewhere}
+use Rattle.ov_board.proofs.Staying.{stays_legal}
+use Rattle.ov_board.proofs.Turns.{next_small}
 use Rattle.ov_board.specs.Rule.{Numbered, times, ShowsClaims}
 use Rattle.ov_board.specs.declared.ghost_views.BoardSize.{BoardSize}
 use Rattle.ov_board.specs.declared.ghost_views.SeatView.{SeatView}

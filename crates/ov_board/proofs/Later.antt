@@ -1,7 +1,7 @@
 -- What a claim says of the numbers that the seat had claimed before.
 use Rattle.std.proofs.Common.{ℕ, ◌<◌, arith}
 use Rattle.ov_ids.specs.Members.{Has}
-use Rattle.ov_claims.specs.Steps.{Claims}
+use Rattle.ov_board.specs.Steps.{Claims}
 use Rattle.ov_board.specs.Board.{SeatState, IsExchange}
 
 -- each of them is below the number claimed now

@@ -1,3 +1,8 @@
+pub mod Changing
+pub mod Staying
+pub mod Ending
+pub mod Behind
+pub mod Turns
 pub mod Views
 pub mod Exchanging
 pub mod Sharing

@@ -4,8 +4,8 @@
 use Rattle.std.specs.Prelude.{◌≡◌, ℕ, List, length}
 use Rattle.atomic_table.specs.Seated.{TableId}
 use Rattle.ov_ids.specs.Members.{Has}
-use Rattle.ov_claims.specs.Claims.{WorkerState, DeskState, HasWorker, IsLegal, fresh}
-use Rattle.ov_claims.specs.Theorems.{IsDone}
+use Rattle.ov_board.specs.Claims.{WorkerState, DeskState, HasWorker, IsLegal, fresh}
+use Rattle.ov_board.specs.Theorems.{IsDone}
 
 -- a board: which table of words it is, how many numbers it shares out, and for how many workers
 pub record BoardState : Type 0 where

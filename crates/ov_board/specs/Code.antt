@@ -1,1 +1,3 @@
+-- What private contracts and proofs use.
+pub mod Kept
 pub mod Rule

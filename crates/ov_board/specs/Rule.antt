@@ -7,7 +7,7 @@ use mathlib.Core.Option.{some}
 use lib.ListN.{get_elem?}
 use Rattle.atomic_table.specs.Table.{State}
 use Rattle.ov_ids.specs.Members.{Has}
-use Rattle.ov_claims.specs.Claims.{WorkerState, DeskState, HasWorker, AreSoundClaims}
+use Rattle.ov_board.specs.Claims.{WorkerState, DeskState, HasWorker, AreSoundClaims}
 use Rattle.ov_board.specs.declared.ghost_views.BoardSize.{BoardSize}
 use Rattle.ov_board.specs.declared.ghost_views.SeatView.{SeatView}
 

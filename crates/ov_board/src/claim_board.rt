@@ -1,10 +1,12 @@
 ghost use Rattle.std.specs.Prelude.{◌≡◌, ℕ, ◌<◌, true, false, length, slice_get, All, IfOk, Some};
 ghost use Rattle.ov_ids.specs.Limits.{number_limit};
 ghost use Rattle.ov_ids.specs.Members.{Has};
-ghost use Rattle.ov_claims.specs.Steps.{Claims, Looks, Fails, claiming, looking, failing};
+ghost use Rattle.ov_board.specs.Steps.{Claims, Looks, Fails, claiming, looking, failing};
 ghost use Rattle.ov_board.specs.Board.{IsClosed, IsExchange, after, new_seat};
 
-use crate::exchange_rule::{Apart, Claiming, Entering, Failing, Lawful, Looking, Number, Together};
+use crate::atomic_exchange_rules::{
+    Apart, Claiming, Entering, Failing, Lawful, Looking, Number, Together,
+};
 use crate::ghost_views::{BoardSize, SeatView};
 use crate::seat::Seat;
 use atomic_table::{Seat as TableSeat, Table};

@@ -17,7 +17,7 @@ pub struct SeatedWorker {
 }
 
 impl Model for SeatedWorker {
-    ghost use Rattle.ov_claims.specs.Claims.{WorkerState};
+    ghost use Rattle.ov_board.specs.Claims.{WorkerState};
 
     ghost Value = { WorkerState };
 

@@ -10,10 +10,10 @@ use Rattle.ov_cert.specs.declared.cert.PairPaths.{PairPaths}
 use Rattle.ov_cert.specs.declared.cert.FanPaths.{FanPaths}
 use Rattle.ov_cert.specs.declared.expected_entry.Expected.{Expected}
 use Rattle.ov_cert.specs.declared.expected_entry.Expected.TheVariants.{Pair, Fan}
-use Rattle.ov_cert.specs.declared.flaws.PathFlaw.{PathFlaw}
-use Rattle.ov_cert.specs.declared.flaws.PathFlaw.TheVariants.{TooShort, BeginsAt, EndsAt, NoLink, Taken}
-use Rattle.ov_cert.specs.declared.flaws.EntryFlaw.{EntryFlaw}
-use Rattle.ov_cert.specs.declared.flaws.EntryFlaw.TheVariants.{Missing, NamesOthers, Number, Path}
+use Rattle.ov_cert.specs.declared.path_and_entry_flaws.PathFlaw.{PathFlaw}
+use Rattle.ov_cert.specs.declared.path_and_entry_flaws.PathFlaw.TheVariants.{TooShort, BeginsAt, EndsAt, NoLink, Taken}
+use Rattle.ov_cert.specs.declared.path_and_entry_flaws.EntryFlaw.{EntryFlaw}
+use Rattle.ov_cert.specs.declared.path_and_entry_flaws.EntryFlaw.TheVariants.{Missing, NamesOthers, Number, Path}
 
 -- x is in the list twice: once, and once more before that
 abbrev pub OccursTwice : List ℕ → ℕ → Type 0

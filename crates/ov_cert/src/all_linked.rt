@@ -3,7 +3,7 @@ ghost use Rattle.ov_ids.specs.Members.{Ascends};
 ghost use Rattle.ov_graph.specs.Links.{AreAllLinked};
 ghost use Rattle.ov_cert.specs.Code.Tests.{unlinked_before, pairs_after};
 
-use crate::paths::are_linked;
+use crate::path_judging::are_linked;
 use ov_graph::Graph;
 use ov_ids::NodeId;
 

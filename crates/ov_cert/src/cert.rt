@@ -1,5 +1,5 @@
 use ov_ids::{NodeId, Seq};
-use ov_paths::Paths;
+use ov_lists::Paths;
 
 /// A claim about a group of nodes of a graph: k is the fewest node crashes that split the group.
 #[derive(Debug, Drop)]

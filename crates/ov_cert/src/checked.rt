@@ -1,7 +1,7 @@
 use crate::cert::Cert;
 use crate::checker::{check, check_group};
 use crate::fault::CheckFault;
-use crate::held_graph::HeldGraph;
+use crate::own_or_shared_graph::HeldGraph;
 use crate::shared_graph::SharedGraph;
 use ov_graph::Graph;
 use ov_ids::NodeId;

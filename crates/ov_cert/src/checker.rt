@@ -6,9 +6,9 @@ ghost use Rattle.ov_cert.specs.Verdict.{JudgedForAll, JudgedForGroup};
 ghost use Rattle.ov_cert.specs.Code.Tests.{entries_fault, fault_of};
 
 use crate::cert::{Cert, Split};
+use crate::checks_apart_from_paths::frame_fault;
 use crate::entry_judging::{check_fans, check_pairs};
 use crate::fault::CheckFault;
-use crate::frame::frame_fault;
 use ov_graph::Graph;
 use ov_ids::NodeId;
 

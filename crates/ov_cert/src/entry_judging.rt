@@ -8,9 +8,9 @@ ghost use Rattle.ov_cert.specs.Code.Flaws.{pair_entry_flaw, fan_entry_flaw};
 
 use crate::cert::{FanPaths, PairPaths};
 use crate::fault::CheckFault;
-use crate::flaws::EntryFlaw;
-use crate::member_order::{first_members, later_members};
-use crate::paths::{are_linked, flaw_of_fan, flaw_of_paths};
+use crate::first_and_later_members::{first_members, later_members};
+use crate::path_and_entry_flaws::EntryFlaw;
+use crate::path_judging::{are_linked, flaw_of_fan, flaw_of_paths};
 use ov_graph::Graph;
 use ov_ids::NodeId;
 

@@ -6,7 +6,7 @@ ghost use Rattle.ov_cert.specs.Code.Tests.{entered};
 ghost use Rattle.ov_cert.specs.Code.Flaws.{first_taken};
 ghost use Rattle.ov_cert.specs.Code.FrameFlaws.{order_flaw, set_flaw};
 
-use crate::frame_flaws::SetFlaw;
+use crate::flaws_apart_from_paths::SetFlaw;
 use ov_graph::Graph;
 use ov_graph::row::{EMPTY, Row, has, put};
 use ov_ids::NodeId;

@@ -11,7 +11,9 @@ ghost use Rattle.ov_certfile.specs.Code.Writing.{WritesValue, WritesMembers, Gro
 
 use crate::file_keys::Key;
 use crate::graph_writing::write_links;
-use crate::member_writing::{write_count, write_field, write_ids, write_verdict, write_version};
+use crate::json_member_writing::{
+    write_count, write_field, write_ids, write_verdict, write_version,
+};
 use crate::value_writing::write_mark;
 use crate::verdict::Verdict;
 use crate::version::Version;

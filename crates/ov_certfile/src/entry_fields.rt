@@ -6,10 +6,10 @@ ghost use Rattle.ov_certfile.specs.Forms.{pair_in, fan_in};
 ghost use Rattle.ov_certfile.specs.DataOf.{pair_data, fan_data};
 ghost use Rattle.ov_certfile.specs.Code.Writing.{WritesValue};
 
-use crate::fields::{Field, read_in};
+use crate::field_reading_and_writing::{Field, read_in};
 use crate::file_keys::Key;
-use crate::member_writing::write_field;
-use crate::object_keys::{first_missing, first_other};
+use crate::json_member_writing::write_field;
+use crate::missing_and_unknown_keys::{first_missing, first_other};
 use crate::value_fault::{Misfit, ValueFault, Wanted};
 use crate::value_writing::write_mark;
 use ov_cert::{FanPaths, PairPaths};

@@ -6,9 +6,9 @@ ghost use Rattle.ov_certfile.specs.DataOf.{list_data, link_data};
 ghost use Rattle.ov_certfile.specs.declared.file_keys.Key.TheVariants as key;
 ghost use Rattle.ov_certfile.specs.Code.Writing.{WritesValue, WritesMembers};
 
-use crate::fields::Field;
+use crate::field_reading_and_writing::Field;
 use crate::file_keys::Key;
-use crate::member_writing::write_key;
+use crate::json_member_writing::write_key;
 use crate::value_writing::{write_comma, write_mark};
 use ov_graph::Graph;
 use std::alloc::AllocError;

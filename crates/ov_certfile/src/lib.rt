@@ -2,16 +2,16 @@
 //! printed of a certificate.
 #![tactic(auto)]
 
-mod cert_line;
 mod cert_writing;
 mod entry_fields;
 mod fault;
-mod fields;
+mod field_reading_and_writing;
 mod file_keys;
 mod graph_writing;
-mod member_writing;
+mod json_member_writing;
+mod missing_and_unknown_keys;
 mod no_json;
-mod object_keys;
+mod one_line_certificate;
 mod paths_field;
 mod reading;
 mod value_fault;
@@ -21,12 +21,12 @@ mod version;
 mod version_and_verdict_reading;
 mod writing;
 
-pub use cert_line::CertText;
 pub use entry_fields::{FAN_KEYS, PAIR_KEYS};
 pub use fault::{BadValue, FileFault};
 pub use file_keys::{Key, keys_of};
+pub use missing_and_unknown_keys::is_among;
 pub use no_json::NoJson;
-pub use object_keys::is_among;
+pub use one_line_certificate::CertText;
 pub use reading::{Filed, LAST_MOMENT, from_text, from_value, json_in};
 pub use value_fault::{Misfit, Step, Steps, Wanted};
 pub use verdict::Verdict;

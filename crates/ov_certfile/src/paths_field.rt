@@ -6,12 +6,12 @@ ghost use Rattle.ov_certfile.specs.DataOf.{paths_data};
 ghost use Rattle.ov_certfile.specs.Code.Reading.{Reads};
 ghost use Rattle.ov_certfile.specs.Code.Writing.{WritesValue};
 
-use crate::fields::Field;
+use crate::field_reading_and_writing::Field;
 use crate::value_fault::{Misfit, Step, ValueFault, Wanted};
 use crate::value_writing::{write_comma, write_list, write_mark};
 use ov_cert::Paths;
 use ov_ids::NodeId;
-use ov_paths::PathsBuilder;
+use ov_lists::PathsBuilder;
 use serde_json::Value;
 use std::alloc::{AllocError, Global};
 

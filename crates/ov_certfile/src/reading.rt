@@ -13,7 +13,7 @@ ghost use Rattle.ov_certfile.specs.Says.{SaysFile, SaysText};
 ghost use Rattle.ov_certfile.specs.Code.Reading.{ReadsAt, IsHeaded, IsListed, IsNamed, IsCert, LacksForm, IsGraphFault};
 
 use crate::fault::FileFault;
-use crate::fields::{read_at, whole_at};
+use crate::field_reading_and_writing::{read_at, whole_at};
 use crate::file_keys::Key;
 use crate::no_json::NoJson;
 use crate::verdict::Verdict;

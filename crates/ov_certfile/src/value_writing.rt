@@ -5,7 +5,7 @@ ghost use Rattle.ov_certfile.specs.Forms.{count_in, list_in};
 ghost use Rattle.ov_certfile.specs.DataOf.{whole_data, list_data};
 ghost use Rattle.ov_certfile.specs.Code.Writing.{WritesValue};
 
-use crate::fields::Field;
+use crate::field_reading_and_writing::Field;
 use itoa::Buffer;
 use std::alloc::AllocError;
 

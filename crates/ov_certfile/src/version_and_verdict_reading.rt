@@ -6,7 +6,7 @@ ghost use Rattle.ov_certfile.specs.Code.Reading.{IsHeaded};
 
 use crate::fault::{BadValue, FileFault};
 use crate::file_keys::{Key, keys_of};
-use crate::object_keys::{first_missing, first_other};
+use crate::missing_and_unknown_keys::{first_missing, first_other};
 use crate::value_fault::{Misfit, Wanted};
 use crate::verdict::Verdict;
 use crate::version::Version;

@@ -3,8 +3,8 @@ use Rattle.std.proofs.Common.{◌≡◌, ◌≢◌, ◌+◌, ◌∙◌, ℕ, Lis
 use Rattle.std.specs.Io.KnownBytes.{Appends, IsAtEnd}
 use Rattle.ov_io.specs.Device.{SourceState, SinkState, write_faults, AppendsPrefixOf}
 use Rattle.ov_check.specs.declared.outcome.Outcome.{Outcome}
-use Rattle.ov_check.specs.declared.judge_fault.JudgeFault.{JudgeFault}
-use Rattle.ov_check.specs.declared.judge_fault.JudgeFault.TheVariants.{Read, Write, OutOfMemory}
+use Rattle.ov_check.specs.declared.read_or_write_fault.JudgeFault.{JudgeFault}
+use Rattle.ov_check.specs.declared.read_or_write_fault.JudgeFault.TheVariants.{Read, Write, OutOfMemory}
 use Rattle.ov_check.specs.Faults.{number_of}
 use Rattle.ov_check.specs.Line.{printed_of}
 use Rattle.ov_check.specs.Outcome.{IsOutcome, SaysExactNumber, status_of}

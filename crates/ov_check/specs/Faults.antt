@@ -3,8 +3,8 @@ use Rattle.std.specs.Prelude.{ℕ}
 use Rattle.ov_io.specs.Device.{read_failed, write_failed}
 use Rattle.ov_io.specs.declared.fault.ReadFault.{ReadFault}
 use Rattle.ov_io.specs.declared.fault.ReadFault.TheVariants as read
-use Rattle.ov_check.specs.declared.judge_fault.JudgeFault.{JudgeFault}
-use Rattle.ov_check.specs.declared.judge_fault.JudgeFault.TheVariants.{Read, Write, OutOfMemory}
+use Rattle.ov_check.specs.declared.read_or_write_fault.JudgeFault.{JudgeFault}
+use Rattle.ov_check.specs.declared.read_or_write_fault.JudgeFault.TheVariants.{Read, Write, OutOfMemory}
 
 -- the number of each fault of a judge
 abbrev pub number_of : JudgeFault → ℕ

@@ -2,8 +2,8 @@
 use Rattle.std.specs.Prelude.{◌≡◌, ◌≢◌, ℕ, List, codes, IsUtf8, Option, Some, None, Result, Ok, Err}
 use Rattle.ov_io.specs.Name.{unread_text}
 use Rattle.ov_io.specs.Refusal.{refusal_text}
-use Rattle.ov_check.specs.declared.judge_fault.JudgeFault.{JudgeFault}
-use Rattle.ov_check.specs.declared.judge_fault.JudgeFault.TheVariants.{Read, Write, OutOfMemory}
+use Rattle.ov_check.specs.declared.read_or_write_fault.JudgeFault.{JudgeFault}
+use Rattle.ov_check.specs.declared.read_or_write_fault.JudgeFault.TheVariants.{Read, Write, OutOfMemory}
 use Rattle.ov_check.specs.declared.arguments_and_exit_status.ProgramFault.{ProgramFault}
 use Rattle.ov_check.specs.declared.arguments_and_exit_status.ProgramFault.TheVariants.{Usage, Judge}
 use Rattle.ov_check.specs.Faults.{number_of}

@@ -3,10 +3,10 @@ ghost use Rattle.std.specs.Cow.{cow_str_bytes};
 ghost use Rattle.std.specs.Io.{WritesAtMost};
 ghost use Rattle.std.specs.Str.{chars};
 ghost use Rattle.ov_check.specs.Program.{NamesInput, exit_status, failure_text, no_input_text};
-ghost use Rattle.ov_check.specs.declared.judge_fault.JudgeFault.TheVariants.{Read};
+ghost use Rattle.ov_check.specs.declared.read_or_write_fault.JudgeFault.TheVariants.{Read};
 ghost use Rattle.ov_check.specs.declared.arguments_and_exit_status.ProgramFault.TheVariants.{Judge};
 
-use crate::judge_fault::JudgeFault;
+use crate::read_or_write_fault::JudgeFault;
 use ov_ids::OutOfMemory;
 use ov_io::unread_text;
 use std::alloc::Global;

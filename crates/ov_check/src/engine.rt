@@ -6,8 +6,8 @@ ghost use Rattle.ov_check.specs.Line.{printed_of};
 ghost use Rattle.ov_check.specs.Outcome.{status_of};
 ghost use Rattle.ov_check.specs.Run.{IsRun, Judgement, status_in};
 
-use crate::judge_fault::JudgeFault;
 use crate::outcome::{Outcome, outcome_of, outcome_parallel};
+use crate::read_or_write_fault::JudgeFault;
 use ov_io::{Sink, Source};
 use std::alloc::Global;
 use std::io::{Read, Write};

@@ -4,16 +4,16 @@
 mod arguments_and_exit_status;
 mod check_or_memory_fault;
 mod engine;
-mod judge_fault;
 mod outcome;
 mod outcome_line;
 mod parallel;
+mod read_or_write_fault;
 
 pub use arguments_and_exit_status::{
     ProgramFault, exit_status, failure_text, input_named, why_no_input,
 };
 pub use check_or_memory_fault::ParallelFault;
 pub use engine::{judge, judge_kept, judge_parallel};
-pub use judge_fault::JudgeFault;
 pub use outcome::{Outcome, Refusal, filed_in, outcome_of};
 pub use parallel::{check_group_parallel, check_parallel};
+pub use read_or_write_fault::JudgeFault;

@@ -1,6 +1,6 @@
+use crate::count_cut_and_side_words::tell_frame;
 use crate::fault_phrases::{name_fault, name_refusal};
-use crate::file_words::tell_refusal;
-use crate::frame_words::tell_frame;
+use crate::refused_file_words::tell_refusal;
 use crate::wrong_entries::{tell_entry, tell_extra};
 use ov_cert::{Cert, CheckFault};
 use ov_certfile::Filed;

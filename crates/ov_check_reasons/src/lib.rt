@@ -3,14 +3,14 @@
 #![tactic(auto)]
 
 mod bad_values;
+mod count_cut_and_side_words;
 mod explain;
 mod fault_phrases;
-mod file_words;
 mod found_values;
-mod frame_words;
 mod graph_words;
 mod near_keys;
 mod path_words;
+mod refused_file_words;
 mod sentence_parts;
 mod wrong_entries;
 

@@ -14,8 +14,8 @@ use Rattle.ov_picture.specs.declared.fault.PictureFault.TheVariants as drawing
 use Rattle.ov_commands.specs.Printing.{IsGraphTextOf, WasGraphPrinted}
 use Rattle.ov_commands.specs.Pictures.{EndsAsAsked, IsDrawable, WasPicturePrinted}
 use Rattle.ov_commands.specs.Code.Endings.{IsNotNamed, WasWritten}
-use Rattle.ov_commands.specs.declared.file_command_fault.FileCommandFault.{FileCommandFault}
-use Rattle.ov_commands.specs.declared.file_command_fault.FileCommandFault.TheVariants.{Refused, Write, OutOfMemory}
+use Rattle.ov_commands.specs.declared.conversion_fault.FileCommandFault.{FileCommandFault}
+use Rattle.ov_commands.specs.declared.conversion_fault.FileCommandFault.TheVariants.{Refused, Write, OutOfMemory}
 
 pub graph_written : {W : Type 0} (bytes text : List ℕ) (contents : W → Option (List ℕ)) (old new : W)
     (result : Result (Unit {0}) FileCommandFault) → IsGraphTextOf bytes text → WasWritten text contents old new result

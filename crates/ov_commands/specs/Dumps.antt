@@ -1,30 +1,30 @@
 -- What `overlay import` prints.
 use Rattle.std.specs.Prelude.{◌≡◌, ◌⊎◌, ℕ, List, Option, Some, None, Result, Ok, Err}
-use Rattle.ov_arguments.specs.declared.file_requests.DumpFormat.{DumpFormat}
-use Rattle.ov_arguments.specs.declared.file_requests.DumpFormat.TheVariants.{Views, Edges, Dot}
-use Rattle.ov_arguments.specs.declared.file_requests.ImportRequest.{ImportRequest}
+use Rattle.ov_arguments.specs.declared.import_and_picture_requests.DumpFormat.{DumpFormat}
+use Rattle.ov_arguments.specs.declared.import_and_picture_requests.DumpFormat.TheVariants.{Views, Edges, Dot}
+use Rattle.ov_arguments.specs.declared.import_and_picture_requests.ImportRequest.{ImportRequest}
 use Rattle.ov_dot.specs.FaultNumbers as dot
 use Rattle.ov_dot.specs.Readings.{SaysDump as SaysDot, IsRefused as IsDotFault}
 use Rattle.ov_dot.specs.declared.fault.DotFault.TheVariants as dot_fault
 use Rattle.ov_dump.specs.Faults.{IsDumpFault}
 use Rattle.ov_dump.specs.Faults as dump
-use Rattle.ov_dump.specs.declared.dump_values.Choice.{Choice}
-use Rattle.ov_dump.specs.declared.dump_values.Dump.{Dump}
+use Rattle.ov_dump.specs.declared.dump_and_graph_types.Choice.{Choice}
+use Rattle.ov_dump.specs.declared.dump_and_graph_types.Dump.{Dump}
 use Rattle.ov_dump.specs.declared.fault.DumpFault.TheVariants as dump_fault
 use Rattle.ov_dump.specs.Edges.{SaysEdges, IsEdgesFault}
 use Rattle.ov_dump.specs.FaultNumbers as reading
 use Rattle.ov_dump.specs.Views.{SaysViews, IsViewsFault}
 use Rattle.ov_dump.specs.declared.reading_fault.ReadingFault.TheVariants as reading_fault
-use Rattle.ov_hints.specs.FileKinds.{kind_of}
-use Rattle.ov_hints.specs.declared.file_kinds.FileKind.{FileKind}
-use Rattle.ov_hints.specs.declared.file_kinds.FileKind.TheVariants as kind
+use Rattle.ov_lines.specs.FileKinds.{kind_of}
+use Rattle.ov_lines.specs.declared.file_kinds.FileKind.{FileKind}
+use Rattle.ov_lines.specs.declared.file_kinds.FileKind.TheVariants as kind
 use Rattle.ov_dump.specs.Importing.{WasImported}
-use Rattle.ov_dump.specs.declared.import_fault.ImportFault.{ImportFault}
-use Rattle.ov_dump.specs.declared.import_fault.ImportFault.TheVariants as import
+use Rattle.ov_dump.specs.declared.refusal_or_write_fault.ImportFault.{ImportFault}
+use Rattle.ov_dump.specs.declared.refusal_or_write_fault.ImportFault.TheVariants as import
 use Rattle.ov_commands.specs.declared.import_command.UnreadDump.{UnreadDump}
 use Rattle.ov_commands.specs.declared.import_command.UnreadDump.TheVariants as unread
-use Rattle.ov_commands.specs.declared.file_command_fault.FileCommandFault.{FileCommandFault}
-use Rattle.ov_commands.specs.declared.file_command_fault.FileCommandFault.TheVariants.{Refused, Write, OutOfMemory}
+use Rattle.ov_commands.specs.declared.conversion_fault.FileCommandFault.{FileCommandFault}
+use Rattle.ov_commands.specs.declared.conversion_fault.FileCommandFault.TheVariants.{Refused, Write, OutOfMemory}
 
 -- ---- the dump
 

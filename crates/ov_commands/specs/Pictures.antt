@@ -2,8 +2,8 @@
 use Rattle.std.specs.Prelude.{◌≡◌, ◌≢◌, ◌⊎◌, ℕ, Bool, true, false, ⊤, List, ◌++◌, codes, Option, Some, None, Result}
 use Rattle.std.specs.Prelude.{Ok, Err}
 use Rattle.std.specs.Io.KnownBytes.{Appends}
-use Rattle.ov_arguments.specs.declared.file_requests.AskedEntry.{AskedEntry}
-use Rattle.ov_arguments.specs.declared.file_requests.AskedEntry.TheVariants as asked
+use Rattle.ov_arguments.specs.declared.import_and_picture_requests.AskedEntry.{AskedEntry}
+use Rattle.ov_arguments.specs.declared.import_and_picture_requests.AskedEntry.TheVariants as asked
 use Rattle.ov_cert.specs.Number as cert
 use Rattle.ov_certfile.specs.Number as certificate_file
 use Rattle.ov_certfile.specs.declared.reading.Filed.{Filed}
@@ -19,8 +19,8 @@ use Rattle.ov_io.specs.Device.{AppendsPrefixOf}
 use Rattle.ov_picture.specs.Chosen.{shown_paths}
 use Rattle.ov_picture.specs.declared.chosen_entry.ChosenEntry.{ChosenEntry}
 use Rattle.ov_picture.specs.declared.chosen_entry.ChosenEntry.TheVariants.{Pair, Fan}
-use Rattle.ov_commands.specs.declared.file_command_fault.FileCommandFault.{FileCommandFault}
-use Rattle.ov_commands.specs.declared.file_command_fault.FileCommandFault.TheVariants.{Refused, Write, OutOfMemory}
+use Rattle.ov_commands.specs.declared.conversion_fault.FileCommandFault.{FileCommandFault}
+use Rattle.ov_commands.specs.declared.conversion_fault.FileCommandFault.TheVariants.{Refused, Write, OutOfMemory}
 
 -- the entry of a certificate that is asked for
 abbrev pub chosen_entry : Option AskedEntry → Option ChosenEntry

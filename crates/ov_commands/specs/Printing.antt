@@ -7,8 +7,8 @@ use Rattle.ov_certfile.specs.declared.reading.Filed.{Filed}
 use Rattle.ov_check.specs.Outcome.{BytesSay}
 use Rattle.ov_graphfile.specs.GraphTexts.{graph_text}
 use Rattle.ov_io.specs.Device.{AppendsPrefixOf}
-use Rattle.ov_commands.specs.declared.file_command_fault.FileCommandFault.{FileCommandFault}
-use Rattle.ov_commands.specs.declared.file_command_fault.FileCommandFault.TheVariants.{Refused, Write, OutOfMemory}
+use Rattle.ov_commands.specs.declared.conversion_fault.FileCommandFault.{FileCommandFault}
+use Rattle.ov_commands.specs.declared.conversion_fault.FileCommandFault.TheVariants.{Refused, Write, OutOfMemory}
 
 -- these bytes are a certificate file, and this is the text of its graph as a graph file
 abbrev pub IsGraphTextOf : List ℕ → List ℕ → Type 0

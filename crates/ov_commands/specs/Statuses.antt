@@ -1,10 +1,10 @@
 -- With which status the program ends after what a command did.
 use Rattle.std.specs.Prelude.{◌≡◌, ℕ, Result, Ok, Err}
-use Rattle.ov_answers.specs.declared.answered.Answered.{Answered}
+use Rattle.ov_answers.specs.declared.report_or_refusal.Answered.{Answered}
 use Rattle.ov_run_meaning.specs.declared.run_fault.RunFault.{RunFault}
 use Rattle.ov_commands.specs.declared.command_fault.CommandFault.{CommandFault}
 use Rattle.ov_commands.specs.declared.command_fault.CommandFault.TheVariants.{OfFile, Run}
-use Rattle.ov_commands.specs.declared.file_command_fault.FileCommandFault.{FileCommandFault}
+use Rattle.ov_commands.specs.declared.conversion_fault.FileCommandFault.{FileCommandFault}
 
 -- what the program returns after a command that turns one file into another: status 0, or the fault of the command
 abbrev pub command_status : Result (Unit {0}) FileCommandFault → Result ℕ CommandFault

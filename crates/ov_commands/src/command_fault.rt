@@ -1,7 +1,7 @@
 ghost use Rattle.std.specs.Prelude.{◌≡◌};
 ghost use Rattle.ov_commands.specs.declared.command_fault.CommandFault.TheVariants.{Group, OfFile, Run};
 
-use crate::file_command_fault::FileCommandFault;
+use crate::conversion_fault::FileCommandFault;
 use ov_graphfile::GroupFault;
 use ov_run_meaning::RunFault;
 use std::fmt::{Display, Formatter, Result as Printed, Write};

@@ -2,18 +2,18 @@ ghost use Rattle.std.specs.Prelude.{◌≡◌, ◌≢◌, ◌⊎◌, ◌+◌, �
 ghost use Rattle.ov_io.specs.Device.{most_faults};
 ghost use Rattle.ov_commands.specs.Dumps.{IsForm, IsUnreadDump, SaysDump, WasDumpPrinted, WasReadAndPrinted};
 ghost use Rattle.ov_commands.specs.Dumps.{command_fault, form_of_kind, number_of_unread};
-ghost use Rattle.ov_commands.specs.declared.file_command_fault.FileCommandFault.TheVariants.{Refused};
+ghost use Rattle.ov_commands.specs.declared.conversion_fault.FileCommandFault.TheVariants.{Refused};
 
-use crate::file_command_fault::FileCommandFault;
-use crate::graph_printing::{tell_no_json, told};
+use crate::certificate_graph_printing::{tell_no_json, told};
+use crate::conversion_fault::FileCommandFault;
 use ov_arguments::{DumpFormat, ImportRequest};
 use ov_dot::{DotFault, read_dot};
 use ov_dump::{
     Choice, Dump, DumpFault, ImportFault, ReadingFault, import_dump, import_notes, read_edges,
     read_views,
 };
-use ov_hints::{FileKind, looks_like};
 use ov_io::Sink;
+use ov_lines::{FileKind, looks_like};
 use std::alloc::Global;
 use std::io::Write;
 

@@ -1,9 +1,9 @@
 ghost use Rattle.std.specs.Prelude.{◌≡◌, ◌⊎◌, IfOk, IfErr, IfSome};
 
 use crate::fault_printing::print_fault;
-use crate::tips::print_folder_tip;
-use ov_hints::is_folder;
+use crate::which_command_tips::print_folder_tip;
 use ov_io::{Source, unopened_text, unread_text};
+use ov_lines::is_folder;
 use ov_run_meaning::RunFault;
 use std::fs::File;
 use std::io::{self, Read};

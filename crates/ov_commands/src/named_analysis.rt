@@ -10,13 +10,13 @@ use crate::analysis_progress::PieceProgress;
 use crate::command_fault::CommandFault;
 use crate::fault_printing::{print_fault, print_reason, without_memory};
 use crate::fault_reasons::analysis_reason;
-use crate::tips::print_unread_tip;
+use crate::which_command_tips::print_unread_tip;
 use ov_answers::{Answered, Request, Told, analyse_told};
 use ov_arguments::AnalysisRequest;
 use ov_graphfile::{GraphFileFault, GroupFault, ids_of_group, read_graph, read_names};
-use ov_hints::{FileKind, comma_hint};
 use ov_ids::NodeId;
 use ov_io::{Sink, shown_name};
+use ov_lines::{FileKind, comma_hint};
 use std::io::Write;
 use std::thread::Threads;
 

@@ -13,7 +13,7 @@ use Rattle.ov_even.proofs.PieceNumbers.ByLevel.{level_more}
 use Rattle.ov_even.proofs.PieceNumbers.Numbering.{more_than, there_numbered}
 use Rattle.ov_even.proofs.PieceNumbers.Pairs.{pairs_more}
 use Rattle.ov_crew.specs.Code.Ascending.{IsColumn, IsReached}
-use Rattle.ov_crew.specs.declared.ascending_pieces.Column.{Column}
+use Rattle.ov_crew.specs.declared.ascending_piece_lookup.Column.{Column}
 
 -- if the lower levels have no more pieces than a number that some piece has, a piece can have the level
 pub level_below : (n m level first number : ℕ) → first ≡ length (levels_behind m 0 (level - 1)) → first ≤ number

@@ -11,7 +11,7 @@ use Rattle.ov_graph.specs.Links.{LinkGraph, IsGraph}
 use Rattle.ov_fans.specs.Pieces.{IsGood}
 use Rattle.ov_fans.specs.declared.piece.Piece.{Piece}
 use Rattle.ov_fans.proofs.PieceCuts.Refuted.{cut_refutes}
-use Rattle.ov_claims.specs.Claims.{WorkerState, HasWorker, HasFailed}
+use Rattle.ov_board.specs.Claims.{WorkerState, HasWorker, HasFailed}
 use Rattle.ov_board.specs.Board.{BoardState, SeatState, IsClosed}
 use Rattle.ov_even.specs.Levels.{AreNumbersOf, IsLevelDecided, IsFirstOfLevel}
 use Rattle.ov_even.specs.Order.{IsNumbered}

@@ -10,8 +10,8 @@ use Rattle.ov_graph.specs.Links.{LinkGraph}
 use Rattle.ov_fans.specs.Pieces.{IsGood}
 use Rattle.ov_fans.specs.Cuts.{IsParted}
 use Rattle.ov_fans.specs.declared.piece.Piece.{Piece}
-use Rattle.ov_claims.specs.Claims.{WorkerState, fresh}
-use Rattle.ov_claims.specs.Steps.{failing}
+use Rattle.ov_board.specs.Claims.{WorkerState, fresh}
+use Rattle.ov_board.specs.Steps.{failing}
 use Rattle.ov_even.specs.Order.{IsNumbered}
 use Rattle.ov_even.proofs.PieceNumbers.Numbering.{one_piece}
 use Rattle.ov_crew.specs.Code.Turns.{HasTaken, HasStopped}

@@ -12,10 +12,10 @@ use Rattle.ov_fans.specs.Pieces.{IsPiece}
 use Rattle.ov_fans.specs.Cuts.{IsRight}
 use Rattle.ov_fans.specs.Theorems.{IsNoCut}
 use Rattle.ov_fans.specs.declared.piece.Piece.{Piece}
-use Rattle.ov_fans.specs.declared.settled.Settled.{Settled}
-use Rattle.ov_claims.specs.Claims.{WorkerState, fresh}
-use Rattle.ov_claims.specs.Steps.{failing}
-use Rattle.ov_claims.proofs.Staying.{gaining, ascends_push}
+use Rattle.ov_fans.specs.declared.piece_result.Settled.{Settled}
+use Rattle.ov_board.specs.Claims.{WorkerState, fresh}
+use Rattle.ov_board.specs.Steps.{failing}
+use Rattle.ov_board.proofs.Staying.{gaining, ascends_push}
 use Rattle.ov_even.specs.Order.{IsNumbered}
 use Rattle.ov_even.proofs.PieceNumbers.Numbering.{numbered_piece, one_number}
 use Rattle.ov_crew.specs.Hauls.{IsHaulOf, ArePiecesOf}

@@ -7,9 +7,9 @@ use Rattle.std.proofs.lemmas.Option.{same_Some}
 use Rattle.ov_ids.specs.Members.{Has}
 use Rattle.ov_ids.specs.declared.out_of_memory.OutOfMemory.{OutOfMemory}
 use Rattle.ov_ids.proofs.Members.{has_append_left, has_append_right, has_append_cases}
-use Rattle.ov_claims.specs.Claims.{WorkerState}
-use Rattle.ov_claims.specs.Steps.{claiming, looking}
-use Rattle.ov_claims.proofs.Staying.{gaining, ending, skipping}
+use Rattle.ov_board.specs.Claims.{WorkerState}
+use Rattle.ov_board.specs.Steps.{claiming, looking}
+use Rattle.ov_board.proofs.Staying.{gaining, ending, skipping}
 use Rattle.ov_crew.specs.Code.Turns.{HasTaken, HasStopped}
 
 -- a claim of a number below the total, and of one that is not

@@ -4,7 +4,7 @@ use Rattle.std.proofs.Common.{subst, arith}
 use Rattle.ov_ids.specs.Members.{Has}
 use Rattle.ov_graph.specs.Links.{LinkGraph}
 use Rattle.ov_fans.specs.declared.piece.Piece.{Piece}
-use Rattle.ov_claims.specs.Claims.{WorkerState, DeskState, HasWorker, HasFailed, IsLegal}
+use Rattle.ov_board.specs.Claims.{WorkerState, DeskState, HasWorker, HasFailed, IsLegal}
 use Rattle.ov_board.specs.Board.{BoardState, SeatState, IsClosed}
 use Rattle.ov_even.specs.Hauls.{AreRight, IsCleared}
 use Rattle.ov_even.specs.Levels.{AreNumbersOf, IsTried}

@@ -5,8 +5,8 @@ use Rattle.ov_graph.specs.Links.{LinkGraph}
 use Rattle.ov_fans.specs.Pieces.{IsPiece}
 use Rattle.ov_fans.specs.Cuts.{IsRight}
 use Rattle.ov_fans.specs.Theorems.{IsNoCut}
-use Rattle.ov_fans.specs.declared.settled.Settled.{Settled}
-use Rattle.ov_claims.specs.Claims.{WorkerState}
+use Rattle.ov_fans.specs.declared.piece_result.Settled.{Settled}
+use Rattle.ov_board.specs.Claims.{WorkerState}
 use Rattle.ov_even.specs.Order.{IsNumbered}
 use Rattle.ov_even.specs.Hauls.{SettlesNumber}
 

@@ -4,11 +4,11 @@ ghost use Rattle.ov_ids.specs.Limits.{number_limit};
 ghost use Rattle.ov_ids.specs.Members.{Has};
 ghost use Rattle.ov_graph.specs.Links.{IsGroup};
 ghost use Rattle.ov_fans.specs.Pieces.{IsPiece};
-ghost use Rattle.ov_claims.specs.Claims.{fresh};
+ghost use Rattle.ov_board.specs.Claims.{fresh};
 ghost use Rattle.ov_even.specs.Order.{AreMoreThan};
 ghost use Rattle.ov_crew.specs.Code.Examined.{HasExamined, HasExaminedPiece, lower_of};
 
-use crate::ascending_pieces::AscendingPieces;
+use crate::ascending_piece_lookup::AscendingPieces;
 use crate::hook_after_claim::Gate;
 use crate::worker::take_number;
 use ov_board::{Board, Seat};

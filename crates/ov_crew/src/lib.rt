@@ -2,15 +2,15 @@
 #![tactic(auto)]
 
 mod analysis_by_threads;
-mod ascending_pieces;
+mod ascending_piece_lookup;
 mod cut_worker;
 mod hook_after_claim;
-mod outline_by_threads;
-mod parallel_path_naming;
+mod parallel_paths_by_ids;
+mod pathless_analysis_by_threads;
 mod thread_count;
 mod worker;
 
 pub use analysis_by_threads::{analyse, analyse_group, analyse_group_watched};
 pub use hook_after_claim::{Gate, OpenGate};
-pub use outline_by_threads::outline_group_watched;
+pub use pathless_analysis_by_threads::outline_group_watched;
 pub use worker::{work, work_group, work_range};

@@ -6,12 +6,12 @@ ghost use Rattle.ov_ids.specs.Members.{Has};
 ghost use Rattle.ov_graph.specs.Links.{IsGroup};
 ghost use Rattle.ov_fans.specs.Pieces.{IsPiece};
 ghost use Rattle.ov_fans.specs.Cuts.{IsRight};
-ghost use Rattle.ov_claims.specs.Claims.{fresh};
+ghost use Rattle.ov_board.specs.Claims.{fresh};
 ghost use Rattle.ov_even.specs.Order.{AreMoreThan, AreSoMany};
 ghost use Rattle.ov_crew.specs.Hauls.{IsHaulOf};
 ghost use Rattle.ov_crew.specs.Code.Turns.{HasTaken, HasStopped, HasSettled};
 
-use crate::ascending_pieces::AscendingPieces;
+use crate::ascending_piece_lookup::AscendingPieces;
 use crate::hook_after_claim::Gate;
 use ov_board::{Board, Seat};
 use ov_even::Haul;

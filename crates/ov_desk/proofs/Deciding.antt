@@ -13,11 +13,11 @@ use Rattle.ov_fans.specs.Pieces.{IsPiece, IsGood}
 use Rattle.ov_fans.specs.Cuts.{IsRight}
 use Rattle.ov_fans.specs.Theorems.{IsNoCut}
 use Rattle.ov_fans.specs.declared.piece.Piece.{Piece}
-use Rattle.ov_fans.specs.declared.settled.Settled.{Settled}
+use Rattle.ov_fans.specs.declared.piece_result.Settled.{Settled}
 use Rattle.ov_fans.proofs.PieceCuts.Decided.{decides}
-use Rattle.ov_claims.specs.Claims.{WorkerState, HasWorker, HasFailed}
-use Rattle.ov_claims.specs.Theorems.{AllEnded, IsDone}
-use Rattle.ov_claims.proofs.Ending.{ends_done}
+use Rattle.ov_board.specs.Claims.{WorkerState, HasWorker, HasFailed}
+use Rattle.ov_board.specs.Theorems.{AllEnded, IsDone}
+use Rattle.ov_board.proofs.Ending.{ends_done}
 use Rattle.ov_even.specs.Code.Levels.{all_pieces}
 use Rattle.ov_even.specs.Hauls.{IsInHauls, Decides, Suffice}
 use Rattle.ov_even.specs.Order.{IsNumbered}

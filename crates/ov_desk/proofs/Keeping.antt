@@ -6,10 +6,10 @@ use Rattle.std.proofs.lemmas.List.{length-set, set-get_or}
 use Rattle.std.proofs.lemmas.Bool.{lt-ltb, le-ltb}
 use Rattle.std.proofs.lemmas.Option.{same_Some, slice_get_within, get_or_from_slice_get}
 use Rattle.ov_even.proofs.PieceOrder.InOrder.{at_within}
-use Rattle.ov_claims.specs.Claims.{WorkerState, DeskState, HasWorker}
+use Rattle.ov_board.specs.Claims.{WorkerState, DeskState, HasWorker}
 use Rattle.ov_ids.specs.Workers.{MayWork}
-use Rattle.ov_claims.specs.Steps.{claiming, looking, IsLast, Claims, Looks}
-use Rattle.ov_claims.proofs.Changing.{at_changed}
+use Rattle.ov_board.specs.Steps.{claiming, looking, IsLast, Claims, Looks}
+use Rattle.ov_board.proofs.Changing.{at_changed}
 use Rattle.ov_desk.specs.Desk.{GroupDeskState, HasHand}
 use Rattle.ov_desk.specs.Turns.{ClaimsNext, WasClaimed, WasLookedAt}
 use Rattle.ov_desk.specs.Code.Kept.{IsKept, IsClaimedLast}

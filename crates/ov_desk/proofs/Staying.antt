@@ -8,13 +8,13 @@ use Rattle.ov_ids.specs.Members.{Has}
 use Rattle.ov_ids.specs.Sets.{adding}
 use Rattle.ov_graph.specs.Links.{LinkGraph, IsGroup}
 use Rattle.ov_fans.specs.Theorems.{IsNoCut}
-use Rattle.ov_fans.specs.declared.settled.Found.{Found}
-use Rattle.ov_fans.specs.declared.settled.Settled.{Settled}
-use Rattle.ov_claims.specs.Claims.{WorkerState, DeskState, HasWorker, IsLegal, fresh}
+use Rattle.ov_fans.specs.declared.piece_result.Found.{Found}
+use Rattle.ov_fans.specs.declared.piece_result.Settled.{Settled}
+use Rattle.ov_board.specs.Claims.{WorkerState, DeskState, HasWorker, IsLegal, fresh}
 use Rattle.ov_ids.specs.Workers.{MayWork}
-use Rattle.ov_claims.specs.Steps.{claiming, looking, failing}
-use Rattle.ov_claims.proofs.Changing.{all_same}
-use Rattle.ov_claims.proofs.Staying.{stays_legal, has_added, has_self, has_still}
+use Rattle.ov_board.specs.Steps.{claiming, looking, failing}
+use Rattle.ov_board.proofs.Changing.{all_same}
+use Rattle.ov_board.proofs.Staying.{stays_legal, has_added, has_self, has_still}
 use Rattle.ov_even.proofs.PieceOrder.InOrder.{at_within}
 use Rattle.ov_desk.specs.declared.piece_in_hand.Hand.{Hand}
 use Rattle.ov_desk.specs.declared.piece_in_hand.Hand.TheVariants.{Nothing, Claimed, Looked}

@@ -5,8 +5,8 @@ use Rattle.std.proofs.lemmas.Bool.{cases_eq}
 use Rattle.std.proofs.lemmas.List.{length-set}
 use Rattle.std.proofs.lemmas.Option.{same_Some, slice_get_within}
 use Rattle.ov_graph.specs.Links.{LinkGraph}
-use Rattle.ov_fans.specs.declared.settled.Settled.{Settled}
-use Rattle.ov_claims.specs.Claims.{WorkerState, DeskState, HasWorker, IsLegal}
+use Rattle.ov_fans.specs.declared.piece_result.Settled.{Settled}
+use Rattle.ov_board.specs.Claims.{WorkerState, DeskState, HasWorker, IsLegal}
 use Rattle.ov_ids.specs.Workers.{MayWork}
 use Rattle.ov_even.proofs.AnalysisSteps.Slotted.{at_set_same, at_set_other}
 use Rattle.ov_desk.specs.declared.piece_in_hand.Hand.{Hand}

@@ -10,11 +10,11 @@ use Rattle.ov_graph.specs.Links.{LinkGraph}
 use Rattle.ov_fans.specs.Pieces.{IsPiece}
 use Rattle.ov_fans.specs.Cuts.{IsRight}
 use Rattle.ov_fans.specs.Theorems.{IsNoCut}
-use Rattle.ov_fans.specs.declared.settled.Settled.{Settled}
-use Rattle.ov_claims.specs.Claims.{WorkerState, fresh}
-use Rattle.ov_claims.specs.Steps.{IsLast}
-use Rattle.ov_claims.proofs.Staying.{gaining, ending, skipping}
-use Rattle.ov_claims.proofs.Turns.{own_last}
+use Rattle.ov_fans.specs.declared.piece_result.Settled.{Settled}
+use Rattle.ov_board.specs.Claims.{WorkerState, fresh}
+use Rattle.ov_board.specs.Steps.{IsLast}
+use Rattle.ov_board.proofs.Staying.{gaining, ending, skipping}
+use Rattle.ov_board.proofs.Turns.{own_last}
 use Rattle.ov_even.specs.Order.{IsNumbered}
 use Rattle.ov_even.proofs.PieceNumbers.Numbering.{numbered_piece, one_number}
 use Rattle.ov_desk.specs.declared.piece_in_hand.Hand.{Hand}

@@ -4,8 +4,8 @@
 use Rattle.std.specs.Prelude.{◌≡◌, ℕ, List, [], length, replicate, slice_get, Some}
 use Rattle.ov_ids.specs.Members.{Has}
 use Rattle.ov_graph.specs.Links.{LinkGraph, AreAllLinked}
-use Rattle.ov_fans.specs.declared.settled.Settled.{Settled}
-use Rattle.ov_claims.specs.Claims.{DeskState, opening_claims}
+use Rattle.ov_fans.specs.declared.piece_result.Settled.{Settled}
+use Rattle.ov_board.specs.Claims.{DeskState, opening_claims}
 use Rattle.ov_even.specs.Order.{AreSoMany}
 use Rattle.ov_desk.specs.declared.piece_in_hand.Hand.{Hand}
 use Rattle.ov_desk.specs.declared.piece_in_hand.Hand.TheVariants.{Nothing, Claimed, Looked}

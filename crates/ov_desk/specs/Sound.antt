@@ -5,10 +5,10 @@ use Rattle.ov_graph.specs.Links.{LinkGraph, IsGroup}
 use Rattle.ov_fans.specs.Pieces.{IsPiece}
 use Rattle.ov_fans.specs.Cuts.{IsRight}
 use Rattle.ov_fans.specs.Theorems.{IsNoCut}
-use Rattle.ov_fans.specs.declared.settled.Settled.{Settled}
-use Rattle.ov_claims.specs.Claims.{WorkerState, HasWorker, IsLegal}
+use Rattle.ov_fans.specs.declared.piece_result.Settled.{Settled}
+use Rattle.ov_board.specs.Claims.{WorkerState, HasWorker, IsLegal}
 use Rattle.ov_ids.specs.Workers.{MayWork}
-use Rattle.ov_claims.specs.Steps.{IsLast}
+use Rattle.ov_board.specs.Steps.{IsLast}
 use Rattle.ov_even.specs.Hauls.{SettlesNumber}
 use Rattle.ov_desk.specs.Desk.{GroupDeskState, HasHand, HaveBeenSettled, IsNumberIn, AreToShare}
 use Rattle.ov_desk.specs.declared.piece_in_hand.Hand.{Hand}

@@ -4,9 +4,9 @@ use Rattle.ov_graph.specs.Links.{LinkGraph, IsGraph, IsGroup, AreAllLinked}
 use Rattle.ov_fans.specs.Pieces.{IsPiece}
 use Rattle.ov_fans.specs.Theorems.{IsNoCut}
 use Rattle.ov_fans.specs.declared.piece.Piece.{Piece}
-use Rattle.ov_fans.specs.declared.settled.Settled.{Settled}
+use Rattle.ov_fans.specs.declared.piece_result.Settled.{Settled}
 use Rattle.ov_ids.specs.Workers.{MayWork}
-use Rattle.ov_claims.specs.Theorems.{AllEnded}
+use Rattle.ov_board.specs.Theorems.{AllEnded}
 use Rattle.ov_even.specs.Order.{ComesBefore, IsNumbered}
 use Rattle.ov_desk.specs.Desk.{GroupDeskState, IsOpened, IsSettledAt}
 use Rattle.ov_desk.specs.Sound.{IsSoundDesk}

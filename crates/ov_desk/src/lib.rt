@@ -1,10 +1,10 @@
 //! A desk at which workers share out the pieces of Even's test, until one piece decides.
 #![tactic(auto)]
 
-mod analysis_desk;
 mod piece_in_hand;
-mod theorems;
+mod sound_desk_theorems;
+mod worker_desk;
 
-pub use analysis_desk::GroupDesk;
 pub use piece_in_hand::Hand;
-pub use theorems::{ended_decides, stays_sound};
+pub use sound_desk_theorems::{ended_decides, stays_sound};
+pub use worker_desk::GroupDesk;

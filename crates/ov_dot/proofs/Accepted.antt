@@ -5,12 +5,12 @@ use Rattle.std.specs.Prelude.{if◌then◌else◌}
 use Rattle.std.specs.List.{list_all}
 use Rattle.std.specs.Bool.{then_some}
 use Rattle.std.specs.Char.{is_ascii_digit}
-use Rattle.ov_dot.specs.declared.part_scanning.Place.{Place}
-use Rattle.ov_dot.specs.declared.part_scanning.Place.TheVariants.{Start, LineFeed, Slash, LineComment}
-use Rattle.ov_dot.specs.declared.part_scanning.Place.TheVariants.{BlockComment}
-use Rattle.ov_dot.specs.declared.part_scanning.Place.TheVariants.{BlockStar, Word, Minus, Point, Digits}
-use Rattle.ov_dot.specs.declared.part_scanning.Place.TheVariants.{Fraction}
-use Rattle.ov_dot.specs.declared.part_scanning.Place.TheVariants.{Text, Escaped, Angle, End}
+use Rattle.ov_dot.specs.declared.lexeme_scanning.Place.{Place}
+use Rattle.ov_dot.specs.declared.lexeme_scanning.Place.TheVariants.{Start, LineFeed, Slash, LineComment}
+use Rattle.ov_dot.specs.declared.lexeme_scanning.Place.TheVariants.{BlockComment}
+use Rattle.ov_dot.specs.declared.lexeme_scanning.Place.TheVariants.{BlockStar, Word, Minus, Point, Digits}
+use Rattle.ov_dot.specs.declared.lexeme_scanning.Place.TheVariants.{Fraction}
+use Rattle.ov_dot.specs.declared.lexeme_scanning.Place.TheVariants.{Text, Escaped, Angle, End}
 use Rattle.ov_dot.specs.Parts.{is_blank, is_mark, is_letter, is_word_byte, is_in_line, line_feed, is_empty}
 use Rattle.ov_dot.specs.Parts.{ends_comment, is_comment_rest, is_feed_rest, ends_quoted, ends_html, is_digits}
 use Rattle.ov_dot.specs.Parts.{is_decimal_rest, is_decimal, is_dash_rest, is_part}

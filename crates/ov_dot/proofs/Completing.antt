@@ -10,14 +10,14 @@ use Rattle.ov_dot.specs.declared.token.Kind.TheVariants.{Strict, Graph, Digraph,
 use Rattle.ov_dot.specs.declared.token.Kind.TheVariants.{Quoted, Html, OpenBrace, CloseBrace, OpenBracket}
 use Rattle.ov_dot.specs.declared.token.Kind.TheVariants.{CloseBracket, Semicolon, Comma, Equals, Colon, Line}
 use Rattle.ov_dot.specs.declared.token.Kind.TheVariants.{Arrow}
-use Rattle.ov_dot.specs.declared.diagram_place.Place.{Place}
-use Rattle.ov_dot.specs.declared.diagram_place.Place.TheVariants.{Beginning, BehindStrict, BehindKind, BehindTitle}
-use Rattle.ov_dot.specs.declared.diagram_place.Place.TheVariants.{Body, Named}
-use Rattle.ov_dot.specs.declared.diagram_place.Place.TheVariants.{Member, PortNext, Ported, CompassNext, Directed}
-use Rattle.ov_dot.specs.declared.diagram_place.Place.TheVariants.{EndNext}
-use Rattle.ov_dot.specs.declared.diagram_place.Place.TheVariants.{ListNext, InList, Attribute, ValueNext, Valued}
-use Rattle.ov_dot.specs.declared.diagram_place.Place.TheVariants.{Listed}
-use Rattle.ov_dot.specs.declared.diagram_place.Place.TheVariants.{AssignedNext, SubgraphNext, SubgraphTitled, Over}
+use Rattle.ov_dot.specs.declared.grammar_state.Place.{Place}
+use Rattle.ov_dot.specs.declared.grammar_state.Place.TheVariants.{Beginning, BehindStrict, BehindKind, BehindTitle}
+use Rattle.ov_dot.specs.declared.grammar_state.Place.TheVariants.{Body, Named}
+use Rattle.ov_dot.specs.declared.grammar_state.Place.TheVariants.{Member, PortNext, Ported, CompassNext, Directed}
+use Rattle.ov_dot.specs.declared.grammar_state.Place.TheVariants.{EndNext}
+use Rattle.ov_dot.specs.declared.grammar_state.Place.TheVariants.{ListNext, InList, Attribute, ValueNext, Valued}
+use Rattle.ov_dot.specs.declared.grammar_state.Place.TheVariants.{Listed}
+use Rattle.ov_dot.specs.declared.grammar_state.Place.TheVariants.{AssignedNext, SubgraphNext, SubgraphTitled, Over}
 use Rattle.ov_dot.specs.declared.fault.DotFault.{DotFault}
 use Rattle.ov_dot.specs.declared.fault.DotFault.TheVariants.{UnreadLine}
 use Rattle.ov_dot.specs.declared.fault.Why.TheVariants.{WrongEdge}

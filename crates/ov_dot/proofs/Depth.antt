@@ -5,12 +5,12 @@ use Rattle.std.proofs.Common.{ap, ◌∙◌, arith, subst, add-one, drop-cons}
 use Rattle.std.specs.Prelude.{if◌then◌else◌}
 use Rattle.std.specs.Bool.{then_some}
 use Rattle.std.specs.Char.{is_ascii_digit}
-use Rattle.ov_dot.specs.declared.part_scanning.Place.{Place}
-use Rattle.ov_dot.specs.declared.part_scanning.Place.TheVariants.{Start, LineFeed, Slash, LineComment}
-use Rattle.ov_dot.specs.declared.part_scanning.Place.TheVariants.{BlockComment}
-use Rattle.ov_dot.specs.declared.part_scanning.Place.TheVariants.{BlockStar, Word, Minus, Point, Digits}
-use Rattle.ov_dot.specs.declared.part_scanning.Place.TheVariants.{Fraction}
-use Rattle.ov_dot.specs.declared.part_scanning.Place.TheVariants.{Text, Escaped, Angle, End}
+use Rattle.ov_dot.specs.declared.lexeme_scanning.Place.{Place}
+use Rattle.ov_dot.specs.declared.lexeme_scanning.Place.TheVariants.{Start, LineFeed, Slash, LineComment}
+use Rattle.ov_dot.specs.declared.lexeme_scanning.Place.TheVariants.{BlockComment}
+use Rattle.ov_dot.specs.declared.lexeme_scanning.Place.TheVariants.{BlockStar, Word, Minus, Point, Digits}
+use Rattle.ov_dot.specs.declared.lexeme_scanning.Place.TheVariants.{Fraction}
+use Rattle.ov_dot.specs.declared.lexeme_scanning.Place.TheVariants.{Text, Escaped, Angle, End}
 use Rattle.ov_dot.specs.Parts.{is_blank, is_mark, is_letter, is_word_byte, is_in_line, line_feed}
 use Rattle.ov_dot.specs.Code.Scanning.{after, decimal_place, first_place, open_at, marked, longest_from}
 

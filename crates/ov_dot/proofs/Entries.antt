@@ -12,7 +12,7 @@ use Rattle.ov_dot.specs.Names.{text_of}
 use Rattle.std.specs.List.{list_any}
 use Rattle.std.specs.BTreeMap.{is_at}
 use Rattle.std.specs.Cmp.Lexicographic.{pointwise, texts_ties, nat_list_eq_equiv}
-use Rattle.ov_dump.specs.declared.dump_values.Entry.{Entry}
+use Rattle.ov_dump.specs.declared.dump_and_graph_types.Entry.{Entry}
 use Rattle.ov_dump.specs.FirstEntries.{AreFirsts}
 use Rattle.ov_ids.specs.Members.{Has}
 use Rattle.ov_dot.specs.Dumps.{entry_of}

@@ -8,10 +8,10 @@ use Rattle.ov_dot.specs.declared.token.Kind.{Kind}
 use Rattle.ov_dot.specs.declared.token.Kind.TheVariants.{Graph, Node, Edge, Subgraph, Bare}
 use Rattle.ov_dot.specs.declared.token.Kind.TheVariants.{Quoted, OpenBrace}
 use Rattle.ov_dot.specs.declared.token.Kind.TheVariants.{CloseBrace, CloseBracket, Semicolon}
-use Rattle.ov_dot.specs.declared.diagram_place.Place.{Place}
-use Rattle.ov_dot.specs.declared.diagram_place.Place.TheVariants.{Body, Named, Member, Ported, Directed}
-use Rattle.ov_dot.specs.declared.diagram_place.Place.TheVariants.{InList}
-use Rattle.ov_dot.specs.declared.diagram_place.Place.TheVariants.{Attribute, Valued, Listed, Over}
+use Rattle.ov_dot.specs.declared.grammar_state.Place.{Place}
+use Rattle.ov_dot.specs.declared.grammar_state.Place.TheVariants.{Body, Named, Member, Ported, Directed}
+use Rattle.ov_dot.specs.declared.grammar_state.Place.TheVariants.{InList}
+use Rattle.ov_dot.specs.declared.grammar_state.Place.TheVariants.{Attribute, Valued, Listed, Over}
 use Rattle.ov_dot.specs.Sayings.{Said, nothing_said, with_edge}
 use Rattle.ov_dot.specs.Code.Statements.{Reading, at_beginning, read_on, statements_of}
 use Rattle.ov_dot.specs.Grammar.{Spot, token, NodeName, Word, Text, named, Value, NameValue, HtmlValue}

@@ -5,7 +5,7 @@ use Rattle.ov_dot.specs.declared.token.Token.{Token}
 use Rattle.ov_dot.specs.declared.statement_reading.Link.{Link}
 use Rattle.std.specs.Prelude.{map, Result, Err, IfOk}
 use Rattle.ov_ids.specs.Members.{Has}
-use Rattle.ov_dump.specs.declared.dump_values.Dump.{Dump}
+use Rattle.ov_dump.specs.declared.dump_and_graph_types.Dump.{Dump}
 use Rattle.ov_dot.specs.Tokens.{Lexeme, lexeme, lexemes, HasTokens}
 use Rattle.ov_dot.specs.declared.token_reading.TextFault.{TextFault}
 use Rattle.ov_dot.specs.declared.token_reading.TextFault.TheVariants as text

@@ -3,8 +3,8 @@ use Rattle.std.proofs.Common.{◌≡◌, ◌∙◌, ◌+◌, ◌<◌, ◌≤◌,
 use Rattle.std.proofs.Common.{None, ◌⊎◌}
 use Rattle.std.proofs.Common.{length, take, inl, inr, refl, sym, ap, subst, arith, add-zero}
 use Rattle.std.specs.Prelude.{if◌then◌else◌, MatchOption, unwrap_or}
-use Rattle.ov_dot.specs.declared.part_scanning.Place.{Place}
-use Rattle.ov_dot.specs.declared.part_scanning.Place.TheVariants.{Start, LineFeed}
+use Rattle.ov_dot.specs.declared.lexeme_scanning.Place.{Place}
+use Rattle.ov_dot.specs.declared.lexeme_scanning.Place.TheVariants.{Start, LineFeed}
 use Rattle.ov_dot.specs.Parts.{HasNoPrefix, IsLongest, is_part, is_feed_rest}
 use Rattle.ov_dot.specs.Code.Scanning.{accepts, after, is_whole, marked, longest_from}
 use Rattle.ov_dot.proofs.Accepted.{in_part, behind_feed}

@@ -7,14 +7,14 @@ use Rattle.ov_dot.specs.Tokens.{Lexeme}
 use Rattle.ov_dot.specs.declared.token.Kind.{Kind}
 use Rattle.ov_dot.specs.declared.token.Kind.TheVariants.{Strict, Graph, Bare, OpenBrace, CloseBrace}
 use Rattle.ov_dot.specs.declared.token.Kind.TheVariants.{OpenBracket, CloseBracket, Semicolon, Line, Arrow}
-use Rattle.ov_dot.specs.declared.diagram_place.Place.{Place}
-use Rattle.ov_dot.specs.declared.diagram_place.Place.TheVariants.{Beginning, BehindStrict, BehindKind, BehindTitle}
-use Rattle.ov_dot.specs.declared.diagram_place.Place.TheVariants.{Body, Named}
-use Rattle.ov_dot.specs.declared.diagram_place.Place.TheVariants.{Member, PortNext, Ported, CompassNext, Directed}
-use Rattle.ov_dot.specs.declared.diagram_place.Place.TheVariants.{EndNext}
-use Rattle.ov_dot.specs.declared.diagram_place.Place.TheVariants.{ListNext, InList, Attribute, ValueNext, Valued}
-use Rattle.ov_dot.specs.declared.diagram_place.Place.TheVariants.{Listed}
-use Rattle.ov_dot.specs.declared.diagram_place.Place.TheVariants.{AssignedNext, SubgraphNext, SubgraphTitled, Over}
+use Rattle.ov_dot.specs.declared.grammar_state.Place.{Place}
+use Rattle.ov_dot.specs.declared.grammar_state.Place.TheVariants.{Beginning, BehindStrict, BehindKind, BehindTitle}
+use Rattle.ov_dot.specs.declared.grammar_state.Place.TheVariants.{Body, Named}
+use Rattle.ov_dot.specs.declared.grammar_state.Place.TheVariants.{Member, PortNext, Ported, CompassNext, Directed}
+use Rattle.ov_dot.specs.declared.grammar_state.Place.TheVariants.{EndNext}
+use Rattle.ov_dot.specs.declared.grammar_state.Place.TheVariants.{ListNext, InList, Attribute, ValueNext, Valued}
+use Rattle.ov_dot.specs.declared.grammar_state.Place.TheVariants.{Listed}
+use Rattle.ov_dot.specs.declared.grammar_state.Place.TheVariants.{AssignedNext, SubgraphNext, SubgraphTitled, Over}
 use Rattle.ov_dot.specs.declared.fault.DotFault.{DotFault}
 use Rattle.ov_dot.specs.declared.fault.DotFault.TheVariants.{UnreadLine}
 use Rattle.ov_dot.specs.declared.fault.Why.{Why}

@@ -4,9 +4,9 @@ use Rattle.std.specs.List.{flat_map}
 use Rattle.std.specs.Str.{IsUtf8}
 use Rattle.ov_ids.specs.Members.{Has}
 use Rattle.ov_dump.specs.FirstEntries.{AreFirsts}
-use Rattle.ov_dump.specs.declared.dump_values.Dump.{Dump}
-use Rattle.ov_dump.specs.declared.dump_values.Entry.{Entry}
-use Rattle.ov_dump.specs.declared.dump_values.Listing.{Listing}
+use Rattle.ov_dump.specs.declared.dump_and_graph_types.Dump.{Dump}
+use Rattle.ov_dump.specs.declared.dump_and_graph_types.Entry.{Entry}
+use Rattle.ov_dump.specs.declared.dump_and_graph_types.Listing.{Listing}
 use Rattle.ov_dot.specs.Tokens.{Lexeme}
 use Rattle.ov_dot.specs.Names.{text_of}
 use Rattle.ov_dot.specs.Sayings.{Said}

@@ -2,20 +2,20 @@
 //! them list each other.
 #![tactic(auto)]
 
-mod diagram_place;
 mod dot_reading;
 mod dump_making;
 mod fault;
+mod grammar_state;
+mod lexeme_scanning;
 mod name_reading;
-mod part_scanning;
+mod same_tokens_theorem;
 mod statement_reading;
-mod theorems;
 mod token;
 mod token_reading;
-mod token_theorems;
+mod unique_tokens_theorems;
 
 pub use dot_reading::read_dot;
 pub use fault::{DotFault, Why};
-pub use theorems::one_saying;
+pub use same_tokens_theorem::one_saying;
 pub use token::{Kind, Token};
-pub use token_theorems::{no_reading, no_torn_reading, one_reading};
+pub use unique_tokens_theorems::{no_reading, no_torn_reading, one_reading};

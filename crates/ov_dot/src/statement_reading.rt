@@ -5,8 +5,8 @@ ghost use Rattle.ov_dot.specs.Code.Statements.{name_behind, place_behind, said_b
 ghost use Rattle.ov_dot.specs.Sayings.{nothing_said, with_edge, Said};
 ghost use Rattle.ov_dot.specs.Code.Seen.{reading, said_in, Gives};
 
-use crate::diagram_place::{Place, follows, why_not};
 use crate::fault::{DotFault, Why};
+use crate::grammar_state::{Place, follows, why_not};
 use crate::{Kind, Token};
 use std::alloc::Global;
 

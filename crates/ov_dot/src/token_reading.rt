@@ -3,7 +3,7 @@ ghost use Rattle.ov_dot.specs.Tokens.{feeds, lexemes, token_at, HasTokens};
 ghost use Rattle.ov_dot.specs.declared.token_reading.TextFault.TheVariants.{OutOfMemory};
 ghost use Rattle.ov_dot.specs.Code.TokenFaults.{Faults};
 
-use crate::part_scanning::{comment_len, part_len};
+use crate::lexeme_scanning::{comment_len, part_len};
 use crate::token::{Kind, Token, is_word, kind_of, sticks};
 use std::alloc::{AllocError, AllocFailed, Global};
 

@@ -6,9 +6,9 @@ use Rattle.ov_ids.proofs.Members.{has_append_cases, has_append_left, has_append_
 use Rattle.ov_dump.specs.Dumps.{ends_of, names_of}
 use Rattle.ov_dump.specs.Code.Listed.{AreUnanswered, AreWithoutEntry, IsUnanswered, Missing}
 use Rattle.ov_dump.specs.Names.{ComesBefore}
-use Rattle.ov_dump.specs.declared.dump_values.Dump.{Dump}
-use Rattle.ov_dump.specs.declared.dump_values.Entry.{Entry}
-use Rattle.ov_dump.specs.declared.dump_values.Listing.{Listing}
+use Rattle.ov_dump.specs.declared.dump_and_graph_types.Dump.{Dump}
+use Rattle.ov_dump.specs.declared.dump_and_graph_types.Entry.{Entry}
+use Rattle.ov_dump.specs.declared.dump_and_graph_types.Listing.{Listing}
 use Rattle.ov_dump.proofs.Places.{ordered_more, within}
 use Rattle.ov_dump.proofs.Sounding.{names_more}
 

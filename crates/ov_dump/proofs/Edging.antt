@@ -5,8 +5,8 @@ use Rattle.std.specs.List.{flat_map}
 use Rattle.ov_ids.specs.Members.{Has}
 use Rattle.ov_lines.specs.Lines.{kept_lines}
 use Rattle.ov_dump.specs.FirstEntries.{AreFirsts}
-use Rattle.ov_dump.specs.declared.dump_values.Entry.{Entry}
-use Rattle.ov_dump.specs.declared.dump_values.Listing.{Listing}
+use Rattle.ov_dump.specs.declared.dump_and_graph_types.Entry.{Entry}
+use Rattle.ov_dump.specs.declared.dump_and_graph_types.Listing.{Listing}
 use Rattle.ov_dump.specs.Code.Reading.{FailsAtLine, TakesEnds, TakesEntry}
 use Rattle.ov_dump.specs.EdgeLines.{IsBlankLine, IsEdge, IsReadable}
 use Rattle.ov_dump.specs.Edges.{Edge, IsEdgesFault, IsUnreadAt, SayEdges, SaysEdges, ends_of}
@@ -14,7 +14,7 @@ use Rattle.ov_dump.specs.Edges.{listings_of}
 use Rattle.ov_dump.specs.declared.reading_fault.ReadingFault.{ReadingFault}
 use Rattle.ov_dump.specs.declared.reading_fault.ReadingFault.TheVariants.{NotJson, NotViews, NoView, UnreadLine}
 use Rattle.ov_dump.specs.declared.reading_fault.ReadingFault.TheVariants.{OutOfMemory}
-use Rattle.ov_dump.specs.declared.unread_line.Why.{Why}
+use Rattle.ov_dump.specs.declared.unread_edge_line_reason.Why.{Why}
 
 -- ---- the first entries
 

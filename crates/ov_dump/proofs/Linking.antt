@@ -10,9 +10,9 @@ use Rattle.ov_dump.specs.Code.Numbering.{Follows, NodeLists}
 use Rattle.ov_dump.specs.Dumps.{AreLinked, IsGraphOf, IsNameOf, IsTaken, Lists, numbers}
 use Rattle.ov_dump.specs.Faults.{AreSoundListings}
 use Rattle.ov_dump.specs.Names.{ComesBefore}
-use Rattle.ov_dump.specs.declared.dump_values.Choice.{Choice}
-use Rattle.ov_dump.specs.declared.dump_values.Dump.{Dump}
-use Rattle.ov_dump.specs.declared.dump_values.Listing.{Listing}
+use Rattle.ov_dump.specs.declared.dump_and_graph_types.Choice.{Choice}
+use Rattle.ov_dump.specs.declared.dump_and_graph_types.Dump.{Dump}
+use Rattle.ov_dump.specs.declared.dump_and_graph_types.Listing.{Listing}
 use Rattle.ov_dump.proofs.NameLists.{same_names}
 use Rattle.ov_dump.proofs.Numbered.{lists_more, name_one, none_lists, sound_differ}
 use Rattle.ov_dump.proofs.Places.{cases_lt}

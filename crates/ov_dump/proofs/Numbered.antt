@@ -15,7 +15,7 @@ use Rattle.ov_dump.specs.Code.Numbering.{NodeLists}
 use Rattle.ov_dump.specs.Dumps.{IsNameOf, ends_of, numbers}
 use Rattle.ov_dump.specs.Faults.{AreSoundListings, IsSoundListing}
 use Rattle.ov_dump.specs.Names.{ComesBefore}
-use Rattle.ov_dump.specs.declared.dump_values.Listing.{Listing}
+use Rattle.ov_dump.specs.declared.dump_and_graph_types.Listing.{Listing}
 use Rattle.ov_dump.proofs.Answering.{ends_append}
 use Rattle.ov_dump.proofs.NameLists.{one_way, tie, ties}
 use Rattle.ov_dump.proofs.Places.{cases_lt, member_at, place_of, within}

@@ -23,10 +23,10 @@ use Rattle.ov_graphfile.proofs.Sole.{skipped_none}
 use Rattle.ov_dump.specs.Dumps.{HasEntry, IsNameOf, IsTaken, Lists, ends_of, names_of, numbers}
 use Rattle.ov_dump.specs.Dumps as dumps
 use Rattle.ov_dump.specs.Faults.{AreSoundListings, IsSound}
-use Rattle.ov_dump.specs.declared.dump_values.Choice.{Choice}
-use Rattle.ov_dump.specs.declared.dump_values.Dump.{Dump}
-use Rattle.ov_dump.specs.declared.dump_values.Entry.{Entry}
-use Rattle.ov_dump.specs.declared.dump_values.Listing.{Listing}
+use Rattle.ov_dump.specs.declared.dump_and_graph_types.Choice.{Choice}
+use Rattle.ov_dump.specs.declared.dump_and_graph_types.Dump.{Dump}
+use Rattle.ov_dump.specs.declared.dump_and_graph_types.Entry.{Entry}
+use Rattle.ov_dump.specs.declared.dump_and_graph_types.Listing.{Listing}
 use Rattle.ov_dump.proofs.Numbered.{name_is, name_one, named_node, node_one}
 use Rattle.ov_dump.specs.ShownNames.{shown_text}
 use Rattle.ov_dump.specs.ImportTheorems.{IsShownNameOf, NamesAreRead, NamesComeBack, NamesDiffer}

@@ -6,10 +6,10 @@ use Rattle.ov_dump.specs.Code.Judging.{EntryFails, ListingFails}
 use Rattle.ov_dump.specs.Dumps.{names_of}
 use Rattle.ov_dump.specs.Faults.{AreSoundEntries, AreSoundListings, IsDumpFault, IsEntryFlaw, IsFlaw, IsListingFlaw}
 use Rattle.ov_dump.specs.Faults.{IsSoundListing}
-use Rattle.ov_dump.specs.declared.dump_values.Choice.{Choice}
-use Rattle.ov_dump.specs.declared.dump_values.Dump.{Dump}
-use Rattle.ov_dump.specs.declared.dump_values.Entry.{Entry}
-use Rattle.ov_dump.specs.declared.dump_values.Listing.{Listing}
+use Rattle.ov_dump.specs.declared.dump_and_graph_types.Choice.{Choice}
+use Rattle.ov_dump.specs.declared.dump_and_graph_types.Dump.{Dump}
+use Rattle.ov_dump.specs.declared.dump_and_graph_types.Entry.{Entry}
+use Rattle.ov_dump.specs.declared.dump_and_graph_types.Listing.{Listing}
 use Rattle.ov_dump.specs.declared.fault.DumpFault.{DumpFault}
 use Rattle.ov_dump.specs.declared.fault.DumpFault.TheVariants.{NameTwice, ListsItself, EmptyName, TooManyNodes}
 use Rattle.ov_dump.specs.declared.fault.DumpFault.TheVariants.{OutOfMemory}

@@ -5,8 +5,8 @@ use Rattle.ov_dump.specs.Code.Reading.{behind, behind_comma, behind_gap, end_of,
 use Rattle.ov_dump.specs.Code.Reading.{next_of, second_name, text_of}
 use Rattle.ov_dump.specs.EdgeLines.{AreBlanks, EndsName, IsComma, IsReadable, IsWhy, before_mark, is_blank}
 use Rattle.ov_dump.specs.EdgeLines.{is_name_byte}
-use Rattle.ov_dump.specs.declared.unread_line.Why.TheVariants.{CommaFirst, TwoCommas, CommaLast, OneName}
-use Rattle.ov_dump.specs.declared.unread_line.Why.TheVariants.{ThirdWord, NoText}
+use Rattle.ov_dump.specs.declared.unread_edge_line_reason.Why.TheVariants.{CommaFirst, TwoCommas, CommaLast, OneName}
+use Rattle.ov_dump.specs.declared.unread_edge_line_reason.Why.TheVariants.{ThirdWord, NoText}
 use Rattle.ov_dump.proofs.Lines.{StopsAt, all_pass, behind_stopped, behind_stops, blank, edge, front_passes}
 use Rattle.ov_dump.proofs.Lines.{gap_of, other_name, parts, two_names}
 

@@ -7,9 +7,9 @@ use Rattle.json.specs.Json.{Json, null, boolean, number, string, array, object, 
 use Rattle.json.specs.Json.{Members, no_members, member}
 use Rattle.json.specs.Value.{items_view, members_view, value_view}
 use Rattle.json.specs.declared.value.Value.{Value}
-use Rattle.ov_dump.specs.declared.dump_values.Dump.{Dump}
-use Rattle.ov_dump.specs.declared.dump_values.Entry.{Entry}
-use Rattle.ov_dump.specs.declared.dump_values.Listing.{Listing}
+use Rattle.ov_dump.specs.declared.dump_and_graph_types.Dump.{Dump}
+use Rattle.ov_dump.specs.declared.dump_and_graph_types.Entry.{Entry}
+use Rattle.ov_dump.specs.declared.dump_and_graph_types.Listing.{Listing}
 use Rattle.ov_dump.specs.Code.Reading.{FailsAt, FailsFrom, IsDumpIn, IsNoObject, as_items, as_members}
 use Rattle.ov_dump.specs.Views.{IsJson, IsViewsFault, SayDump, SaysViews, listings_of, peers, texts}
 use Rattle.ov_dump.specs.declared.reading_fault.ReadingFault.{ReadingFault}

@@ -4,10 +4,10 @@ use Rattle.std.specs.Prelude.{Some, MatchBool}
 use Rattle.ov_ids.specs.Members.{Has, Ordered}
 use Rattle.ov_graph.specs.Links.{LinkGraph, IsGraph, Linked}
 use Rattle.ov_dump.specs.Names.{ComesBefore}
-use Rattle.ov_dump.specs.declared.dump_values.Choice.{Choice}
-use Rattle.ov_dump.specs.declared.dump_values.Dump.{Dump}
-use Rattle.ov_dump.specs.declared.dump_values.Entry.{Entry}
-use Rattle.ov_dump.specs.declared.dump_values.Listing.{Listing}
+use Rattle.ov_dump.specs.declared.dump_and_graph_types.Choice.{Choice}
+use Rattle.ov_dump.specs.declared.dump_and_graph_types.Dump.{Dump}
+use Rattle.ov_dump.specs.declared.dump_and_graph_types.Entry.{Entry}
+use Rattle.ov_dump.specs.declared.dump_and_graph_types.Listing.{Listing}
 
 -- ---- what a dump says
 

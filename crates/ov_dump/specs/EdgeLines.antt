@@ -3,9 +3,9 @@
 use Rattle.std.specs.Prelude.{◌≡◌, ◌≢◌, ◌⊎◌, ⊤, ℕ, Bool, true, false, IsTrue, not, nat_eq, ◌&&◌, ◌||◌}
 use Rattle.std.specs.Prelude.{List, [], ◌∷◌, ◌++◌, IsUtf8, if◌then◌else◌}
 use Rattle.std.specs.List.{AllByRecursion}
-use Rattle.ov_dump.specs.declared.unread_line.Why.{Why}
-use Rattle.ov_dump.specs.declared.unread_line.Why.TheVariants.{CommaFirst, TwoCommas, CommaLast, OneName}
-use Rattle.ov_dump.specs.declared.unread_line.Why.TheVariants.{ThirdWord, NoText}
+use Rattle.ov_dump.specs.declared.unread_edge_line_reason.Why.{Why}
+use Rattle.ov_dump.specs.declared.unread_edge_line_reason.Why.TheVariants.{CommaFirst, TwoCommas, CommaLast, OneName}
+use Rattle.ov_dump.specs.declared.unread_edge_line_reason.Why.TheVariants.{ThirdWord, NoText}
 
 -- a space or a tab
 abbrev pub is_blank : ℕ → Bool

@@ -3,14 +3,14 @@ use Rattle.std.specs.Prelude.{◌≡◌, ◌⊎◌, ⊤, ℕ, List, [], ◌∷�
 use Rattle.std.specs.List.{flat_map}
 use Rattle.ov_lines.specs.Lines.{kept_lines}
 use Rattle.ov_dump.specs.FirstEntries.{AreFirsts}
-use Rattle.ov_dump.specs.declared.dump_values.Dump.{Dump}
-use Rattle.ov_dump.specs.declared.dump_values.Entry.{Entry}
-use Rattle.ov_dump.specs.declared.dump_values.Listing.{Listing}
+use Rattle.ov_dump.specs.declared.dump_and_graph_types.Dump.{Dump}
+use Rattle.ov_dump.specs.declared.dump_and_graph_types.Entry.{Entry}
+use Rattle.ov_dump.specs.declared.dump_and_graph_types.Listing.{Listing}
 use Rattle.ov_dump.specs.EdgeLines.{IsBlankLine, IsEdge, IsReadable, IsWhy}
 use Rattle.ov_dump.specs.declared.reading_fault.ReadingFault.{ReadingFault}
 use Rattle.ov_dump.specs.declared.reading_fault.ReadingFault.TheVariants.{UnreadLine}
 use Rattle.ov_dump.specs.declared.reading_fault.ReadingFault.TheVariants.{OutOfMemory}
-use Rattle.ov_dump.specs.declared.unread_line.Why.{Why}
+use Rattle.ov_dump.specs.declared.unread_edge_line_reason.Why.{Why}
 
 -- two names, and the number of their line
 pub record Edge : Type 0 where

@@ -1,7 +1,7 @@
 -- One entry for each name, where a file may name a node more than once.
 use Rattle.std.specs.Prelude.{◌≡◌, ◌⊎◌, ℕ, List, [], ◌∷◌}
 use Rattle.ov_ids.specs.Members.{Has}
-use Rattle.ov_dump.specs.declared.dump_values.Entry.{Entry}
+use Rattle.ov_dump.specs.declared.dump_and_graph_types.Entry.{Entry}
 
 -- `entries` are those of `all` that are the first of their name, in order; the names that were seen before are not
 -- among them

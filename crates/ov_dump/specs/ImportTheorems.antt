@@ -1,8 +1,8 @@
 -- Theorems about the names in an imported file.
 use Rattle.std.specs.Prelude.{◌≡◌, ◌↔◌, ℕ, List, IsUtf8}
 use Rattle.ov_dump.specs.Dumps.{IsNameOf}
-use Rattle.ov_dump.specs.declared.dump_values.Choice.{Choice}
-use Rattle.ov_dump.specs.declared.dump_values.Dump.{Dump}
+use Rattle.ov_dump.specs.declared.dump_and_graph_types.Choice.{Choice}
+use Rattle.ov_dump.specs.declared.dump_and_graph_types.Dump.{Dump}
 use Rattle.ov_graphfile.specs.NameLines.{NameSaid, AreNamesOf}
 use Rattle.ov_graphfile.specs.NamesState.{NamesState, IsNamed}
 use Rattle.ov_dump.specs.Importing.{IsImportOf}

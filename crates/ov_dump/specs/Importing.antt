@@ -7,11 +7,11 @@ use Rattle.ov_graph.specs.Links.{LinkGraph, IsWithinLimit}
 use Rattle.ov_graphfile.specs.GraphTexts.{named_graph_text}
 use Rattle.ov_dump.specs.Dumps.{IsGraphOf}
 use Rattle.ov_dump.specs.Faults.{IsDumpFault, IsSound, number_of}
-use Rattle.ov_dump.specs.declared.dump_values.Choice.{Choice}
-use Rattle.ov_dump.specs.declared.dump_values.Dump.{Dump}
+use Rattle.ov_dump.specs.declared.dump_and_graph_types.Choice.{Choice}
+use Rattle.ov_dump.specs.declared.dump_and_graph_types.Dump.{Dump}
 use Rattle.ov_dump.specs.ShownNames.{shown_text}
-use Rattle.ov_dump.specs.declared.import_fault.ImportFault.{ImportFault}
-use Rattle.ov_dump.specs.declared.import_fault.ImportFault.TheVariants.{Refused, Write, OutOfMemory}
+use Rattle.ov_dump.specs.declared.refusal_or_write_fault.ImportFault.{ImportFault}
+use Rattle.ov_dump.specs.declared.refusal_or_write_fault.ImportFault.TheVariants.{Refused, Write, OutOfMemory}
 
 -- the number of each fault
 abbrev pub import_number : ImportFault → ℕ

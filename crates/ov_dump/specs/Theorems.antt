@@ -2,8 +2,8 @@
 use Rattle.std.specs.Prelude.{◌≡◌, ℕ, List}
 use Rattle.ov_graph.specs.Links.{LinkGraph}
 use Rattle.ov_dump.specs.Dumps.{IsGraphOf}
-use Rattle.ov_dump.specs.declared.dump_values.Choice.{Choice}
-use Rattle.ov_dump.specs.declared.dump_values.Dump.{Dump}
+use Rattle.ov_dump.specs.declared.dump_and_graph_types.Choice.{Choice}
+use Rattle.ov_dump.specs.declared.dump_and_graph_types.Dump.{Dump}
 
 -- one graph with its names follows from a dump at most
 abbrev pub OneGraph : Type 0

@@ -4,8 +4,8 @@ use Rattle.std.specs.Prelude.{◌≡◌, ◌≢◌, ◌⊎◌, ⊤, ℕ, ◌+◌
 use Rattle.std.specs.Prelude.{option_map}
 use Rattle.json.specs.Json.{Json, string, array, object, Items, no_items, item}
 use Rattle.json.specs.Json.{Members, no_members, member, document}
-use Rattle.ov_dump.specs.declared.dump_values.Dump.{Dump}
-use Rattle.ov_dump.specs.declared.dump_values.Listing.{Listing}
+use Rattle.ov_dump.specs.declared.dump_and_graph_types.Dump.{Dump}
+use Rattle.ov_dump.specs.declared.dump_and_graph_types.Listing.{Listing}
 use Rattle.ov_dump.specs.declared.reading_fault.ReadingFault.{ReadingFault}
 use Rattle.ov_dump.specs.declared.reading_fault.ReadingFault.TheVariants.{NotJson, NotViews, NoView}
 use Rattle.ov_dump.specs.declared.reading_fault.ReadingFault.TheVariants.{OutOfMemory}

@@ -4,10 +4,10 @@ ghost use Rattle.ov_graphfile.specs.GraphTexts.{named_graph_text};
 ghost use Rattle.ov_io.specs.Device.{most_faults};
 ghost use Rattle.ov_dump.specs.Importing.{WasImported};
 ghost use Rattle.ov_dump.specs.ShownNames.{shown_text};
-ghost use Rattle.ov_dump.specs.declared.import_fault.ImportFault.TheVariants.{Write as write_failed};
+ghost use Rattle.ov_dump.specs.declared.refusal_or_write_fault.ImportFault.TheVariants.{Write as write_failed};
 
-use crate::import_fault::ImportFault;
-use crate::name_showing::shown_name;
+use crate::name_escaping::shown_name;
+use crate::refusal_or_write_fault::ImportFault;
 use crate::{Choice, Dump, Name, NamedGraph, named_graph};
 use ov_graph::Graph;
 use ov_graphfile::named_graph_text;

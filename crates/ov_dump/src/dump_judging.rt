@@ -5,7 +5,7 @@ ghost use Rattle.ov_dump.specs.Faults.{IsEntryFlaw, IsFlaw, IsListingFlaw};
 ghost use Rattle.ov_dump.specs.Code.Judging.{EntryFails, ListingFails};
 ghost use Rattle.ov_dump.specs.declared.fault.DumpFault.TheVariants.{OutOfMemory as out_of_memory};
 
-use crate::dump_values::{Dump, Entry, Listing};
+use crate::dump_and_graph_types::{Dump, Entry, Listing};
 use crate::fault::DumpFault;
 use crate::name::Name;
 use crate::name_set::NameSet;

@@ -5,9 +5,9 @@ ghost use Rattle.ov_dump.specs.Code.Reading.{FailsAtLine, TakesEnds, TakesEntry}
 
 use crate::edge_line::{EdgeLine, read_edge_line};
 use crate::name_set::NameSet;
-use crate::names_and_listings::{listing_of, name_of};
+use crate::names_from_texts::{listing_of, name_of};
 use crate::reading_fault::ReadingFault;
-use crate::unread_line::why_unread;
+use crate::unread_edge_line_reason::why_unread;
 use crate::{Dump, Entry, Listing};
 use ov_ids::{OutOfMemory, Seq};
 use ov_lines::KeptLines;

@@ -6,12 +6,12 @@ ghost use Rattle.ov_dump.specs.Faults.{AreSoundListings, IsDumpFault, IsSound};
 ghost use Rattle.ov_dump.specs.Names.{ComesBefore};
 ghost use Rattle.ov_dump.specs.Code.Numbering.{Follows, NodeLists};
 
+use crate::dump_and_graph_types::{Choice, Dump, Listing, NamedGraph};
 use crate::dump_judging::judge;
-use crate::dump_values::{Choice, Dump, Listing, NamedGraph};
 use crate::fault::DumpFault;
 use crate::listing_graphs::{ListingGraphs, listing_graphs};
 use crate::name::Name;
-use crate::name_taking::taken_names;
+use crate::node_names_by_choice::taken_names;
 use crate::node_numbering::unlinked_graph;
 use ov_graph::Graph;
 use ov_ids::{OutOfMemory, Seq};

@@ -6,7 +6,7 @@ ghost use Rattle.ov_dump.specs.Faults.{AreSoundListings, IsSoundListing};
 ghost use Rattle.ov_dump.specs.Names.{ComesBefore};
 ghost use Rattle.ov_dump.specs.Code.Numbering.{Follows, NodeLists};
 
-use crate::dump_values::Listing;
+use crate::dump_and_graph_types::Listing;
 use crate::name::Name;
 use crate::node_numbering::{node_of, unlinked_graph};
 use ov_graph::Graph;

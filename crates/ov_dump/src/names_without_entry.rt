@@ -3,7 +3,7 @@ ghost use Rattle.ov_ids.specs.Members.{Has};
 ghost use Rattle.ov_dump.specs.Dumps.{names_of};
 ghost use Rattle.ov_dump.specs.Code.Listed.{AreWithoutEntry, Missing};
 
-use crate::dump_values::{Dump, Entry, Listing};
+use crate::dump_and_graph_types::{Dump, Entry, Listing};
 use crate::name::Name;
 use crate::name_set::NameSet;
 use ov_ids::OutOfMemory;

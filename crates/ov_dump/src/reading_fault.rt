@@ -3,7 +3,7 @@ ghost use Rattle.ov_dump.specs.FaultNumbers.{number_of};
 ghost use Rattle.ov_dump.specs.declared.reading_fault.ReadingFault.TheVariants.{OutOfMemory as out_of_memory};
 
 use crate::Name;
-use crate::unread_line::Why;
+use crate::unread_edge_line_reason::Why;
 use ov_ids::OutOfMemory;
 use std::alloc::{AllocError, AllocFailed};
 use thiserror::Error;

@@ -3,7 +3,7 @@ ghost use Rattle.ov_ids.specs.Members.{Has};
 ghost use Rattle.ov_dump.specs.Dumps.{ends_of};
 ghost use Rattle.ov_dump.specs.Code.Listed.{AreUnanswered};
 
-use crate::dump_values::{Dump, Listing};
+use crate::dump_and_graph_types::{Dump, Listing};
 use crate::pair_set::PairSet;
 use ov_ids::OutOfMemory;
 use std::alloc::Global;

@@ -11,7 +11,7 @@ use Rattle.ov_cert.specs.declared.cert.Split.{Split}
 use Rattle.ov_fans.specs.Pieces.{level_of}
 use Rattle.ov_fans.specs.Cuts.{IsParted}
 use Rattle.ov_fans.specs.declared.piece.Piece.{Piece}
-use Rattle.ov_fans.specs.declared.settled.Parting.{Parting}
+use Rattle.ov_fans.specs.declared.piece_result.Parting.{Parting}
 use Rattle.ov_even.specs.First.{IsFirst}
 use Rattle.ov_even.specs.Faults.{GroupJudged}
 use Rattle.ov_even.specs.declared.fault.AnalyseFault.{AnalyseFault}

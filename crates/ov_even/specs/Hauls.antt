@@ -7,7 +7,7 @@ use Rattle.ov_fans.specs.Pieces.{IsPiece, IsLinkedPair, level_of}
 use Rattle.ov_fans.specs.Cuts.{IsRight}
 use Rattle.ov_fans.specs.Theorems.{IsNoCut}
 use Rattle.ov_fans.specs.declared.piece.Piece.{Piece}
-use Rattle.ov_fans.specs.declared.settled.Settled.{Settled}
+use Rattle.ov_fans.specs.declared.piece_result.Settled.{Settled}
 use Rattle.ov_even.specs.Order.{ComesBefore, IsNumbered}
 use Rattle.ov_even.specs.declared.worker_haul.Haul.{Haul}
 

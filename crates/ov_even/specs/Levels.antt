@@ -6,7 +6,7 @@ use Rattle.ov_fans.specs.Pieces.{IsPiece, IsGood, level_of}
 use Rattle.ov_fans.specs.Cuts.{IsParted}
 use Rattle.ov_fans.specs.Theorems.{IsNoCut}
 use Rattle.ov_fans.specs.declared.piece.Piece.{Piece}
-use Rattle.ov_fans.specs.declared.settled.Settled.{Settled}
+use Rattle.ov_fans.specs.declared.piece_result.Settled.{Settled}
 use Rattle.ov_even.specs.Order.{ComesBefore, IsNumbered, AreSoMany}
 use Rattle.ov_even.specs.Hauls.{IsInHauls, IsCleared}
 use Rattle.ov_even.specs.declared.cut_search.PartedPiece.{PartedPiece}

@@ -8,8 +8,8 @@ use Rattle.ov_fans.specs.Cuts.{AreRightPaths}
 use Rattle.ov_fans.specs.declared.piece.Piece.{Piece}
 use Rattle.ov_even.specs.First.{IsFirst}
 use Rattle.ov_even.specs.Order.{ComesBefore}
-use Rattle.ov_even.specs.declared.path_naming.FoundPaths.{FoundPaths}
-use Rattle.ov_even.specs.declared.path_naming.NamedPaths.{NamedPaths}
+use Rattle.ov_even.specs.declared.paths_by_ids.FoundPaths.{FoundPaths}
+use Rattle.ov_even.specs.declared.paths_by_ids.NamedPaths.{NamedPaths}
 
 -- a piece of the level that is no linked pair
 abbrev pub IsUnlinked : LinkGraph → List ℕ → ℕ → Piece → Type 0

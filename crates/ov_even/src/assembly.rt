@@ -9,11 +9,11 @@ ghost use Rattle.ov_even.specs.Code.Cuts.{IsDeciding};
 ghost use Rattle.ov_even.specs.declared.fault.AnalyseFault.TheVariants.{OutOfMemory as out_of_memory};
 
 use crate::certificate_entries::{Entries, entries_of};
-use crate::certificate_outline::linked_cert;
-use crate::certificate_pieces::wanted_paths;
+use crate::certificate_without_paths::linked_cert;
 use crate::fault::AnalyseFault;
 use crate::first_piece_with_cut::first_cut;
-use crate::path_naming::{NamedPaths, name_paths};
+use crate::paths_by_ids::{NamedPaths, name_paths};
+use crate::paths_wanted_by_certificate::wanted_paths;
 use crate::worker_haul::Haul;
 use ov_cert::{Cert, Checked, Split};
 use ov_fans::{Found, Parting, Settled};

@@ -3,7 +3,7 @@ ghost use Rattle.std.specs.Prelude.{◌≡◌, ◌≤◌, length, IfOk};
 ghost use Rattle.ov_fans.specs.Pieces.{member_at};
 ghost use Rattle.ov_even.specs.Code.Entries.{AreNamedPieces, pair_entries, fan_entries};
 
-use crate::path_naming::NamedPaths;
+use crate::paths_by_ids::NamedPaths;
 use ov_cert::{FanPaths, PairPaths};
 use ov_fans::Piece;
 use ov_ids::{NodeId, OutOfMemory};

@@ -2,7 +2,7 @@
 ghost use Rattle.std.specs.Prelude.{◌↔◌, IsTrue, IfSome, IfNone, List, ◌++◌};
 ghost use Rattle.std.specs.Option.{option_copied};
 ghost use Rattle.ov_fans.specs.Theorems.{IsNoCut};
-ghost use Rattle.ov_fans.specs.declared.settled.Settled.{Settled as settled};
+ghost use Rattle.ov_fans.specs.declared.piece_result.Settled.{Settled as settled};
 ghost use Rattle.ov_even.specs.Code.Cuts.{IsEarlierCut, IsFirstCut, all_settled};
 ghost use Rattle.ov_even.specs.Code.Narrowing.{IsCutOf};
 

@@ -6,7 +6,7 @@ ghost use Rattle.ov_even.specs.Levels.{IsLevelGood};
 ghost use Rattle.ov_even.specs.Searching.{AreFewTries, SearchGoesOn};
 ghost use Rattle.ov_even.specs.Code.Narrowing.{HasDeciding, AreBounds, IsNext, SplitsWith, tries_left};
 
-use crate::failing_level::failing_level;
+use crate::failing_level_by_degree::failing_level;
 use ov_graph::Graph;
 use ov_ids::NodeId;
 use std::marker::Model;

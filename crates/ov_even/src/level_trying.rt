@@ -1,7 +1,7 @@
 //! Tries a level: settles its pieces in order, until one has a cut.
 ghost use Rattle.std.specs.Prelude.{◌≡◌, ◌↔◌, ◌<◌, ◌≤◌, [], ◌∷◌, length, IsTrue, IfOk};
 ghost use Rattle.ov_graph.specs.Links.{most_nodes};
-ghost use Rattle.ov_fans.specs.declared.settled.Found.TheVariants.{Linked as linked_found};
+ghost use Rattle.ov_fans.specs.declared.piece_result.Found.TheVariants.{Linked as linked_found};
 ghost use Rattle.ov_even.specs.Hauls.{AreRight};
 ghost use Rattle.ov_even.specs.Levels.{IsTried};
 

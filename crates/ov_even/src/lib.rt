@@ -5,37 +5,39 @@
 mod analysis;
 mod assembly;
 mod certificate_entries;
-mod certificate_outline;
-mod certificate_pieces;
+mod certificate_without_paths;
 mod cut_search;
-mod failing_level;
+mod even_test_theorems;
+mod failing_level_by_degree;
 mod fault;
 mod first_cut_of_level;
 mod first_piece_with_cut;
 mod level_bounds;
+mod level_path_slots;
 mod level_pieces;
 mod level_search;
 mod level_trying;
-mod path_naming;
-mod paths_by_piece;
+mod paths_by_ids;
+mod paths_wanted_by_certificate;
 mod piece_numbers;
 mod piece_order;
 mod progress_watcher;
-mod theorems;
 mod worker_haul;
 
 pub use analysis::{analyse_alone, analyse_group_alone, analyse_group_watched};
 pub use assembly::{assemble, assemble_group, assemble_named};
-pub use certificate_outline::{linked_cert, outline_group_watched, outline_of};
-pub use certificate_pieces::wanted_paths;
+pub use certificate_without_paths::{linked_cert, outline_group_watched, outline_of};
 pub use cut_search::{CutSearch, CutSearched, PartedPiece};
+pub use even_test_theorems::{
+    first_exists, first_gives_number, good_or_cut, one_answer, one_first,
+};
 pub use fault::AnalyseFault;
 pub use level_search::{LevelSearch, Searched};
 pub use ov_fans::Piece;
-pub use path_naming::{FoundPaths, NamedPaths, name_paths};
+pub use paths_by_ids::{FoundPaths, NamedPaths, name_paths};
+pub use paths_wanted_by_certificate::wanted_paths;
 pub use piece_numbers::{
     LevelNumbers, group_piece_at, group_total, level_numbers, piece_at, total,
 };
 pub use progress_watcher::{Unwatched, Watcher};
-pub use theorems::{first_exists, first_gives_number, good_or_cut, one_answer, one_first};
 pub use worker_haul::Haul;

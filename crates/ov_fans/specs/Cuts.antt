@@ -8,10 +8,10 @@ use Rattle.ov_flow.specs.Flow.{ArePlaces}
 use Rattle.ov_fans.specs.Pieces.{member_at, level_of, source_of, IsTarget, IsLinkedPair, AreAskedPaths, paths_of}
 use Rattle.ov_fans.specs.declared.piece.Piece.{Piece}
 use Rattle.ov_fans.specs.declared.piece.Piece.TheVariants.{Pair, Fan}
-use Rattle.ov_fans.specs.declared.settled.Parting.{Parting}
-use Rattle.ov_fans.specs.declared.settled.Found.{Found}
-use Rattle.ov_fans.specs.declared.settled.Found.TheVariants.{Linked, Paths, Cut}
-use Rattle.ov_fans.specs.declared.settled.Settled.{Settled}
+use Rattle.ov_fans.specs.declared.piece_result.Parting.{Parting}
+use Rattle.ov_fans.specs.declared.piece_result.Found.{Found}
+use Rattle.ov_fans.specs.declared.piece_result.Found.TheVariants.{Linked, Paths, Cut}
+use Rattle.ov_fans.specs.declared.piece_result.Settled.{Settled}
 
 -- the members that a cut of the piece may not have: its source, and for a pair the other member too
 abbrev pub spared : List ℕ → Piece → List ℕ

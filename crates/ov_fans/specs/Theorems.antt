@@ -4,10 +4,10 @@ use Rattle.ov_graph.specs.Links.{LinkGraph, IsGraph}
 use Rattle.ov_fans.specs.Pieces.{IsGood}
 use Rattle.ov_fans.specs.Cuts.{IsParted, IsRight}
 use Rattle.ov_fans.specs.declared.piece.Piece.{Piece}
-use Rattle.ov_fans.specs.declared.settled.Parting.{Parting}
-use Rattle.ov_fans.specs.declared.settled.Found.{Found}
-use Rattle.ov_fans.specs.declared.settled.Found.TheVariants.{Linked, Paths, Cut}
-use Rattle.ov_fans.specs.declared.settled.Settled.{Settled}
+use Rattle.ov_fans.specs.declared.piece_result.Parting.{Parting}
+use Rattle.ov_fans.specs.declared.piece_result.Found.{Found}
+use Rattle.ov_fans.specs.declared.piece_result.Found.TheVariants.{Linked, Paths, Cut}
+use Rattle.ov_fans.specs.declared.piece_result.Settled.{Settled}
 
 -- a piece has at most one parting: two have the same cut, near, far and side
 abbrev pub SameCut : Type 0

@@ -3,19 +3,19 @@
 
 mod bit_counts;
 mod bit_row_nodes;
-mod far_member;
 mod group_member_places;
+mod member_beyond_cut;
 mod piece;
 mod piece_net;
 mod piece_paths_by_ids;
-mod settled;
-mod settler;
+mod piece_result;
+mod piece_result_theorems;
+mod piece_solver;
 mod short_paths;
-mod theorems;
 
 pub use bit_counts::shared_bits;
 pub use piece::Piece;
 pub use piece_paths_by_ids::asked_paths;
-pub use settled::{Found, Parting, Settled};
-pub use settler::{Settler, settle, settle_group};
-pub use theorems::{right_decides, same_cut};
+pub use piece_result::{Found, Parting, Settled};
+pub use piece_result_theorems::{right_decides, same_cut};
+pub use piece_solver::{Settler, settle, settle_group};

@@ -7,7 +7,7 @@ use crate::piece::Piece;
 use ov_flow::PlacePaths;
 use ov_graph::Graph;
 use ov_ids::{NodeId, OutOfMemory};
-use ov_paths::Paths;
+use ov_lists::Paths;
 use std::alloc::Global;
 
 /// The paths of a settled piece by ids. They are those that the piece asks for (Even, SIAM J. Comput. 4, 1975): for a

@@ -11,7 +11,7 @@ use Rattle.ov_split.specs.SplitNetState.{SplitNetState}
 use Rattle.ov_split.specs.Code.Residual.{Table}
 use Rattle.ov_split.specs.Placed.{IsPlaced}
 use Rattle.ov_split.proofs.Augmenting.Lists.{distinct_length, distinct_push}
-use Rattle.ov_flow.specs.declared.walk_taking.Hop.{Hop}
+use Rattle.ov_flow.specs.declared.walk_augmentation.Hop.{Hop}
 use Rattle.ov_flow.specs.Code.Reached.{tip_of, IsWay, IsStepBy, IsTree}
 use Rattle.ov_flow.specs.Code.Walked.{table_of, IsTable, nodes_of, Goes, IsWalkBy, end_of, IsNextHop}
 use Rattle.ov_flow.proofs.Visiting.{tip_below}

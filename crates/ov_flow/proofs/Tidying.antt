@@ -10,7 +10,7 @@ use Rattle.ov_split.specs.SplitNetState.{SplitNetState, IsSplitNet}
 use Rattle.ov_split.specs.Code.Residual.{Table, AreHeld, IsTidy, IsFlow}
 use Rattle.ov_split.specs.Placed.{IsPlaced}
 use Rattle.ov_split.proofs.Augmenting.Move.{leads_map, start_held}
-use Rattle.ov_flow.specs.declared.walk_taking.Hop.{Hop}
+use Rattle.ov_flow.specs.declared.walk_augmentation.Hop.{Hop}
 use Rattle.ov_flow.specs.Code.Reached.{IsWay, IsStepBy}
 use Rattle.ov_flow.specs.Code.Walked.{IsFlowBefore}
 use Rattle.ov_flow.proofs.Copying.{held_turned}

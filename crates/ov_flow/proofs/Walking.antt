@@ -12,7 +12,7 @@ use Rattle.ov_split.specs.SplitNetState.{SplitNetState}
 use Rattle.ov_split.specs.Code.Residual.{Table, AreHeld}
 use Rattle.ov_split.specs.Placed.{IsPlaced}
 use Rattle.ov_split.proofs.Augmenting.Move.{push_held, back_held}
-use Rattle.ov_flow.specs.declared.walk_taking.Hop.{Hop}
+use Rattle.ov_flow.specs.declared.walk_augmentation.Hop.{Hop}
 use Rattle.ov_flow.specs.declared.search_tree.Tree.{Tree}
 use Rattle.ov_flow.specs.Code.Reached.{IsWay, IsStepBy, IsTree, IsShaped, IsGrown}
 use Rattle.ov_flow.specs.Code.Walked.{table_of, nodes_of, Goes, IsWalkBy}

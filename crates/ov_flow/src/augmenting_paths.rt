@@ -12,7 +12,7 @@ use crate::path_search::search;
 use crate::path_table::{clear, empty_table, replace_paths};
 use crate::search_tree::{Tree, new_tree};
 use crate::two_link_paths::take_two_links;
-use crate::walk_taking::{Hop, walk_back};
+use crate::walk_augmentation::{Hop, walk_back};
 use ov_split::SplitNet;
 use std::alloc::{AllocError, Global};
 

@@ -7,7 +7,7 @@ ghost use Rattle.ov_flow.specs.Flow.{ended_by};
 ghost use Rattle.ov_flow.specs.Code.Flat.{paths_after, paths_in};
 
 use ov_ids::{NodeId, OutOfMemory};
-use ov_paths::PathsBuilder;
+use ov_lists::PathsBuilder;
 
 /// The source, which is the last place of a flat list, or 0 if the list is empty.
 pub(crate) fn source_in(flat: &[u16]) -> u16

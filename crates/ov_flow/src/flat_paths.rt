@@ -11,7 +11,7 @@ ghost use Rattle.ov_flow.specs.Code.Held.{IsReady};
 use crate::flat_path_reading::{count_paths, push_by_ids, source_in, split_path};
 use ov_graph::Graph;
 use ov_ids::{NodeId, OutOfMemory};
-use ov_paths::{Paths, PathsBuilder};
+use ov_lists::{Paths, PathsBuilder};
 use ov_split::SplitNet;
 use std::alloc::{AllocError, Global};
 use std::marker::Model;

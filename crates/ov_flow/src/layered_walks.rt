@@ -13,7 +13,7 @@ use crate::augmenting_paths::Work;
 use crate::layers::{Layers, set_layers};
 use crate::path_search::tip;
 use crate::path_table::keep_paths;
-use crate::walk_taking::{Hop, take_hops};
+use crate::walk_augmentation::{Hop, take_hops};
 use ov_graph::row::{WORDS, both, clear, first_from, has, put};
 use ov_split::SplitNet;
 

@@ -13,7 +13,7 @@ mod path_table;
 mod search_result;
 mod search_tree;
 mod two_link_paths;
-mod walk_taking;
+mod walk_augmentation;
 
 pub use flat_paths::PlacePaths;
 pub use flow::Flow;

@@ -6,7 +6,7 @@ ghost use Rattle.ov_split.specs.Places.{net_by_place};
 ghost use Rattle.ov_flow.specs.Code.Walked.{table_of, IsWalkBy, IsPathCopied, IsFlowBefore};
 ghost use Rattle.ov_flow.specs.Code.Held.{IsReady};
 
-use crate::walk_taking::{Hop, take_hops};
+use crate::walk_augmentation::{Hop, take_hops};
 use ov_split::SplitNet;
 use std::alloc::{AllocError, Global};
 

@@ -3,18 +3,18 @@
 
 mod adjacency_rows;
 mod changing;
+mod even_test_and_unique_number;
 mod fault;
 mod first_fault;
 mod graph;
 mod link_iterators;
 mod places;
 pub mod row;
-mod row_shift;
+mod row_bit_insertion;
 mod same;
-mod theorems;
 
+pub use even_test_and_unique_number::{even_suffices, one_number};
 pub use fault::{GraphFault, LinkFlaw};
 pub use graph::Graph;
 pub use link_iterators::{Links, Neighbours};
 pub use places::is_member;
-pub use theorems::{even_suffices, one_number};

@@ -7,7 +7,7 @@ use Rattle.ov_scenario.specs.declared.scenario.Line.TheVariants as line
 use Rattle.ov_recording.specs.Acts.{act_line, event_of}
 use Rattle.ov_recording.specs.Scripts.{scenario_of}
 use Rattle.ov_recording.specs.WrittenLines.{comment_line, ended}
-use Rattle.ov_recording.specs.declared.act.Act.{Act}
+use Rattle.ov_recording.specs.declared.recordable_event.Act.{Act}
 use Rattle.ov_recording.specs.Recordings.{HasOneLineMore}
 use Rattle.ov_grow.specs.Growth.{Does, Writes}
 use Rattle.ov_grow.specs.Code.Standing.{Goes}

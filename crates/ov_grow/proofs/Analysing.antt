@@ -12,7 +12,7 @@ use Rattle.ov_net.specs.World.{Stands}
 use Rattle.ov_snap.specs.CoreState.{CoreState, HasReport, HasReportOfAll, IsSound, KeepsReports}
 use Rattle.ov_snap.specs.ReportState.{IsTrueReport, ReportState}
 use Rattle.ov_snap.specs.Snapshots.{IsMoment}
-use Rattle.ov_snap.specs.declared.fault.CoreFault.TheVariants.{AlreadyFiled, NoNodes, NoSuchMoment}
+use Rattle.ov_snap.specs.declared.core_fault.CoreFault.TheVariants.{AlreadyFiled, NoNodes, NoSuchMoment}
 use Rattle.ov_run_meaning.specs.Subjects.{IsReported, WasAnalysed}
 use Rattle.ov_scenario.specs.declared.scenario.Line.{Line}
 use Rattle.ov_peer.specs.PeerState.{PeerState}

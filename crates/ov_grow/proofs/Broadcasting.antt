@@ -6,12 +6,12 @@ use Rattle.std.proofs.Math.Seq.{drop-cons}
 use Rattle.ov_ids.specs.declared.id.MsgId.{MsgId}
 use Rattle.ov_net.specs.Net.{LivesAs}
 use Rattle.ov_peer.specs.PeerState.{PeerState}
-use Rattle.ov_recording.specs.declared.act.Act.TheVariants as act
+use Rattle.ov_recording.specs.declared.recordable_event.Act.TheVariants as act
 use Rattle.ov_grow.specs.Growth.{Growth, Does, Chooses}
 use Rattle.ov_grow.specs.Turns.{RunOut}
 use Rattle.ov_grow.specs.Broadcasts.{BroadcastBy, BroadcastsBegin, Fire, FireAt, FireAtEach, FiresIfItRuns}
 use Rattle.ov_grow.specs.Broadcasts.{TimersFire}
-use Rattle.ov_grow.specs.declared.turn_rules.TurnRules.{TurnRules}
+use Rattle.ov_grow.specs.declared.packet_turn_rules.TurnRules.{TurnRules}
 use Rattle.ov_ids.specs.Members.{Has}
 use Rattle.ov_grow.proofs.Rounding.{drop_past}
 use Rattle.ov_grow.proofs.Turning.{Longer, AsLong, as_long_by, longer_by, does_longer}

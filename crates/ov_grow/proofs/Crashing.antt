@@ -13,7 +13,7 @@ use Rattle.rand_pcg.specs.Lcg.{Lcg}
 use Rattle.ov_ids.specs.Members.{Has, IsDistinct}
 use Rattle.ov_ids.proofs.Members.{ascends_distinct}
 use Rattle.ov_peer.specs.PeerState.{PeerState}
-use Rattle.ov_peer.specs.declared.input.Input.TheVariants as input
+use Rattle.ov_peer.specs.declared.input_and_output.Input.TheVariants as input
 use Rattle.ov_net.specs.Net.{Net}
 use Rattle.ov_net.specs.declared.member.Member.{Member}
 use Rattle.ov_net.specs.declared.member.Member.TheVariants.{Live, Gone}
@@ -30,7 +30,7 @@ use Rattle.ov_even.proofs.EvenTest.Splitting.{parted_splits}
 use Rattle.ov_net.specs.Journal.{AreLinks, LivesAfter, changes_of}
 use Rattle.ov_grow_options.specs.Limits.{most_share}
 use Rattle.ov_grow_options.specs.declared.options.GrowOptions.{GrowOptions}
-use Rattle.ov_recording.specs.declared.act.Act.TheVariants as act
+use Rattle.ov_recording.specs.declared.recordable_event.Act.TheVariants as act
 use Rattle.ov_grow.specs.Choices.{IsRandomOrder, later, one_of}
 use Rattle.ov_grow.specs.Growth.{Growth, Does, IsLive, SomebodyLives}
 use Rattle.ov_grow.specs.Rounds.{DoesEach}
@@ -38,7 +38,7 @@ use Rattle.ov_grow_options.specs.declared.options.Crash.{Crash}
 use Rattle.ov_grow_options.specs.declared.options.Crash.TheVariants.{Share, Cut}
 use Rattle.ov_grow.specs.Phases.{AreShareOfLive, AreToCrash, IsCutAt, cut_of, Births, Join, joining}
 use Rattle.ov_grow.specs.Code.Standing.{AllLive, HaveMade, MayCrash, StillLive}
-use Rattle.ov_grow.specs.declared.turn_rules.TurnRules.{TurnRules}
+use Rattle.ov_grow.specs.declared.packet_turn_rules.TurnRules.{TurnRules}
 use Rattle.ov_grow.proofs.Keeping.{keeps_same, lives_still, order_has, order_lives, turns_keep}
 use Rattle.ov_grow.proofs.Made.{none_made}
 use Rattle.ov_grow.proofs.Making.{MakesMost, makes_none, makes_then, run_out_keeps}

@@ -15,7 +15,7 @@ use Rattle.ov_ids.specs.FaultOrder.{HoldsThen, Passed}
 use Rattle.ov_ids.proofs.Stepping.{step_passes}
 use Rattle.ov_wire.specs.declared.message.Message.{Message}
 use Rattle.ov_peer.specs.PeerState.{PeerState}
-use Rattle.ov_peer.specs.declared.input.Delivery.{Delivery}
+use Rattle.ov_peer.specs.declared.input_and_output.Delivery.{Delivery}
 use Rattle.ov_net.specs.Limits.{most_world_nodes}
 use Rattle.ov_net.specs.Net.{Net, LivesAs, IsGone}
 use Rattle.ov_net.specs.NetStep.{Received}
@@ -30,7 +30,7 @@ use Rattle.ov_net.specs.declared.fault.NetFault.TheVariants.{NoTimer, PayloadToo
 use Rattle.ov_net.specs.declared.journal_entry_and_changes.Change.{Change}
 use Rattle.ov_net.specs.declared.member.Member.{Member}
 use Rattle.ov_net.specs.declared.member.Member.TheVariants.{Live, Gone}
-use Rattle.ov_recording.specs.declared.act.Act.TheVariants as act
+use Rattle.ov_recording.specs.declared.recordable_event.Act.TheVariants as act
 use Rattle.ov_grow.specs.Faults.{IsFull, of_event}
 use Rattle.ov_grow.specs.Growth.{Growth, Does, IsLive, SomebodyLives}
 use Rattle.ov_grow.specs.declared.fault.GrowFault.TheVariants.{OutOfMemory}
@@ -38,7 +38,7 @@ use Rattle.ov_grow.specs.Turns.{MayBeRepeated}
 use Rattle.ov_grow.specs.Code.Standing.{AreBorn, Fails, IsRefusedAct, MayBeTold, MayMake, growth_of}
 use Rattle.ov_grow.specs.declared.fault.GrowFault.{GrowFault}
 use Rattle.ov_grow.specs.declared.growing.Growing.{Growing}
-use Rattle.ov_grow.specs.declared.turn_rules.TurnRules.{TurnRules}
+use Rattle.ov_grow.specs.declared.packet_turn_rules.TurnRules.{TurnRules}
 
 -- the end of a chain has no fault
 passed_some : {E : Type 0} (f : E) → ¬ Passed (Some f)

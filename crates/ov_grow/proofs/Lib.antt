@@ -21,3 +21,8 @@ pub mod Keeping
 pub mod Made
 pub mod Making
 pub mod Crashing
+pub mod Fitting
+pub mod Degrees
+pub mod Sharing
+pub mod OneRow
+pub mod Batches

@@ -16,9 +16,9 @@ use Rattle.ov_plum.specs.PlumState.{PlumState, is_linked}
 use Rattle.ov_plum.specs.PlumRows.{AllowedFrom, Delivered}
 use Rattle.ov_peer.specs.PeerState.{PeerState}
 use Rattle.ov_peer.specs.Step.{PeerStep, Told, TreePart}
-use Rattle.ov_peer.specs.declared.input.Delivery.{Delivery}
-use Rattle.ov_peer.specs.declared.input.Input.{Input}
-use Rattle.ov_peer.specs.declared.input.Input.TheVariants as input
+use Rattle.ov_peer.specs.declared.input_and_output.Delivery.{Delivery}
+use Rattle.ov_peer.specs.declared.input_and_output.Input.{Input}
+use Rattle.ov_peer.specs.declared.input_and_output.Input.TheVariants as input
 use Rattle.ov_net.proofs.Steps.Places.{some_way}
 
 -- an input that is no broadcast of the node's own

@@ -17,7 +17,7 @@ use Rattle.ov_plum.specs.PlumState.{most_broadcasts}
 use Rattle.ov_net.specs.Journal as journal
 use Rattle.ov_net.specs.World.{Stands}
 use Rattle.ov_grow_options.specs.declared.options.GrowOptions.{GrowOptions}
-use Rattle.ov_recording.specs.declared.act.Act.TheVariants as act
+use Rattle.ov_recording.specs.declared.recordable_event.Act.TheVariants as act
 use Rattle.ov_grow.specs.Growth.{Growth, Does, IsLive, SomebodyLives}
 use Rattle.ov_grow.specs.Turns.{RunOut}
 use Rattle.ov_grow.specs.Rounds.{DoesEach, Round, Rounds}
@@ -25,8 +25,8 @@ use Rattle.ov_grow.specs.Broadcasts.{BroadcastBy, Broadcasts, BroadcastsBegin, F
 use Rattle.ov_grow.specs.Broadcasts.{FiresIfItRuns}
 use Rattle.ov_grow.specs.Phases.{EndsPhase, IsAnalysedAt, ReportCrashes, ReportTimes, Settle, settling}
 use Rattle.ov_grow.specs.Code.Standing.{AllLive, HaveMade, MayMake, StillLive}
-use Rattle.ov_grow.specs.declared.phase.Phase.{Phase}
-use Rattle.ov_grow.specs.declared.turn_rules.TurnRules.{TurnRules}
+use Rattle.ov_grow.specs.declared.phase_outcome.Phase.{Phase}
+use Rattle.ov_grow.specs.declared.packet_turn_rules.TurnRules.{TurnRules}
 use Rattle.ov_grow.proofs.Keeping.{Keeps, keeps_same, keeps_trans, lives_still, shuffle_keeps, snapshot_keeps}
 use Rattle.ov_grow.proofs.Keeping.{report_keeps, timer_keeps, turns_keep}
 use Rattle.ov_grow.proofs.Made.{one_made}

@@ -4,7 +4,7 @@ use Rattle.std.proofs.Common.{inl, inr}
 use Rattle.std.proofs.lemmas.Option.{slice_get_read}
 use Rattle.rand_pcg.specs.Lcg.{Lcg}
 use Rattle.ov_ids.specs.declared.id.MsgId.{MsgId}
-use Rattle.ov_recording.specs.declared.act.Act.TheVariants as act
+use Rattle.ov_recording.specs.declared.recordable_event.Act.TheVariants as act
 use Rattle.ov_grow.specs.Choices.{one_of}
 use Rattle.ov_grow.specs.Choices.{later as later_choices}
 use Rattle.ov_grow.specs.Growth.{Growth, AreLive, Does}
@@ -14,7 +14,7 @@ use Rattle.ov_grow.specs.Broadcasts.{TimerRuns, TimersFire}
 use Rattle.ov_grow.specs.Code.Standing.{Goes, IsNoWay, growth_of}
 use Rattle.ov_grow.specs.declared.fault.GrowFault.{GrowFault}
 use Rattle.ov_grow.specs.declared.growing.Growing.{Growing}
-use Rattle.ov_grow.specs.declared.turn_rules.TurnRules.{TurnRules}
+use Rattle.ov_grow.specs.declared.packet_turn_rules.TurnRules.{TurnRules}
 use Rattle.ov_grow.proofs.Broadcasting.{fire_at_next, fire_each_next}
 use Rattle.ov_grow.proofs.Going.{IsOn, chosen, no_way_by, on_nowhere}
 use Rattle.ov_grow.proofs.OnePhase.{begin_follows, begin_rest, begun_follows, broadcasts_follow, broadcasts_rest}

@@ -3,7 +3,7 @@ use Rattle.std.proofs.Common.{◌≡◌, ℕ, suc, ◌+◌, ◌-◌, List, Some,
 use Rattle.std.specs.Prelude.{codes}
 use Rattle.ov_grow_options.specs.declared.options.GrowOptions.{GrowOptions}
 use Rattle.ov_recording.specs.WrittenLines.{comment_line}
-use Rattle.ov_recording.specs.declared.act.Act.TheVariants as act
+use Rattle.ov_recording.specs.declared.recordable_event.Act.TheVariants as act
 use Rattle.ov_grow.specs.Growth.{Growth, Chooses, Does, Writes}
 use Rattle.ov_grow.specs.Turns.{RunOut, TurnsUpTo}
 use Rattle.ov_grow.specs.Rounds.{AreLiveInOrder, DoesEach, Round}
@@ -11,7 +11,7 @@ use Rattle.ov_grow.specs.Phases.{Births, Join, joining, turns_between}
 use Rattle.ov_grow.specs.Code.Standing.{Goes, IsNoWay, growth_of}
 use Rattle.ov_grow.specs.declared.fault.GrowFault.{GrowFault}
 use Rattle.ov_grow.specs.declared.growing.Growing.{Growing}
-use Rattle.ov_grow.specs.declared.turn_rules.TurnRules.{TurnRules}
+use Rattle.ov_grow.specs.declared.packet_turn_rules.TurnRules.{TurnRules}
 use Rattle.ov_grow.proofs.Going.{no_way_by}
 use Rattle.ov_grow.proofs.OnePhase.{birth_follows, births_follow, births_rest, join_follows, join_rest, round_rest}
 use Rattle.ov_grow.proofs.OnePhase.{round_shuffles}

@@ -12,15 +12,15 @@ use Rattle.ov_net.specs.declared.event.Event.TheVariants as event
 use Rattle.ov_snap.specs.CoreState.{CoreState, IsSound}
 use Rattle.ov_snap.specs.Run.{Happened}
 use Rattle.ov_snap.specs.Snapshots.{IsMoment}
-use Rattle.ov_snap.specs.declared.fault.CoreFault.{CoreFault}
-use Rattle.ov_snap.specs.declared.fault.CoreFault.TheVariants.{AlreadyFiled, NoNodes, NoSuchMoment}
-use Rattle.ov_snap.specs.declared.fault.CoreFault.TheVariants as core_fault
+use Rattle.ov_snap.specs.declared.core_fault.CoreFault.{CoreFault}
+use Rattle.ov_snap.specs.declared.core_fault.CoreFault.TheVariants.{AlreadyFiled, NoNodes, NoSuchMoment}
+use Rattle.ov_snap.specs.declared.core_fault.CoreFault.TheVariants as core_fault
 use Rattle.ov_snap.proofs.Moments.{moment_new, moment_within}
 use Rattle.ov_run_meaning.specs.Subjects.{AnalysisJudged, IsReported}
 use Rattle.ov_recording.specs.Recordings.{all_of}
 use Rattle.ov_grow_options.specs.declared.options.GrowOptions.{GrowOptions}
 use Rattle.ov_recording.specs.WrittenLines.{comment_line}
-use Rattle.ov_recording.specs.declared.act.Act.TheVariants as act
+use Rattle.ov_recording.specs.declared.recordable_event.Act.TheVariants as act
 use Rattle.ov_grow.specs.Growth.{Growth, Does, SomebodyLives, Writes}
 use Rattle.ov_grow.specs.Turns.{RunOut}
 use Rattle.ov_grow.specs.Rounds.{DoesEach, Rounds}
@@ -32,8 +32,8 @@ use Rattle.ov_grow.specs.Code.Standing.{Goes, IsFresh, IsNoWay, growth_of}
 use Rattle.ov_grow.specs.declared.fault.GrowFault.{GrowFault}
 use Rattle.ov_grow.specs.declared.fault.GrowFault.TheVariants.{OutOfMemory}
 use Rattle.ov_grow.specs.declared.growing.Growing.{Growing}
-use Rattle.ov_grow.specs.declared.phase.Phase.{Phase}
-use Rattle.ov_grow.specs.declared.turn_rules.TurnRules.{TurnRules}
+use Rattle.ov_grow.specs.declared.phase_outcome.Phase.{Phase}
+use Rattle.ov_grow.specs.declared.packet_turn_rules.TurnRules.{TurnRules}
 use Rattle.ov_grow.proofs.Going.{IsOn, no_way_by, on_nowhere}
 use Rattle.ov_grow.proofs.OneGrowth.{one_act}
 use Rattle.ov_grow.proofs.OnePhase.{crash_follows, crash_rest, ending_rest, heal_follows, heal_rest, report_follows}

@@ -10,8 +10,8 @@ use Rattle.ov_net.specs.declared.fault.NetFault.{NetFault}
 use Rattle.ov_net.specs.declared.fault.NetFault.TheVariants as net_fault
 use Rattle.ov_net.proofs.Steps.Refusing.{refused_for_memory}
 use Rattle.ov_recording.specs.Acts.{event_of}
-use Rattle.ov_recording.specs.declared.act.Act.{Act}
-use Rattle.ov_recording.specs.declared.act.Act.TheVariants as act
+use Rattle.ov_recording.specs.declared.recordable_event.Act.{Act}
+use Rattle.ov_recording.specs.declared.recordable_event.Act.TheVariants as act
 use Rattle.ov_grow.specs.Choices.{after_chance, comes_true}
 use Rattle.ov_grow.specs.Faults.{of_event}
 use Rattle.ov_grow.specs.Growth.{Growth, Does}
@@ -20,7 +20,7 @@ use Rattle.ov_grow.specs.Code.Standing.{Fails, Goes, IsNoWay, IsTold, growth_of}
 use Rattle.ov_grow.specs.declared.fault.GrowFault.{GrowFault}
 use Rattle.ov_grow.specs.declared.fault.GrowFault.TheVariants.{OutOfMemory}
 use Rattle.ov_grow.specs.declared.growing.Growing.{Growing}
-use Rattle.ov_grow.specs.declared.turn_rules.TurnRules.{TurnRules}
+use Rattle.ov_grow.specs.declared.packet_turn_rules.TurnRules.{TurnRules}
 use Rattle.ov_grow.proofs.Going.{no_way_by, tried}
 use Rattle.ov_grow.proofs.OneGrowth.{delivery_rest, repetition_rest, turn_rest}
 use Rattle.ov_grow.proofs.Turning.{was_there}

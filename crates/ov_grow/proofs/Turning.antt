@@ -8,14 +8,14 @@ use Rattle.ov_net.specs.Limits.{most_entries}
 use Rattle.ov_net.specs.Refusals.{EventJudged}
 use Rattle.ov_net.specs.declared.fault.NetFault.TheVariants.{TooManyEntries}
 use Rattle.ov_recording.specs.Acts.{event_of}
-use Rattle.ov_recording.specs.declared.act.Act.{Act}
-use Rattle.ov_recording.specs.declared.act.Act.TheVariants as act
+use Rattle.ov_recording.specs.declared.recordable_event.Act.{Act}
+use Rattle.ov_recording.specs.declared.recordable_event.Act.TheVariants as act
 use Rattle.ov_grow_options.specs.declared.options.Order.{Order}
 use Rattle.ov_grow_options.specs.declared.options.Order.TheVariants.{Random, Oldest}
 use Rattle.ov_grow.specs.Growth.{Growth, Does, Tries}
 use Rattle.ov_grow.specs.Turns.{Arrives, HasNoPackets, IsDelivered, IsTurnOf, MayBeRepeated, RunOut}
 use Rattle.ov_grow.specs.Turns.{SenderIsTold, Turn, TurnsUpTo}
-use Rattle.ov_grow.specs.declared.turn_rules.TurnRules.{TurnRules}
+use Rattle.ov_grow.specs.declared.packet_turn_rules.TurnRules.{TurnRules}
 
 -- how many entries the journal has
 abbrev pub entries : Growth → ℕ

@@ -7,7 +7,7 @@ use Rattle.ov_ids.specs.declared.id.MsgId.{MsgId}
 use Rattle.ov_snap.specs.CoreState.{KeepsReports}
 use Rattle.ov_grow_options.specs.declared.options.GrowOptions.{GrowOptions}
 use Rattle.ov_recording.specs.WrittenLines.{comment_line}
-use Rattle.ov_recording.specs.declared.act.Act.TheVariants as act
+use Rattle.ov_recording.specs.declared.recordable_event.Act.TheVariants as act
 use Rattle.ov_grow.specs.Choices.{after_chance, comes_true, one_of}
 use Rattle.ov_grow.specs.Choices.{later as later_choices}
 use Rattle.ov_grow.specs.Growth.{Growth, AreLive, Chooses, Does, Writes}
@@ -18,8 +18,8 @@ use Rattle.ov_grow.specs.Phases.{AreFirst, AreToCrash, Births, CrashNodes, EndsP
 use Rattle.ov_grow.specs.Phases.{ReportCrashes, Settle, deliveries_in, healing, joining, settling, turns_between}
 use Rattle.ov_grow.specs.Code.Standing.{Goes, growth_of}
 use Rattle.ov_grow.specs.declared.growing.Growing.{Growing}
-use Rattle.ov_grow.specs.declared.phase.Phase.{Phase}
-use Rattle.ov_grow.specs.declared.turn_rules.TurnRules.{TurnRules}
+use Rattle.ov_grow.specs.declared.phase_outcome.Phase.{Phase}
+use Rattle.ov_grow.specs.declared.packet_turn_rules.TurnRules.{TurnRules}
 use Rattle.ov_grow.proofs.Going.{chosen, kept_trans, tried}
 use Rattle.ov_grow.proofs.Turning.{AsLong, Longer, as_long_by, does_longer, entries, longer_by}
 use Rattle.ov_grow.proofs.Turning.{not_repeated, repeated}

@@ -5,10 +5,10 @@ use Rattle.std.specs.FinSet as set
 use Rattle.ov_ids.specs.declared.id.MsgId.{MsgId}
 use Rattle.ov_peer.specs.PeerState.{PeerState}
 use Rattle.ov_net.specs.Net.{LivesAs}
-use Rattle.ov_recording.specs.declared.act.Act.TheVariants as act
+use Rattle.ov_recording.specs.declared.recordable_event.Act.TheVariants as act
 use Rattle.ov_grow.specs.Growth.{Growth, Does, Chooses, AreLive}
 use Rattle.ov_grow.specs.Turns.{RunOut}
-use Rattle.ov_grow.specs.declared.turn_rules.TurnRules.{TurnRules}
+use Rattle.ov_grow.specs.declared.packet_turn_rules.TurnRules.{TurnRules}
 
 -- a node broadcasts, and the message has this id: its number is how many broadcasts the node has made before
 abbrev pub BroadcastBy : ℕ → Growth → MsgId → Growth → Type 0

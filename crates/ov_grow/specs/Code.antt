@@ -1,2 +1,3 @@
 -- What private contracts and proofs use.
 pub mod Standing
+pub mod Shares

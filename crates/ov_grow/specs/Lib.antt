@@ -6,4 +6,7 @@ pub mod Rounds
 pub mod Broadcasts
 pub mod Phases
 pub mod Growing
+pub mod Rows
+pub mod Sweeps
+pub mod SweepFaults
 pub mod Code

@@ -14,13 +14,13 @@ use Rattle.ov_grow_options.specs.declared.options.Crash.{Crash}
 use Rattle.ov_grow_options.specs.declared.options.Crash.TheVariants.{Share, Cut}
 use Rattle.ov_grow_options.specs.declared.options.GrowOptions.{GrowOptions}
 use Rattle.ov_recording.specs.WrittenLines.{analysis_line, comment_line}
-use Rattle.ov_recording.specs.declared.act.Act.TheVariants as act
+use Rattle.ov_recording.specs.declared.recordable_event.Act.TheVariants as act
 use Rattle.ov_grow.specs.Growth.{Growth, Does, Writes, Chooses, SomebodyLives}
 use Rattle.ov_grow.specs.Turns.{TurnsUpTo, RunOut}
 use Rattle.ov_grow.specs.Rounds.{AreLiveInOrder, DoesEach, Rounds}
 use Rattle.ov_grow.specs.Broadcasts.{Broadcasts}
-use Rattle.ov_grow.specs.declared.phase.Phase.{Phase}
-use Rattle.ov_grow.specs.declared.turn_rules.TurnRules.{TurnRules}
+use Rattle.ov_grow.specs.declared.phase_outcome.Phase.{Phase}
+use Rattle.ov_grow.specs.declared.packet_turn_rules.TurnRules.{TurnRules}
 
 -- how many of these entries tell that a node delivered a message
 abbrev pub deliveries_in : List Entry → ℕ

@@ -1,12 +1,12 @@
 -- Rounds of shuffles. s is before, and u after. Chosen here.
 use Rattle.std.specs.Prelude.{◌≡◌, ℕ, zero, suc, List, [], ◌∷◌}
 use Rattle.rand_pcg.specs.Lcg.{Lcg}
-use Rattle.ov_recording.specs.declared.act.Act.{Act}
-use Rattle.ov_recording.specs.declared.act.Act.TheVariants as act
+use Rattle.ov_recording.specs.declared.recordable_event.Act.{Act}
+use Rattle.ov_recording.specs.declared.recordable_event.Act.TheVariants as act
 use Rattle.ov_grow.specs.Choices.{IsRandomOrder}
 use Rattle.ov_grow.specs.Growth.{Growth, Does, AreLive}
 use Rattle.ov_grow.specs.Turns.{RunOut}
-use Rattle.ov_grow.specs.declared.turn_rules.TurnRules.{TurnRules}
+use Rattle.ov_grow.specs.declared.packet_turn_rules.TurnRules.{TurnRules}
 
 -- an act is done for each of these nodes, in this order
 abbrev pub DoesEach : (ℕ → Act) → List ℕ → Growth → Growth → Type 0

@@ -4,9 +4,9 @@ use Rattle.ov_grow_options.specs.declared.options.Order.{Order}
 use Rattle.ov_grow_options.specs.declared.options.Order.TheVariants.{Random, Oldest}
 use Rattle.ov_wire.specs.declared.message.Message.{Message}
 use Rattle.ov_net.specs.Net.{IsGone}
-use Rattle.ov_recording.specs.declared.act.Act.TheVariants as act
+use Rattle.ov_recording.specs.declared.recordable_event.Act.TheVariants as act
 use Rattle.ov_grow.specs.Growth.{Growth, Does, Chooses, Tries, IsLive}
-use Rattle.ov_grow.specs.declared.turn_rules.TurnRules.{TurnRules}
+use Rattle.ov_grow.specs.declared.packet_turn_rules.TurnRules.{TurnRules}
 
 -- the packet whose turn it is: its place, counted from 0
 abbrev pub IsTurnOf : Order → Growth → ℕ → Growth → Type 0

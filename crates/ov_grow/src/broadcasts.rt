@@ -9,7 +9,7 @@ ghost use Rattle.ov_grow.specs.Code.Standing.{AllLive, Goes, IsNoWay, MayMake, g
 
 use crate::fault::GrowFault;
 use crate::growing::Growing;
-use crate::turn_rules::TurnRules;
+use crate::packet_turn_rules::TurnRules;
 use ov_ids::{MsgId, NodeId};
 use ov_recording::Act;
 

@@ -1,22 +1,32 @@
-//! Overlays are grown: nodes join, settle, crash and heal, and each step is recorded as a line of a scenario.
+//! Overlays are grown: nodes join, settle, crash and heal, and each step is recorded as a line of a scenario; and sweeps,
+//! in which many overlays are grown, and each is told as a row of numbers.
 #![tactic(auto)]
 
 mod broadcasts;
 mod choices;
-mod crash;
 mod fault;
 mod growing;
-mod heal;
-mod join;
+mod healing_phase;
+mod joining_phase;
+mod options_determine_growth;
+mod overlay_batch_growing;
 mod overlay_growing;
-mod phase;
+mod packet_turn_rules;
+mod packet_turns;
 mod phase_ending;
+mod phase_measurements;
+mod phase_outcome;
 mod rounds;
-mod theorems;
-mod turn_rules;
-mod turns;
+mod settling_and_crash_phases;
+mod sweep_fault;
+mod sweep_row_making;
+mod sweeping;
 
 pub use fault::GrowFault;
+pub use options_determine_growth::{one_growth, one_row};
+pub use overlay_batch_growing::{GrownBatch, RefusedRun, grow_batch};
 pub use overlay_growing::{Grown, grow};
-pub use phase::Phase;
-pub use theorems::one_growth;
+pub use phase_outcome::Phase;
+pub use sweep_fault::SweepFault;
+pub use sweep_row_making::row_of;
+pub use sweeping::{RowTaker, sweep};

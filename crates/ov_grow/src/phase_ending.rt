@@ -1,7 +1,7 @@
 ghost use Rattle.std.specs.Prelude.{◌≡◌, ◌≤◌, ◌⊎◌, ℕ, drop, length, IfErr, IfOk, OnOk};
 ghost use Rattle.ov_net.specs.Limits.{most_entries};
 ghost use Rattle.ov_recording.specs.WrittenLines.{analysis_line};
-ghost use Rattle.ov_recording.specs.declared.act.Act.TheVariants as act;
+ghost use Rattle.ov_recording.specs.declared.recordable_event.Act.TheVariants as act;
 ghost use Rattle.ov_grow.specs.Faults.{IsFull};
 ghost use Rattle.ov_grow.specs.Growth.{Does, SomebodyLives, Writes};
 ghost use Rattle.ov_grow.specs.Phases.{EndsPhase, IsAnalysedAt, deliveries_in};
@@ -10,8 +10,8 @@ ghost use Rattle.ov_grow.specs.declared.fault.GrowFault.TheVariants.{OutOfMemory
 
 use crate::fault::GrowFault;
 use crate::growing::Growing;
-use crate::phase::Phase;
-use crate::turn_rules::TurnRules;
+use crate::packet_turn_rules::TurnRules;
+use crate::phase_outcome::Phase;
 use ov_recording::Act;
 
 impl Growing {

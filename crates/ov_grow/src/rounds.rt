@@ -1,12 +1,12 @@
 ghost use Rattle.std.specs.Prelude.{IfErr, IfOk, OnOk};
-ghost use Rattle.ov_recording.specs.declared.act.Act.TheVariants as act;
+ghost use Rattle.ov_recording.specs.declared.recordable_event.Act.TheVariants as act;
 ghost use Rattle.ov_grow.specs.Faults.{IsFull};
 ghost use Rattle.ov_grow.specs.Rounds.{AreLiveInOrder, DoesEach, Round, Rounds};
 ghost use Rattle.ov_grow.specs.Code.Standing.{AllLive, Goes, IsNoWay, growth_of};
 
 use crate::fault::GrowFault;
 use crate::growing::Growing;
-use crate::turn_rules::TurnRules;
+use crate::packet_turn_rules::TurnRules;
 use ov_ids::{NodeId, OutOfMemory};
 use ov_recording::Act;
 

@@ -1,13 +1,13 @@
 //! The options of growing an overlay, each within its limits, and the command that says them.
 #![tactic(auto)]
 
-mod command_line;
 mod node_count;
 mod options;
+mod options_as_command;
 mod percentages;
-mod round_counts;
+mod round_count_and_pace;
 
 pub use node_count::NodeCount;
 pub use options::{Crash, GrowOptions, Order};
 pub use percentages::{Chance, Share};
-pub use round_counts::{Count, Pace};
+pub use round_count_and_pace::{Count, Pace};

@@ -2,7 +2,7 @@ ghost use Rattle.std.specs.Prelude.{◌≡◌, ◌<◌, [], ◌∷◌, ◌++◌,
 ghost use Rattle.ov_hall.specs.Passes.{first_seen, seen_alike};
 ghost use Rattle.ov_hall.specs.Code.Rules.{first_of};
 
-use crate::count_rule::{Apart, Count, HallName, Place, Together};
+use crate::ghost_log_rule::{Apart, Count, HallName, Place, Together};
 use std::alloc::Global;
 use std::marker::{Model, PhantomData};
 

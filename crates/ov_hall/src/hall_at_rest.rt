@@ -5,13 +5,13 @@ ghost use Rattle.ov_net.specs.declared.event.Event.TheVariants as told;
 ghost use Rattle.ov_snap.specs.Filing.{WasFiled};
 ghost use Rattle.ov_snap.specs.Refusals.{FilingJudged};
 ghost use Rattle.ov_snap.specs.Run.{Happened, TookSnapshot};
-ghost use Rattle.ov_snap.specs.declared.fault.CoreFault.TheVariants.{OutOfMemory as out_of_memory};
+ghost use Rattle.ov_snap.specs.declared.core_fault.CoreFault.TheVariants.{OutOfMemory as out_of_memory};
 ghost use Rattle.ov_hall.specs.Histories.{IsHistory};
 ghost use Rattle.ov_snap.specs.Logs.{IsLog, core_made, mark};
 ghost use Rattle.ov_hall.specs.Passes.{AreDrivers, seen_alike};
 
-use crate::count_rule::{HallName, Law, Leave};
 use crate::driver_passes::{Pass, Stand};
+use crate::ghost_log_rule::{HallName, Law, Leave};
 use crate::ghost_views::View;
 use crate::hall_opening::Opening;
 use crate::locked_state::State;

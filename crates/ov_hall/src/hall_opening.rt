@@ -1,6 +1,6 @@
 ghost use Rattle.std.specs.Prelude.{◌≡◌, ◌<◌, ◌≤◌, IfOk};
 
-use crate::count_rule::{Law, Place};
+use crate::ghost_log_rule::{Law, Place};
 use crate::ghost_views::View;
 use atomic_table::Table;
 use ov_ids::OutOfMemory;

@@ -1,22 +1,22 @@
 //! A hall: several drivers step one core, each by a pass of its own, and analyses run beside them.
 #![tactic(auto)]
 
-mod analysis_calls;
-mod count_rule;
+mod analysis_beginning;
+mod driver_pass_gathering;
 mod driver_passes;
-mod gathering;
+mod exact_log_theorems;
+mod ghost_log_rule;
 mod ghost_views;
 mod hall_at_rest;
 mod hall_opening;
-mod journal_calls;
+mod journal_entry_reading;
 mod locked_state;
 mod shared_hall;
-mod theorems;
 
-pub use count_rule::HallName;
+pub use driver_pass_gathering::{GatherFault, NotGathered};
 pub use driver_passes::Pass;
-pub use gathering::{GatherFault, NotGathered};
+pub use exact_log_theorems::{every_log_is_exact, what_is_seen_stays};
+pub use ghost_log_rule::HallName;
 pub use hall_at_rest::Whole;
 pub use hall_opening::Opening;
 pub use shared_hall::{Gathered, Hall};
-pub use theorems::{every_log_is_exact, what_is_seen_stays};

@@ -5,12 +5,12 @@ ghost use Rattle.ov_snap.specs.CoreState.{CoreState};
 ghost use Rattle.ov_snap.specs.Filing.{WasFiled};
 ghost use Rattle.ov_snap.specs.Refusals.{FilingJudged};
 ghost use Rattle.ov_snap.specs.Run.{Happened};
-ghost use Rattle.ov_snap.specs.declared.fault.CoreFault.TheVariants.{OutOfMemory as out_of_memory};
+ghost use Rattle.ov_snap.specs.declared.core_fault.CoreFault.TheVariants.{OutOfMemory as out_of_memory};
 ghost use Rattle.ov_snap.specs.Logs.{IsLog, core_made, mark};
 ghost use Rattle.ov_hall.specs.Passes.{AllBegin, having_seen, standing_for};
 
-use crate::count_rule::{Count, HallName, Leave, Place, add, look};
 use crate::driver_passes::Stand;
+use crate::ghost_log_rule::{Count, HallName, Leave, Place, add, look};
 use ov_net::{Entry, Event, NetFault};
 use ov_snap::{Core, CoreFault, Report};
 use ov_words::Words;

@@ -3,13 +3,13 @@ ghost use Rattle.ov_ids.specs.FaultOrder.{IsRefusedBy};
 ghost use Rattle.ov_net.specs.Refusals.{IsRefusal};
 ghost use Rattle.ov_net.specs.declared.event.Event.TheVariants as told;
 ghost use Rattle.ov_snap.specs.Refusals.{FilingJudged};
-ghost use Rattle.ov_snap.specs.declared.fault.CoreFault.TheVariants.{OutOfMemory as out_of_memory};
+ghost use Rattle.ov_snap.specs.declared.core_fault.CoreFault.TheVariants.{OutOfMemory as out_of_memory};
 ghost use Rattle.ov_hall.specs.Histories.{IsHistory};
 ghost use Rattle.ov_snap.specs.Logs.{IsLog, core_made};
 ghost use Rattle.ov_snap.specs.DriverSteps.{HasFiled, HasLooked, HasStepped, HasTakenSnapshot};
 
-use crate::count_rule::{HallName, Law};
 use crate::driver_passes::Pass;
+use crate::ghost_log_rule::{HallName, Law};
 use crate::ghost_views::View;
 use crate::locked_state::State;
 use atomic_table::Table;

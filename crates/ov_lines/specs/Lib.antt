@@ -1,2 +1,3 @@
-pub mod Lines
 pub mod Code
+pub mod FileKinds
+pub mod Lines

@@ -10,9 +10,9 @@ use Rattle.ov_ids.proofs.Stepping.{step_none}
 use Rattle.ov_wire.specs.declared.message.Message.{Message}
 use Rattle.ov_graph.specs.Links.{LinkGraph, IsGraph, Linked}
 use Rattle.ov_peer.specs.PeerState.{PeerState}
-use Rattle.ov_peer.specs.declared.input.Delivery.{Delivery}
-use Rattle.ov_peer.specs.declared.input.Input.{Input}
-use Rattle.ov_peer.specs.declared.input.Input.TheVariants as input
+use Rattle.ov_peer.specs.declared.input_and_output.Delivery.{Delivery}
+use Rattle.ov_peer.specs.declared.input_and_output.Input.{Input}
+use Rattle.ov_peer.specs.declared.input_and_output.Input.TheVariants as input
 use Rattle.ov_net.specs.Code.Codes.{world_of}
 use Rattle.ov_net.specs.Code.Effects.{AreEffects, HaveRoom, IsAfter, NamedNodeChanges, packets_after}
 use Rattle.ov_net.specs.Code.LinkChanges.{AreChanged, Gains, MayGain, newborn_of}

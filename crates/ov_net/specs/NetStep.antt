@@ -8,9 +8,9 @@ use Rattle.ov_views.specs.declared.change.ViewChange.TheVariants as view
 use Rattle.ov_peer.specs.Limits.{DrawnFrom}
 use Rattle.ov_peer.specs.Step.{PeerStep}
 use Rattle.ov_peer.specs.PeerState.{PeerState, newborn}
-use Rattle.ov_peer.specs.declared.input.Delivery.{Delivery}
-use Rattle.ov_peer.specs.declared.input.Input.{Input}
-use Rattle.ov_peer.specs.declared.input.Input.TheVariants as input
+use Rattle.ov_peer.specs.declared.input_and_output.Delivery.{Delivery}
+use Rattle.ov_peer.specs.declared.input_and_output.Input.{Input}
+use Rattle.ov_peer.specs.declared.input_and_output.Input.TheVariants as input
 use Rattle.ov_net.specs.Net.{Net, LivesAs, IsGone}
 use Rattle.ov_net.specs.declared.journal_entry_and_changes.Change.{Change}
 use Rattle.ov_net.specs.declared.journal_entry_and_changes.Change.TheVariants.{Born, Up, Down, Gone}

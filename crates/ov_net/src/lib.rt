@@ -2,6 +2,7 @@
 //! crash. A journal has an entry for each event.
 #![tactic(auto)]
 
+mod deterministic_world_theorems;
 mod event;
 mod event_judging;
 mod event_planning;
@@ -14,14 +15,13 @@ mod node_planning;
 mod nodes;
 mod packet;
 mod planned_effects;
-mod theorems;
 mod world;
 
+pub use deterministic_world_theorems::{links_stay, one_graph, one_step};
 pub use event::Event;
 pub use fault::NetFault;
 pub use journal_entry_and_changes::{Change, Entry};
 pub use live_peer::LivePeer;
 pub use member::Member;
 pub use packet::Packet;
-pub use theorems::{links_stay, one_graph, one_step};
 pub use world::{MOST_ENTRIES, MOST_PACKETS, MOST_WORLD_NODES, STEP_PACKETS, World};

@@ -2,7 +2,7 @@ ghost use Rattle.std.specs.Prelude.{◌≡◌, ◌++◌, ◌∷◌, None, Some, 
 ghost use Rattle.ov_wire.specs.Messages.{AreSendsInRange};
 ghost use Rattle.ov_peer.specs.Faults.{fault_of, IsInputInRange};
 ghost use Rattle.ov_peer.specs.PeerState.{newborn};
-ghost use Rattle.ov_peer.specs.declared.input.Input.TheVariants.{Boot};
+ghost use Rattle.ov_peer.specs.declared.input_and_output.Input.TheVariants.{Boot};
 ghost use Rattle.ov_net.specs.Code.Effects.{AreEffectsOfPlan, AreEffectsOfBirth, PlansInput, SendFew, AreFew};
 ghost use Rattle.ov_net.specs.NetStep.{change_at, DrawnStep};
 ghost use Rattle.ov_net.specs.declared.planned_effects.NodeChange.TheVariants as change;

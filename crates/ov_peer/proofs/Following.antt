@@ -23,8 +23,9 @@ use Rattle.ov_peer.specs.Limits.{DrawnFrom, most_sends}
 use Rattle.ov_peer.specs.PeerState.{PeerState, IsPeer}
 use Rattle.ov_peer.specs.Step.{HyParViewPart, TreePart, Told, PeerStep, IsPeerStep, delivery_at}
 use Rattle.ov_peer.specs.Planning.{hyparview_after, after_plan, Follows, Plans, IsPlanFor}
-use Rattle.ov_peer.specs.declared.input.Input.{Input}
-use Rattle.ov_peer.specs.declared.input.Input.TheVariants.{Boot, Receive, CrashReport, Shuffle, Broadcast, Timer}
+use Rattle.ov_peer.specs.declared.input_and_output.Input.{Input}
+use Rattle.ov_peer.specs.declared.input_and_output.Input.TheVariants.{Boot, Receive, CrashReport, Shuffle, Broadcast}
+use Rattle.ov_peer.specs.declared.input_and_output.Input.TheVariants.{Timer}
 use Rattle.ov_peer.specs.declared.plan.Plan.{Plan}
 use Rattle.ov_peer.specs.declared.plan.NextViews.{NextViews}
 use Rattle.ov_peer.specs.declared.plan.HyParViewChange.{HyParViewChange}

@@ -8,9 +8,9 @@ use Rattle.ov_plum.specs.declared.timer_fault.TimerFault.TheVariants as timer
 use Rattle.ov_peer.specs.PeerState.{PeerState}
 use Rattle.ov_peer.specs.declared.fault.PeerFault.{PeerFault}
 use Rattle.ov_peer.specs.declared.fault.PeerFault.TheVariants.{NoTimer, PayloadTooLong, TooManyMessages, OutOfMemory}
-use Rattle.ov_peer.specs.declared.input.Input.{Input}
-use Rattle.ov_peer.specs.declared.input.Input.TheVariants.{Boot, Receive, CrashReport, Broadcast, Timer}
-use Rattle.ov_peer.specs.declared.input.Input.TheVariants as input
+use Rattle.ov_peer.specs.declared.input_and_output.Input.{Input}
+use Rattle.ov_peer.specs.declared.input_and_output.Input.TheVariants.{Boot, Receive, CrashReport, Broadcast, Timer}
+use Rattle.ov_peer.specs.declared.input_and_output.Input.TheVariants as input
 
 -- The fault of an input, if it has one. Of a broadcast: the payload has more than 1,024 bytes; otherwise the node has
 -- made 4,096 broadcasts. Of a timer: it does not run. Out of memory is no fault of an input.

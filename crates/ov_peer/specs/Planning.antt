@@ -5,8 +5,8 @@ use Rattle.ov_views.specs.Allowed.{HyParViewState}
 use Rattle.ov_plum.specs.PlumChange.{plum_after}
 use Rattle.ov_peer.specs.PeerState.{PeerState}
 use Rattle.ov_peer.specs.Step.{PartsStep, HearsChanges}
-use Rattle.ov_peer.specs.declared.input.Input.{Input}
-use Rattle.ov_peer.specs.declared.input.Output.{Output}
+use Rattle.ov_peer.specs.declared.input_and_output.Input.{Input}
+use Rattle.ov_peer.specs.declared.input_and_output.Output.{Output}
 use Rattle.ov_peer.specs.declared.plan.Plan.{Plan}
 use Rattle.ov_peer.specs.declared.plan.HyParViewChange.{HyParViewChange}
 use Rattle.ov_peer.specs.declared.plan.HyParViewChange.TheVariants.{Nothing, ViewsAndAttempt, Shuffle}

@@ -10,10 +10,10 @@ use Rattle.ov_views.specs.declared.change.ViewChange.TheVariants.{Up, Down}
 use Rattle.ov_plum.specs.PlumState.{PlumState}
 use Rattle.ov_plum.specs.PlumRows.{AllowedTree, Delivered, IsQuiet, broadcasts, receives, fires, goes_up, goes_down}
 use Rattle.ov_peer.specs.PeerState.{PeerState}
-use Rattle.ov_peer.specs.declared.input.Input.{Input}
-use Rattle.ov_peer.specs.declared.input.Input.TheVariants.{Boot, Receive, CrashReport, Broadcast, Timer}
-use Rattle.ov_peer.specs.declared.input.Input.TheVariants as input
-use Rattle.ov_peer.specs.declared.input.Delivery.{Delivery}
+use Rattle.ov_peer.specs.declared.input_and_output.Input.{Input}
+use Rattle.ov_peer.specs.declared.input_and_output.Input.TheVariants.{Boot, Receive, CrashReport, Broadcast, Timer}
+use Rattle.ov_peer.specs.declared.input_and_output.Input.TheVariants as input
+use Rattle.ov_peer.specs.declared.input_and_output.Delivery.{Delivery}
 
 -- HyParView's part of a step, from n to m. At a broadcast and at a timer it does nothing.
 abbrev pub HyParViewPart :

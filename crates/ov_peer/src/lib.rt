@@ -3,12 +3,12 @@
 
 mod dispatch;
 mod fault;
-mod input;
+mod input_and_output;
 mod peer;
 mod plan;
 mod tree_updates;
 
 pub use fault::PeerFault;
-pub use input::{Delivery, Input, Output};
+pub use input_and_output::{Delivery, Input, Output};
 pub use peer::{MOST_BROADCASTS, Peer};
 pub use plan::{HyParViewChange, NextViews, Plan};

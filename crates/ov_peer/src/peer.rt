@@ -15,12 +15,13 @@ ghost use Rattle.ov_peer.specs.PeerState.{IsPeer, newborn};
 ghost use Rattle.ov_peer.specs.Planning.{Plans, IsPlanFor, Follows, output_of};
 ghost use Rattle.ov_peer.specs.Step.{PeerStep, IsPeerStep};
 ghost use Rattle.ov_peer.specs.declared.fault.PeerFault.TheVariants.{OutOfMemory as out_of_memory};
-ghost use Rattle.ov_peer.specs.declared.input.Input.TheVariants as input;
-ghost use Rattle.ov_peer.specs.declared.input.Input.TheVariants.{Boot, Receive, CrashReport, Broadcast, Timer};
+ghost use Rattle.ov_peer.specs.declared.input_and_output.Input.TheVariants as input;
+ghost use Rattle.ov_peer.specs.declared.input_and_output.Input.TheVariants.{Boot, Receive, CrashReport, Broadcast};
+ghost use Rattle.ov_peer.specs.declared.input_and_output.Input.TheVariants.{Timer};
 
 use crate::dispatch::hear;
 use crate::fault::PeerFault;
-use crate::input::{Input, Output};
+use crate::input_and_output::{Input, Output};
 use crate::plan::{HyParViewChange, NextViews, Plan, follow, views_plan};
 use crate::tree_updates::{joins, tell};
 use ov_ids::{MsgId, NodeId, OutOfMemory, Params, Seq};

@@ -5,7 +5,7 @@ ghost use Rattle.ov_peer.specs.Planning.{hyparview_after};
 ghost use Rattle.ov_peer.specs.Step.{delivery_at};
 ghost use Rattle.ov_peer.specs.declared.plan.HyParViewChange.TheVariants.{Nothing};
 
-use crate::input::Delivery;
+use crate::input_and_output::Delivery;
 use ov_ids::{MsgId, NodeId, OutOfMemory, Seq};
 use ov_neighbor::Attempt;
 use ov_plum::{PlumChange, PlumPlan, Spread};

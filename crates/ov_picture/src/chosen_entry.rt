@@ -4,7 +4,7 @@ ghost use Rattle.ov_picture.specs.Chosen.{entry_paths, fan_paths, pair_paths};
 
 use ov_cert::{Cert, FanPaths, PairPaths, Split};
 use ov_ids::NodeId;
-use ov_paths::Paths;
+use ov_lists::Paths;
 
 /// An entry of a certificate, named by its nodes.
 #[derive(Clone, Copy, Debug, PartialEq, Eq)]

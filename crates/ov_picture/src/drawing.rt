@@ -16,7 +16,7 @@ use crate::path_numbers::{PathNumbers, path_numbers};
 use ov_cert::Cert;
 use ov_graph::Graph;
 use ov_ids::{NodeId, OutOfMemory, Seq};
-use ov_paths::Paths;
+use ov_lists::Paths;
 use std::alloc::Global;
 
 /// A node of a picture.

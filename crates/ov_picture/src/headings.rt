@@ -1,6 +1,6 @@
 use crate::Drawing;
-use crate::geometry::number;
 use crate::labels::{Labels, letters_of};
+use crate::node_position::number;
 use crate::sentences::{counts_of, members_of, paths_of, sentence_of};
 use std::alloc::{AllocError, Global};
 use std::mem;

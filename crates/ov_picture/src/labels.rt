@@ -1,4 +1,4 @@
-use crate::geometry::number;
+use crate::node_position::number;
 use crate::sentences::is_end;
 use crate::{Drawing, NodeClass};
 use ov_io::shown_name;

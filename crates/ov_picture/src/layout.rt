@@ -1,8 +1,8 @@
 use crate::Drawing;
-use crate::bands::Bands;
-use crate::columns::Columns;
-use crate::geometry::{LEFT, Place, RIGHT, UP};
 use crate::labels::Labels;
+use crate::node_columns::Columns;
+use crate::node_position::{LEFT, Place, RIGHT, UP};
+use crate::nodes_by_part::Bands;
 use crate::rings::Ring;
 use std::alloc::{AllocError, Global};
 

@@ -2,20 +2,20 @@
 //! SVG and as DOT.
 #![tactic(auto)]
 
-mod bands;
 mod chosen_entry;
 mod class_names;
 mod classes;
-mod columns;
 mod dot_writing;
 mod drawing;
 mod escaped_texts;
 mod fault;
-mod geometry;
 mod headings;
 mod labels;
 mod layout;
 mod node_classes;
+mod node_columns;
+mod node_position;
+mod nodes_by_part;
 mod path_colours;
 mod path_numbers;
 mod rings;

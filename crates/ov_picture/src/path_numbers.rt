@@ -3,7 +3,7 @@ ghost use Rattle.std.specs.BTreeMap.{get};
 ghost use Rattle.ov_picture.specs.Code.PathTests.{link_cmp, is_step, goes_along, or_at, path_from};
 
 use ov_ids::{NodeId, OutOfMemory};
-use ov_paths::Paths;
+use ov_lists::Paths;
 use std::alloc::Global;
 use std::collections::BTreeMap;
 

@@ -1,4 +1,4 @@
-use crate::geometry::{Place, TURN, number};
+use crate::node_position::{Place, TURN, number};
 
 /// How many nodes a layer of a ring has at most.
 const MOST_ON_LAYER: usize = 256;

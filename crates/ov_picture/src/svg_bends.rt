@@ -1,5 +1,5 @@
-use crate::geometry::Place;
 use crate::layout::Layout;
+use crate::node_position::Place;
 use crate::svg_nodes::reach_of;
 use crate::{Drawing, DrawnLink};
 

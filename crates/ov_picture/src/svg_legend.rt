@@ -1,5 +1,5 @@
-use crate::geometry::{Place, RIGHT, number};
 use crate::layout::Layout;
+use crate::node_position::{Place, RIGHT, number};
 use crate::path_colours::{colour_of, dashes_of};
 use crate::sentences::{count_of, outside};
 use crate::svg_nodes::push_node;

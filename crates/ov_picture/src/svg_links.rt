@@ -1,6 +1,6 @@
 use crate::class_names::link_class_name;
-use crate::geometry::Place;
 use crate::layout::{Layout, at};
+use crate::node_position::Place;
 use crate::path_colours::{colour_of, dashes_of};
 use crate::svg_bends::bend_of;
 use crate::{Drawing, DrawnLink, DrawnNode, LinkClass};

@@ -1,8 +1,8 @@
 use crate::class_names::node_class_name;
 use crate::escaped_texts::push_xml;
-use crate::geometry::{LEFT, Place, RIGHT, TURN};
 use crate::labels::Labels;
 use crate::layout::Layout;
+use crate::node_position::{LEFT, Place, RIGHT, TURN};
 use crate::sentences::is_end;
 use crate::{Drawing, DrawnNode, NodeClass};
 use std::alloc::AllocError;

@@ -5,12 +5,12 @@
 //! mends the tree.
 #![tactic(auto)]
 
-mod branches;
+mod eager_and_lazy_neighbours;
 mod held_message;
+mod ihave_senders;
 mod map_by_id;
 mod plum;
 mod plum_change;
-mod senders;
 mod step_effects;
 mod timer_fault;
 mod waiting;

@@ -6,7 +6,7 @@ ghost use Rattle.ov_ids.specs.declared.id.MsgId.{MsgId};
 ghost use Rattle.ov_plum.specs.Code.Codes.{id_code};
 ghost use Rattle.ov_plum.specs.Ids.{id_cmp};
 
-use crate::senders::Senders;
+use crate::ihave_senders::Senders;
 use indexmap::IndexMap;
 use ov_ids::{MsgId, NodeId, OutOfMemory};
 use std::alloc::Global;

@@ -9,7 +9,7 @@ ghost use Rattle.ov_plum.specs.PlumState.{IsPlum, most_broadcasts, most_neighbou
 ghost use Rattle.ov_plum.specs.declared.plum_change.PlumChange.TheVariants.{Nothing};
 ghost use Rattle.ov_plum.specs.declared.timer_fault.TimerFault.TheVariants.{NoTimer};
 
-use crate::branches::Branches;
+use crate::eager_and_lazy_neighbours::Branches;
 use crate::held_message::Held;
 use crate::map_by_id::ById;
 use crate::plum_change::{PlumChange, PlumPlan};

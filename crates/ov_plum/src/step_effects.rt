@@ -4,7 +4,7 @@ ghost use Rattle.ov_wire.specs.declared.message.Body.TheVariants.{IHave};
 ghost use Rattle.ov_plum.specs.PlumRows.{gossip, spread};
 ghost use Rattle.ov_plum.specs.PlumState.{HeldState, most_neighbours};
 
-use crate::branches::Branches;
+use crate::eager_and_lazy_neighbours::Branches;
 use crate::held_message::Held;
 use ov_ids::{MsgId, NodeId, OutOfMemory, Seq};
 use ov_wire::{Body, Message};

@@ -4,8 +4,8 @@ ghost use Rattle.ov_plum.specs.Code.Waiting.{none_waited, waiting_asked, waiting
 ghost use Rattle.ov_plum.specs.Code.Waiting.{waiting_forgot, waiting_noted};
 ghost use Rattle.ov_plum.specs.Notes.{oldest};
 
+use crate::ihave_senders::Senders;
 use crate::map_by_id::ById;
-use crate::senders::Senders;
 use ov_ids::{MsgId, NodeId, OutOfMemory};
 use std::alloc::Global;
 use std::marker::Model;

@@ -1,6 +1,6 @@
 use crate::device_texts::OUT_OF_MEMORY;
 use crate::line_and_mark::push_marked_word;
-use crate::line_heads_and_remark::{MOST_LINES, line_of, push_number, push_remark};
+use crate::line_number_and_remaining_count::{MOST_LINES, line_of, push_number, push_remark};
 use crate::unread_line_texts::push_unread;
 use ov_graph::{GraphFault, LinkFlaw};
 use ov_graphfile::{

@@ -9,7 +9,7 @@ mod device_texts;
 mod event_texts;
 mod graph_file_texts;
 mod line_and_mark;
-mod line_heads_and_remark;
+mod line_number_and_remaining_count;
 mod look_and_analysis_texts;
 mod parameter_limit_texts;
 mod refused_lines;

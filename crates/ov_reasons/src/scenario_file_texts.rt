@@ -1,5 +1,5 @@
 use crate::line_and_mark::push_marked_word;
-use crate::line_heads_and_remark::{MOST_LINES, line_of, push_number, push_remark};
+use crate::line_number_and_remaining_count::{MOST_LINES, line_of, push_number, push_remark};
 use crate::parameter_limit_texts::push_out_of_limits;
 use crate::unread_line_texts::push_unread;
 use ov_ids::OutOfMemory;

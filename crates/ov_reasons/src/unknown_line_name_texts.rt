@@ -1,7 +1,6 @@
 use crate::unread_line_texts::bytes_hint;
 use ov_graphfile::LINE_NAMES;
-use ov_hints::{FileKind, looks_like};
-use ov_lines::KeptLine;
+use ov_lines::{FileKind, KeptLine, looks_like};
 use ov_scenario::line_names;
 use std::alloc::{AllocError, Global};
 use std::fmt::Write;

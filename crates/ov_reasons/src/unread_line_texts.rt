@@ -1,7 +1,6 @@
 use crate::line_and_mark::push_marked;
 use crate::unknown_line_name_texts::push_no_line_name;
-use ov_hints::comma_hint;
-use ov_lines::{KeptLine, Kind, LineCursor, Unread, read_number};
+use ov_lines::{KeptLine, Kind, LineCursor, Unread, comma_hint, read_number};
 use std::alloc::{AllocError, Global};
 use std::fmt::Write;
 

@@ -4,7 +4,7 @@ use Rattle.std.proofs.Common.{Some, ap, sym, append_assoc}
 use Rattle.std.proofs.lemmas.List.{append-nil, drop_all, drop_more}
 use Rattle.ov_recording.specs.Acts.{act_line}
 use Rattle.ov_recording.specs.WrittenLines.{ended, line_of, numerals, spaced}
-use Rattle.ov_recording.specs.declared.act.Act.TheVariants as act
+use Rattle.ov_recording.specs.declared.recordable_event.Act.TheVariants as act
 
 -- one number more of a line
 pub number_more :

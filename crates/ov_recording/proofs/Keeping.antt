@@ -24,7 +24,7 @@ use Rattle.ov_recording.specs.Acts.{act_line, event_of}
 use Rattle.ov_recording.specs.WrittenLines.{analysis_line, comment_line, ended}
 use Rattle.ov_recording.specs.Code.Kept.{ArePlain, EndsLine, IsScript, IsTold, left_after, lines_of}
 use Rattle.ov_recording.specs.Code.Writing.{IsShort}
-use Rattle.ov_recording.specs.declared.act.Act.{Act}
+use Rattle.ov_recording.specs.declared.recordable_event.Act.{Act}
 use Rattle.ov_recording.proofs.OneLine.{comment_clean, comment_skipped, ends_line, kept_last, kept_skipped}
 use Rattle.ov_recording.proofs.Statements.{act_said, analysis_said}
 use Rattle.ov_recording.proofs.Telling.{analysis_right, drivers_more, event_right, faultless_more, left_more, params_more}

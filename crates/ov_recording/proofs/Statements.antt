@@ -19,8 +19,8 @@ use Rattle.ov_scenario.specs.declared.statement.Statement.TheVariants as says
 use Rattle.ov_recording.specs.Acts.{act_line, event_of}
 use Rattle.ov_recording.specs.WrittenLines.{analysis_line, line_of, numerals, params_line, seed_line, spaced}
 use Rattle.ov_recording.specs.Code.Writing.{IsShort}
-use Rattle.ov_recording.specs.declared.act.Act.{Act}
-use Rattle.ov_recording.specs.declared.act.Act.TheVariants as act
+use Rattle.ov_recording.specs.declared.recordable_event.Act.{Act}
+use Rattle.ov_recording.specs.declared.recordable_event.Act.TheVariants as act
 use Rattle.ov_recording.proofs.Behind.{behind_two}
 use Rattle.ov_recording.proofs.OneLine.{spaced_clean}
 use Rattle.ov_recording.proofs.Splitting.{words_spaced}

@@ -3,8 +3,8 @@ use Rattle.std.specs.Prelude.{ℕ, List, [], ◌∷◌, codes, decimal, Some, No
 use Rattle.ov_net.specs.declared.event.Event.{Event}
 use Rattle.ov_net.specs.declared.event.Event.TheVariants as event
 use Rattle.ov_recording.specs.WrittenLines.{line_of, numerals}
-use Rattle.ov_recording.specs.declared.act.Act.{Act}
-use Rattle.ov_recording.specs.declared.act.Act.TheVariants as act
+use Rattle.ov_recording.specs.declared.recordable_event.Act.{Act}
+use Rattle.ov_recording.specs.declared.recordable_event.Act.TheVariants as act
 
 -- the event that an act is; the payload of a broadcast is empty
 abbrev pub event_of : Act → Event

@@ -2,14 +2,14 @@
 //! the same.
 #![tactic(auto)]
 
-mod act;
 mod line_writing;
+mod recordable_event;
 mod recording;
+mod replay_theorem;
 mod report_making;
 mod script;
-mod theorems;
 
-pub use act::Act;
+pub use recordable_event::Act;
 pub use recording::{Recorded, Recording};
+pub use replay_theorem::every_run_refuses_nothing;
 pub use script::{LINE_ROOM, Script};
-pub use theorems::every_run_refuses_nothing;

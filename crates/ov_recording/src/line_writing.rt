@@ -6,9 +6,9 @@ ghost use Rattle.ov_recording.specs.Scripts.{line_room};
 ghost use Rattle.ov_recording.specs.WrittenLines.{comment_line, ended, line_of, numerals, params_line};
 ghost use Rattle.ov_recording.specs.WrittenLines as spec;
 ghost use Rattle.ov_recording.specs.Code.Writing.{IsShort, number_room, params_room, room_of};
-ghost use Rattle.ov_recording.specs.declared.act.Act.TheVariants as act;
+ghost use Rattle.ov_recording.specs.declared.recordable_event.Act.TheVariants as act;
 
-use crate::act::Act;
+use crate::recordable_event::Act;
 use itoa::Buffer;
 use ov_ids::{NodeId, Params};
 

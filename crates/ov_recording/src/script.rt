@@ -5,8 +5,8 @@ ghost use Rattle.ov_recording.specs.Acts.{act_line, event_of};
 ghost use Rattle.ov_recording.specs.Scripts.{line_room, opening, scenario_of};
 ghost use Rattle.ov_recording.specs.WrittenLines.{analysis_line, comment_line, ended};
 
-use crate::act::Act;
 use crate::line_writing::{write_act, write_comment, write_line, write_params};
+use crate::recordable_event::Act;
 use ov_ids::{OutOfMemory, Params};
 use ov_words::Words;
 use rand_core::SeedableRng;

@@ -3,7 +3,6 @@ pub mod Ending
 pub mod HandedOn
 pub mod InBlocks
 pub mod OneLine
-pub mod Outcomes
 pub mod Running
 pub mod Settling
 pub mod WholeRuns

@@ -6,7 +6,7 @@ use Rattle.ov_scenario.specs.declared.scenario_fault.LineFault.TheVariants as li
 use Rattle.ov_scenario.specs.declared.scenario_fault.ScenarioFault.{ScenarioFault}
 use Rattle.ov_scenario.specs.declared.scenario_fault.ScenarioFault.TheVariants as scenario
 use Rattle.ov_run_meaning.specs.Faults.{fault_at, fault_of_scenario, IsScenarioFileFault}
-use Rattle.ov_run.specs.Code.Writing.{IsBeforeLines}
+use Rattle.ov_run.specs.Code.Failing.{IsBeforeLines}
 use Rattle.ov_run_meaning.specs.declared.run_fault.RunFault.TheVariants.{Line, Params}
 
 unread : (bytes : List ℕ) (n : ℕ) → IsScenarioFileFault bytes (Line n) → IsBeforeLines bytes (Line n)

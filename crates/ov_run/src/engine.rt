@@ -2,7 +2,7 @@ ghost use Rattle.std.specs.Prelude.{◌≡◌, ◌<◌, ◌≤◌, ◌≢◌, []
 ghost use Rattle.std.specs.Io.Buffered.{writer_buffer};
 ghost use Rattle.ov_io.specs.Device.{most_faults};
 ghost use Rattle.ov_run.specs.Code.Outcomes.{RanLines};
-ghost use Rattle.ov_run.specs.Code.Writing.{is_write, IsBeforeLines};
+ghost use Rattle.ov_run.specs.Code.Failing.{is_write, IsBeforeLines};
 ghost use Rattle.ov_run_meaning.specs.Run.{IsRun, IsRunInBlocks, IsRunOf};
 ghost use Rattle.ov_scenario.specs.RunLines.{drivers_for, lines_that_run};
 ghost use Rattle.ov_scenario.specs.Scenarios.{IsScenario};

@@ -1,11 +1,15 @@
-ghost use Rattle.std.specs.Prelude.{◌≡◌, ◌+◌, length};
+ghost use Rattle.std.specs.Prelude.{◌≡◌, ◌<◌, ◌+◌, length, OnOk};
+ghost use Rattle.std.specs.Io.KnownBytes.{Appends};
+ghost use Rattle.ov_io.specs.Device.{AppendsPrefixOf, most_faults, write_faults as sink_faults, write_number};
 ghost use Rattle.ov_run_meaning.specs.Sections.{accepted_in, one_accepted, refused_in};
 ghost use Rattle.ov_run.specs.Code.Jobs.{joined};
-ghost use Rattle.ov_run.specs.Code.Outcomes.{first_refused, refusal_at, refused_of};
+ghost use Rattle.ov_run.specs.Code.Outcomes.{first_refused, refusal_at, refused_of, rest_of};
 
 use crate::run_watcher::RanLine;
 use ov_ids::Seq;
-use ov_run_meaning::{Outcome, Refusal};
+use ov_io::{Sink, WriteFault};
+use ov_run_meaning::{Outcome, Refusal, refused_line, together_line};
+use std::io::Write;
 use std::marker::Model;
 
 /// What became of a line that ran.
@@ -52,6 +56,27 @@ impl<'a> Came<'a> {
             Came::Alone(Outcome::Accepted) => None,
             Came::Alone(Outcome::Refused(refusal)) => Some((number, *refusal)),
             Came::Block(block) => first_refused(block.told.as_slice()),
+        }
+    }
+}
+
+/// Writes what is still to be written of a line that ran: the number of its refusal, or the line of a block. Nothing is
+/// allocated, so only the writer can fail.
+pub(crate) fn write_rest<W: Write>(came: &Came<'_>, sink: &mut Sink<W>) -> Result<(), WriteFault>
+    requires faults { sink.old.faults < most_faults }
+    ensures bytes { OnOk result
+        (Appends (W.contents sink.old.writer) (W.contents sink.new.writer) (rest_of came.now)) }
+    ensures prefix { AppendsPrefixOf (rest_of came.now) (W.contents sink.old.writer) (W.contents sink.new.writer) }
+    ensures faults { sink.new.faults ≡ sink.old.faults + sink_faults write_number result }
+{
+    match came {
+        Came::Alone(Outcome::Accepted) => Ok(()),
+        Came::Alone(Outcome::Refused(refusal)) => {
+            sink.write_all(refused_line(refusal.number()).as_str().as_bytes())
+        }
+        Came::Block(block) => {
+            let line = together_line(block.sections, block.accepted, block.refused);
+            sink.write_all(line.as_str().as_bytes())
         }
     }
 }

@@ -1,33 +1,28 @@
-ghost use Rattle.std.specs.Prelude.{◌≡◌, ◌⊎◌, ◌<◌, ◌≤◌, ◌+◌, length, None, IfOk, IfErr, OnErr, IsErrOf};
+ghost use Rattle.std.specs.Prelude.{◌≡◌, ◌<◌, ◌≤◌, ◌+◌, length, None, IfOk, IfErr, OnErr, IsErrOf};
 ghost use Rattle.ov_io.specs.Device.{AppendsPrefixOf, most_faults, write_faults as sink_faults, write_number};
 ghost use Rattle.ov_net.specs.declared.journal_entry_and_changes.Entry.{Entry};
 ghost use Rattle.ov_snap.specs.Run.{Happened};
-ghost use Rattle.ov_run_meaning.specs.Accepting.{DoesEvent, FilesReport, ShowsLook};
-ghost use Rattle.ov_run_meaning.specs.Accepting.{RefusesAnalysis, RefusesEvent, RefusesLook};
-ghost use Rattle.ov_run_meaning.specs.Ending.{BeginsLook, EndsLook};
+ghost use Rattle.ov_run_meaning.specs.Accepting.{DoesEvent, FilesReport, RefusesAnalysis, RefusesEvent};
 ghost use Rattle.ov_run_meaning.specs.Faults.{write_faults};
-ghost use Rattle.ov_run.specs.Code.Outcomes.{LineRan, RanAsBlock, RanLines, WritesOutcome, WritesRest, rest_of};
-ghost use Rattle.ov_run.specs.Code.Outcomes.{is_event_line, stop_of};
+ghost use Rattle.ov_run_meaning.specs.Writing.{IsOfWriting, WritesOutcome, WritesPrefix};
+ghost use Rattle.ov_run.specs.Code.Outcomes.{LineRan, RanAsBlock, RanLines, WritesRest, is_event_line, rest_of};
+ghost use Rattle.ov_run.specs.Code.Outcomes.{stop_of};
 ghost use Rattle.ov_run.specs.Code.Jobs.{HasDrivers};
-ghost use Rattle.ov_run.specs.Code.Writing.{Writes, WritesPrefix, IsOfWriting};
 ghost use Rattle.ov_scenario.specs.RunLines.{drivers_for};
 ghost use Rattle.ov_scenario.specs.declared.scenario.Line.TheVariants as kind;
 
 use crate::hall_of_run::RunHall;
-use crate::line_outcome::{BlockTold, Came, ToldLine};
+use crate::line_outcome::{BlockTold, Came, ToldLine, write_rest};
 use crate::recent_reports::RecentReports;
 use crate::report_filing::file_analysis;
 use crate::run_watcher::{RanLine, RunWatcher};
 use crate::sections_at_once::{BlockRan, run_together};
-use crate::sink_writing::{
-    write_certificate, write_done, write_entry, write_node, write_packets, write_rest,
-};
 use ov_hall::HallName;
 use ov_ids::{OutOfMemory, Seq, Workers};
 use ov_io::{Sink, WriteFault};
 use ov_net::Event;
-use ov_run_meaning::{Outcome, Refusal, RunFault, Strictness};
-use ov_scenario::{Line, LineToRun, LinesToRun, Look, SectionLine, Subject};
+use ov_run_meaning::{Outcome, Refusal, RunFault, Strictness, write_done, write_entry, write_look};
+use ov_scenario::{Line, LineToRun, LinesToRun, SectionLine, Subject};
 use ov_snap::Core;
 use ov_words::Words;
 use std::alloc::Global;
@@ -278,29 +273,5 @@ fn run_analysis<N: HallName, T: Threads + Sync, W: Write>(
     match file_analysis(rt, alloc, hall, recent, subject, workers) {
         Ok(line) => write_done(line.as_bytes(), sink),
         Err(fault) => Ok(Outcome::Refused(Refusal::Core(fault))),
-    }
-}
-
-/// Writes what is printed of what is looked at, or refuses.
-fn write_look<W: Write>(
-    alloc: Global,
-    core: &Core,
-    look: Look,
-    sink: &mut Sink<W>,
-) -> Result<Outcome, RunFault>
-    requires faults { sink.old.faults < most_faults }
-    ensures outcome { IfOk result (WritesOutcome (ShowsLook core.now look) (RefusesLook core.now look)
-        (W.contents sink.old.writer) (W.contents sink.new.writer)) }
-    ensures begun { OnErr result (WritesPrefix (λ text. BeginsLook core.now look text ⊎ ShowsLook core.now look text)
-        (W.contents sink.old.writer) (W.contents sink.new.writer)) }
-    ensures memory { IsErrOf result RunFault.OutOfMemory → Writes (EndsLook core.now look)
-        (W.contents sink.old.writer) (W.contents sink.new.writer) }
-    ensures faults { sink.new.faults ≡ sink.old.faults + write_faults result }
-    ensures kind { IfErr result IsOfWriting }
-{
-    match look {
-        Look::Show(id) => write_node(alloc, core.world(), id, sink),
-        Look::Packets => write_packets(alloc, core.world().packets(), sink),
-        Look::Certificate(subject) => Ok(write_certificate(alloc, core, &subject, sink)?),
     }
 }

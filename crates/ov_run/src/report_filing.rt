@@ -1,14 +1,14 @@
-ghost use Rattle.std.specs.Prelude.{◌≡◌, None, IfOk, IfErr, IfSome, IfNone, OnErr, string_bytes};
+ghost use Rattle.std.specs.Prelude.{◌≡◌, None, IfOk, IfErr, OnErr, string_bytes};
 ghost use Rattle.ov_even.specs.Answer.{IsAnswer};
 ghost use Rattle.ov_net.specs.Journal.{AreLinks};
 ghost use Rattle.ov_snap.specs.CoreState.{IsSound};
-ghost use Rattle.ov_snap.specs.ReportState.{ReportState, IsTrueReport};
+ghost use Rattle.ov_snap.specs.ReportState.{ReportState};
 ghost use Rattle.ov_ids.specs.FaultOrder.{IsRefusedBy};
 ghost use Rattle.ov_snap.specs.Refusals.{FilingJudged};
 ghost use Rattle.ov_run.specs.Code.Recent.{HasAnswer};
 ghost use Rattle.ov_run_meaning.specs.Printed.{report_line};
 ghost use Rattle.ov_run_meaning.specs.Subjects.{members_of, IsReportOf, AnalysisJudged, WasAnalysed};
-ghost use Rattle.ov_snap.specs.declared.fault.CoreFault.TheVariants.{OutOfMemory as out_of_memory};
+ghost use Rattle.ov_snap.specs.declared.core_fault.CoreFault.TheVariants.{OutOfMemory as out_of_memory};
 
 use crate::hall_of_run::RunHall;
 use crate::recent_reports::RecentReports;
@@ -18,7 +18,7 @@ use ov_graph::Graph;
 use ov_hall::HallName;
 use ov_ids::{NodeId, Seq, Workers};
 use ov_net::MOST_ENTRIES;
-use ov_run_meaning::{members_of, report_line};
+use ov_run_meaning::{filed_report, members_of, report_line};
 use ov_scenario::Subject;
 use ov_snap::{Core, CoreFault, Report, Snapshot};
 use std::alloc::Global;
@@ -69,18 +69,6 @@ fn report_for<T: Threads + Sync>(
     }
     let snapshot = begin(core, subject)?;
     report_about(rt, alloc, &snapshot, recent, subject, workers)
-}
-
-/// The report that is filed for a subject, if there is one.
-pub(crate) fn filed_report<'a>(core: &'a Core, subject: &Subject) -> Option<&'a Report>
-    ensures some { IfSome result (λ r. IsReportOf core.now subject.now r.now) }
-    ensures none { IfNone result ((r : ReportState) → ¬ IsReportOf core.now subject.now r) }
-    ensures exact { IfSome result (λ r. IsTrueReport core.now.world.journal r.now) }
-{
-    match &subject.group {
-        Some(ids) => core.group_report(subject.moment, ids.as_slice()),
-        None => core.report(subject.moment),
-    }
 }
 
 /// Begins the analysis of a subject of which no report is filed.

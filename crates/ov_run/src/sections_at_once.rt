@@ -5,8 +5,8 @@ ghost use Rattle.ov_run.specs.Code.Jobs.{HaveRun, jobs_of, joined};
 
 use crate::hall_of_run::RunHall;
 use crate::line_outcome::{ToldLine, count_accepted};
+use crate::section_jobs_by_thread::{Shift, in_one_list, run_shift, run_shifts, shifts_of};
 use crate::section_running::{Job, Ran, Section};
-use crate::section_shifts::{Shift, in_one_list, run_shift, run_shifts, shifts_of};
 use ov_hall::{Hall, HallName, Pass};
 use ov_ids::{OutOfMemory, Seq};
 use ov_scenario::SectionLine;

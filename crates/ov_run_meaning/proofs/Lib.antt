@@ -1,3 +1,4 @@
 pub mod Accepted
 pub mod OfReader
 pub mod Reports
+pub mod Writing

@@ -9,3 +9,4 @@ pub mod Sections
 pub mod Strict
 pub mod Subjects
 pub mod Theorems
+pub mod Writing

@@ -10,7 +10,7 @@ use Rattle.ov_ids.specs.Text.{ids_text}
 use Rattle.ov_net.specs.declared.journal_entry_and_changes.Change.{Change}
 use Rattle.ov_net.specs.declared.journal_entry_and_changes.Change.TheVariants.{Born, Up, Down, Gone}
 use Rattle.ov_net.specs.declared.journal_entry_and_changes.Entry.{Entry}
-use Rattle.ov_peer.specs.declared.input.Delivery.{Delivery}
+use Rattle.ov_peer.specs.declared.input_and_output.Delivery.{Delivery}
 use Rattle.ov_peer.specs.PeerState.{PeerState}
 
 -- a change, with a space before it

@@ -11,20 +11,20 @@ use Rattle.ov_net.specs.declared.journal_entry_and_changes.Entry.{Entry}
 use Rattle.ov_snap.specs.CoreState.{CoreState}
 use Rattle.ov_snap.specs.Refusals.{BeginJudged, FilingJudged}
 use Rattle.ov_snap.specs.ReportState.{ReportState}
-use Rattle.ov_snap.specs.declared.fault.CoreFault.{CoreFault}
-use Rattle.ov_snap.specs.declared.fault.CoreFault.TheVariants.{OutOfMemory}
+use Rattle.ov_snap.specs.declared.core_fault.CoreFault.{CoreFault}
+use Rattle.ov_snap.specs.declared.core_fault.CoreFault.TheVariants.{OutOfMemory}
 use Rattle.ov_snap.specs.declared.kept_snapshots.Snapshot.{Snapshot}
 use Rattle.ov_snap.specs.Logs.{Begins, IsLog, core_made, of_driver}
 use Rattle.ov_snap.specs.Parts.{total}
 use Rattle.ov_snap.specs.DriverSteps.{HasBegun, HasFiled, HasLooked, HasStepped, ticket}
 use Rattle.ov_snap.specs.declared.driver_log.Mark.{Mark}
 use Rattle.ov_snap.specs.declared.driver_log.Ticket.{Ticket}
-use Rattle.ov_run_meaning.specs.declared.outcome.Outcome.{Outcome}
-use Rattle.ov_run_meaning.specs.declared.outcome.Outcome.TheVariants.{Accepted, Refused}
+use Rattle.ov_run_meaning.specs.declared.line_run_outcome.Outcome.{Outcome}
+use Rattle.ov_run_meaning.specs.declared.line_run_outcome.Outcome.TheVariants.{Accepted, Refused}
 use Rattle.ov_run_meaning.specs.declared.refusal.Refusal.{Refusal}
 use Rattle.ov_run_meaning.specs.declared.refusal.Refusal.TheVariants.{World, Core}
-use Rattle.ov_scenario.specs.declared.section.Deed.{Deed}
-use Rattle.ov_scenario.specs.declared.section.Deed.TheVariants as deed
+use Rattle.ov_scenario.specs.declared.line_of_section.Deed.{Deed}
+use Rattle.ov_scenario.specs.declared.line_of_section.Deed.TheVariants as deed
 use Rattle.ov_scenario.specs.Sections.{SectionLine}
 
 -- ---- one line

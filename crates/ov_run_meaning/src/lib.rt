@@ -1,18 +1,23 @@
-//! What a run of a scenario prints, and why it ends, by definition.
+//! What a run of a scenario prints, and why it ends: by definition, as texts, and as it goes to a writer.
 #![tactic(auto)]
 
-mod asked_group;
-mod outcome;
+mod change_texts;
+mod line_output_writing;
+mod line_run_outcome;
+mod line_texts;
+mod printed_reports_theorem;
 mod refusal;
-mod report_texts;
+mod report_and_refusal_lines;
 mod run_fault;
 mod strictness;
-mod theorems;
+mod subjects;
 
-pub use asked_group::members_of;
-pub use outcome::Outcome;
+pub use line_output_writing::{write_done, write_entry, write_look};
+pub use line_run_outcome::Outcome;
+pub use line_texts::{entry_line, node_line, packet_line, together_line};
+pub use printed_reports_theorem::every_printed_report_is_true;
 pub use refusal::Refusal;
-pub use report_texts::{cert_line, refused_line, report_line};
+pub use report_and_refusal_lines::{cert_line, refused_line, report_line};
 pub use run_fault::RunFault;
 pub use strictness::Strictness;
-pub use theorems::every_printed_report_is_true;
+pub use subjects::{filed_report, members_of};

@@ -8,7 +8,7 @@ use Rattle.ov_ids.specs.Members.{Has}
 use Rattle.ov_net.specs.declared.event.Event.{Event}
 use Rattle.ov_scenario.specs.Draws.{AreDraws, seeded}
 use Rattle.ov_lines.specs.Lines.{kept_lines, long_bits}
-use Rattle.ov_lines.specs.declared.unread.Unread.{Unread}
+use Rattle.ov_lines.specs.declared.unexpected_word.Unread.{Unread}
 use Rattle.ov_scenario.specs.RunLines.{drivers_for}
 use Rattle.ov_scenario.specs.Sections.{SectionLine, IsPlain, has_end, most_sections, open_after, section_line}
 use Rattle.ov_scenario.specs.Statements.{Stated, ToldLine, statement_of, told, workers_or_one}
@@ -25,7 +25,7 @@ use Rattle.ov_scenario.specs.declared.scenario_fault.ScenarioFault.{ScenarioFaul
 use Rattle.ov_scenario.specs.declared.scenario_fault.ScenarioFault.TheVariants as refused
 use Rattle.ov_scenario.specs.declared.scenario_fault.Setting.{Setting}
 use Rattle.ov_scenario.specs.declared.scenario_fault.Setting.TheVariants as sets
-use Rattle.ov_scenario.specs.declared.section.Deed.TheVariants as deed
+use Rattle.ov_scenario.specs.declared.line_of_section.Deed.TheVariants as deed
 use Rattle.ov_scenario.specs.declared.statement.Statement.{Statement}
 use Rattle.ov_scenario.specs.declared.statement.Statement.TheVariants as says
 

@@ -6,7 +6,7 @@ use Rattle.ov_ids.specs.Workers.{most_workers}
 use Rattle.ov_scenario.specs.Statements.{Stated}
 use Rattle.ov_scenario.specs.declared.open_block.OpenBlock.{OpenBlock}
 use Rattle.ov_scenario.specs.declared.scenario.Subject.{Subject}
-use Rattle.ov_scenario.specs.declared.section.Deed.{Deed}
+use Rattle.ov_scenario.specs.declared.line_of_section.Deed.{Deed}
 use Rattle.ov_scenario.specs.declared.statement.Statement.{Statement}
 use Rattle.ov_scenario.specs.declared.statement.Statement.TheVariants as says
 

@@ -5,7 +5,7 @@ ghost use Rattle.ov_scenario.specs.Code.RunnableLines.{AreReadable, TakesPart, b
 ghost use Rattle.ov_scenario.specs.declared.scenario.Line.TheVariants as line;
 
 use crate::event_words_reading::GivenWords;
-use crate::section::{Deed, SectionLine};
+use crate::line_of_section::{Deed, SectionLine};
 use crate::statement::{Stated, Statement};
 use crate::statement_reading::state;
 use crate::words_from_seed::SeedWords;

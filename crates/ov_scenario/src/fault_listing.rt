@@ -2,7 +2,7 @@ ghost use Rattle.std.specs.Prelude.{◌≡◌, ◌∷◌, ◌++◌, [], List, If
 ghost use Rattle.ov_scenario.specs.Scenarios.{AreFirstFaulty, AreFirstOf};
 ghost use Rattle.ov_scenario.specs.declared.scenario_fault.FaultyLine.{FaultyLine as Faulty};
 
-use crate::judging::Judging;
+use crate::judged_line_iterator::Judging;
 use crate::scenario_fault::FaultyLine;
 use ov_ids::OutOfMemory;
 use std::alloc::Global;

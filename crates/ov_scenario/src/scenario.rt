@@ -1,5 +1,5 @@
+use crate::line_of_section::SectionLine;
 use crate::lines_to_run::LinesToRun;
-use crate::section::SectionLine;
 use ov_ids::{NodeId, Params, Seq, Workers};
 use ov_net::Event;
 use ov_words::Words;

@@ -3,7 +3,7 @@ ghost use Rattle.ov_scenario.specs.Code.Judging.{drivers_from, first_in, params_
 ghost use Rattle.ov_scenario.specs.RunLines.{lines_that_run};
 ghost use Rattle.ov_scenario.specs.Scenarios.{AreFaultless, IsReadingFault, IsScenario, stated_lines};
 
-use crate::judging::Judging;
+use crate::judged_line_iterator::Judging;
 use crate::lines_to_run::LinesToRun;
 use crate::scenario::Scenario;
 use crate::scenario_fault::ScenarioFault;

@@ -6,16 +6,16 @@ use Rattle.ov_ids.specs.FaultOrder.{HoldsThen, Passed}
 use Rattle.ov_graph.specs.Links.{LinkGraph, IsGroup}
 use Rattle.ov_net.specs.Journal.{AreLinks, Live}
 use Rattle.ov_ids.specs.Workers.{MayWork}
-use Rattle.ov_claims.specs.Theorems.{AllEnded}
+use Rattle.ov_board.specs.Theorems.{AllEnded}
 use Rattle.ov_desk.specs.Desk.{GroupDeskState}
 use Rattle.ov_desk.specs.Turns.{IsWorkerOf}
 use Rattle.ov_snap.specs.CoreState.{CoreState, HasReport, HasDesk, most_desks}
 use Rattle.ov_snap.specs.ReportState.{ReportState}
 use Rattle.ov_snap.specs.Snapshots.{IsMoment}
-use Rattle.ov_snap.specs.declared.fault.CoreFault.{CoreFault}
-use Rattle.ov_snap.specs.declared.fault.CoreFault.TheVariants.{NoSuchMoment, NoNodes, BadGroup, TooManyDesks}
-use Rattle.ov_snap.specs.declared.fault.CoreFault.TheVariants.{NoSuchDesk, NoSuchWorker, WrongTurn, NotEnded}
-use Rattle.ov_snap.specs.declared.fault.CoreFault.TheVariants.{OtherGraph, AlreadyFiled, OutOfMemory}
+use Rattle.ov_snap.specs.declared.core_fault.CoreFault.{CoreFault}
+use Rattle.ov_snap.specs.declared.core_fault.CoreFault.TheVariants.{NoSuchMoment, NoNodes, BadGroup, TooManyDesks}
+use Rattle.ov_snap.specs.declared.core_fault.CoreFault.TheVariants.{NoSuchDesk, NoSuchWorker, WrongTurn, NotEnded}
+use Rattle.ov_snap.specs.declared.core_fault.CoreFault.TheVariants.{OtherGraph, AlreadyFiled, OutOfMemory}
 
 -- the number of each fault
 abbrev pub number_of : CoreFault → ℕ

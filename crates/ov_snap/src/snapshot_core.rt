@@ -11,10 +11,10 @@ ghost use Rattle.ov_snap.specs.Filing.{WasFiled};
 ghost use Rattle.ov_snap.specs.Refusals.{BeginJudged, FilingJudged, GroupBeginJudged};
 ghost use Rattle.ov_snap.specs.Run.{Happened, TookSnapshot};
 ghost use Rattle.ov_snap.specs.Snapshots.{AreSnapshots, IsMoment};
-ghost use Rattle.ov_snap.specs.declared.fault.CoreFault.TheVariants.{NoSuchMoment, OutOfMemory as out_of_memory};
+ghost use Rattle.ov_snap.specs.declared.core_fault.CoreFault.TheVariants.{NoSuchMoment, OutOfMemory as out_of_memory};
 
 use crate::analysis_report::Report;
-use crate::fault::CoreFault;
+use crate::core_fault::CoreFault;
 use crate::filed_reports::Reports;
 use crate::kept_snapshots::{Snapshot, find, make_room};
 use ov_cert::SharedGraph;

@@ -6,7 +6,7 @@ ghost use Rattle.ov_graph.specs.Links.{LinkGraph};
 ghost use Rattle.ov_cert.specs.Valid.{IsValidForGroup};
 ghost use Rattle.ov_net.specs.Journal.{AreLinks};
 ghost use Rattle.ov_ids.specs.Workers.{MayWork};
-ghost use Rattle.ov_claims.specs.Theorems.{AllEnded};
+ghost use Rattle.ov_board.specs.Theorems.{AllEnded};
 ghost use Rattle.ov_even.specs.Answer.{IsAnswer};
 ghost use Rattle.ov_desk.specs.Desk.{GroupDeskState, IsOpened};
 ghost use Rattle.ov_desk.specs.Sound.{IsSoundDesk};
@@ -16,11 +16,11 @@ ghost use Rattle.ov_snap.specs.DeskSteps.{WasOpened, WasOpenedForGroup, ClaimedA
 ghost use Rattle.ov_snap.specs.Refusals.{OpeningJudged, GroupOpeningJudged, TurnJudged, DeskFilingJudged};
 ghost use Rattle.ov_snap.specs.Refusals.{FilingJudged, HoldsAt, WorkersJudged, WorkerThen};
 ghost use Rattle.ov_snap.specs.Snapshots.{WasBefore};
-ghost use Rattle.ov_snap.specs.declared.fault.CoreFault.TheVariants as fault;
+ghost use Rattle.ov_snap.specs.declared.core_fault.CoreFault.TheVariants as fault;
 ghost use Rattle.ov_snap.specs.declared.kept_snapshots.Snapshot.{Snapshot as Kept};
 
 use crate::analysis_report::Report;
-use crate::fault::CoreFault;
+use crate::core_fault::CoreFault;
 use crate::kept_snapshots::{Snapshot, find};
 use crate::snapshot_core::Core;
 use ov_desk::GroupDesk;

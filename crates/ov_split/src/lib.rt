@@ -1,8 +1,8 @@
 //! Nets: paths from one node of a graph to some others, which share only that node.
 #![tactic(auto)]
 
-mod net;
-mod theorems;
+mod menger_and_nearest_cut;
+mod source_and_targets_net;
 
-pub use net::SplitNet;
-pub use theorems::{menger, one_nearest_cut};
+pub use menger_and_nearest_cut::{menger, one_nearest_cut};
+pub use source_and_targets_net::SplitNet;

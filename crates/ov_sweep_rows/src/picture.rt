@@ -1,8 +1,8 @@
-use crate::panel::{Panel, push_panel};
 use crate::picture_layout::{HEADING, LEFT, Layout, WIDTH, layout_of};
 use crate::picture_style::{STYLE, tone};
+use crate::plot_panel::{Panel, push_panel};
+use crate::runs_by_setting::{common_command, differing, number, run_counts};
 use crate::setting_names::{SETTING_NAMES, SettingName};
-use crate::settings::{common_command, differing, number, run_counts};
 use crate::summary::phase_name;
 use crate::{Phase, Setting};
 use ov_ids::OutOfMemory;

@@ -1,5 +1,5 @@
 use crate::phase_summary::ascending_ks;
-use crate::settings::number;
+use crate::runs_by_setting::number;
 use crate::{Phase, Setting};
 use std::alloc::{AllocError, Global};
 

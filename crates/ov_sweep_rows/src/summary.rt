@@ -1,6 +1,6 @@
 use crate::phase_summary::{PhaseSummary, phase_summary};
+use crate::runs_by_setting::{cell_at, common_command, differing, run_counts, shown_cell};
 use crate::setting_names::SETTING_NAMES;
-use crate::settings::{cell_at, common_command, differing, run_counts, shown_cell};
 use crate::text_table::TextTable;
 use crate::{Phase, Setting, Survival, wilson_interval};
 use ov_ids::OutOfMemory;

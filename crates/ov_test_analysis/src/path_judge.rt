@@ -2,7 +2,7 @@
 use ov_fans::Piece;
 use ov_graph::Graph;
 use ov_ids::{NodeId, is_ascending};
-use ov_paths::Paths;
+use ov_lists::Paths;
 use std::alloc::{AllocError, Global};
 
 /// Where paths lead: from a node to another one, or else to members of a group that are lower than it.

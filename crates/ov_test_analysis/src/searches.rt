@@ -7,7 +7,7 @@ use ov_flow::{Augmentation, CutRows, Flow};
 use ov_graph::Graph;
 use ov_graph::row::{EMPTY, Row, WORDS, agree, put};
 use ov_ids::{NodeId, OutOfMemory};
-use ov_paths::Paths;
+use ov_lists::Paths;
 use ov_split::SplitNet;
 use std::alloc::Global;
 use std::test::Fail;

@@ -1,6 +1,6 @@
 //! What files look like, by how they begin.
 use FileKind::{Certificate, Dot, Graph, Report, Scenario, Unknown, Views};
-use ov_hints::{FileKind, looks_like};
+use ov_lines::{FileKind, looks_like};
 
 /// How files begin, and what they look like. Some begin with names of hosts that are like the words of other files.
 static KINDS: [(&[u8], FileKind); 21] = [

@@ -2,7 +2,7 @@
 #![tactic(auto)]
 
 mod draws;
-mod random_words;
+mod random_words_of_event;
 
 pub use draws::Draws;
-pub use random_words::{WORDS_PER_EVENT, Words};
+pub use random_words_of_event::{WORDS_PER_EVENT, Words};

@@ -4,10 +4,10 @@ use Rattle.ov_io.specs.Refusal.{refusal_text}
 use Rattle.ov_arguments.specs.Arguments.{number_of}
 use Rattle.ov_arguments.specs.declared.arguments.ArgumentsFault.TheVariants.{BadArguments, OutOfMemory}
 use Rattle.ov_commands.specs.Faults.{command_fault_text}
-use Rattle.ov_run_commands.specs.GrowFaults.{growth_number}
-use Rattle.ov_run_commands.specs.declared.grow_command_fault.GrowthFault.TheVariants as growth
-use Rattle.overlay.specs.declared.program_outcome.ProgramFault.{ProgramFault}
-use Rattle.overlay.specs.declared.program_outcome.ProgramFault.TheVariants.{Arguments, Command, Growth}
+use Rattle.ov_grow_commands.specs.GrowFaults.{growth_number}
+use Rattle.ov_grow_commands.specs.declared.grow_command_fault.GrowthFault.TheVariants as growth
+use Rattle.overlay.specs.declared.fault_and_exit_status.ProgramFault.{ProgramFault}
+use Rattle.overlay.specs.declared.fault_and_exit_status.ProgramFault.TheVariants.{Arguments, Command, Growth}
 
 -- what is printed of a fault on standard error, without its line feed
 abbrev pub program_fault_text : ProgramFault → List ℕ

@@ -6,16 +6,17 @@ ghost use Rattle.std.specs.Prelude.{◌≡◌, ◌≢◌, drop, map, string_byte
 ghost use Rattle.ov_arguments.specs.Arguments.{AreTaken};
 ghost use Rattle.ov_arguments.specs.declared.arguments.ArgumentsFault.TheVariants.{BadArguments};
 ghost use Rattle.overlay.specs.Program.{IsOfRequest};
-ghost use Rattle.overlay.specs.declared.program_outcome.ProgramFault.TheVariants.{Arguments};
+ghost use Rattle.overlay.specs.declared.fault_and_exit_status.ProgramFault.TheVariants.{Arguments};
 
-mod program_outcome;
+mod fault_and_exit_status;
 
-use crate::program_outcome::{ProgramFault, exit_status};
+use crate::fault_and_exit_status::{ProgramFault, exit_status};
 use ov_arguments::{ArgumentsFault, Request, argument_reasons, read_arguments};
 use ov_commands::{
     analyse_asked, graph_asked, import_asked, picture_asked, print_command_tip, print_reason,
 };
-use ov_run_commands::{grow_or_sweep, run_asked};
+use ov_grow_commands::grow_or_sweep;
+use ov_run_command::run_asked;
 use std::env;
 use std::process::ExitCode;
 use std::sync::Wait;

@@ -12,8 +12,8 @@ use ov_check::{
     why_no_input,
 };
 use ov_check_reasons::reasons;
-use ov_hints::{FileKind, file_tip, folder_tip, is_folder, kind_of_file};
 use ov_io::{Sink, Source, unopened_text};
+use ov_lines::{FileKind, file_tip, folder_tip, is_folder, kind_of_file};
 use std::alloc::AllocError;
 use std::env::FillError;
 use std::fs::File;

@@ -2,8 +2,8 @@
 use Rattle.std.specs.Prelude.{◌≡◌, ℕ, zero, suc, ◌+◌, List, [], ◌∷◌, ◌++◌, take, drop}
 use Rattle.atomic_table.specs.Seated.{TableId}
 use Rattle.atomic_table.specs.Table.{Me, Step}
-use Rattle.ov_claims.specs.Claims.{WorkerState, DeskState, fresh}
-use Rattle.ov_claims.specs.Steps.{claiming, looking, failing, Claims, Looks, Fails}
+use Rattle.ov_board.specs.Claims.{WorkerState, DeskState, fresh}
+use Rattle.ov_board.specs.Steps.{claiming, looking, failing, Claims, Looks, Fails}
 use Rattle.ov_board.specs.declared.ghost_views.BoardSize.{BoardSize}
 use Rattle.ov_board.specs.declared.ghost_views.SeatView.{SeatView}
 use Rattle.ov_board.specs.Board.{SeatState, IsExchange}

@@ -13,10 +13,10 @@ use Rattle.ov_graph.specs.Code.Tests.{are_joined}
 use Rattle.ov_graph.proofs.EvenTest.Tested.{joined_tested}
 use Rattle.ov_cert.specs.declared.cert.PairPaths.{PairPaths}
 use Rattle.ov_cert.specs.declared.cert.FanPaths.{FanPaths}
-use Rattle.ov_cert.specs.declared.flaws.PathFlaw.{PathFlaw}
-use Rattle.ov_cert.specs.declared.flaws.PathFlaw.TheVariants.{TooShort, BeginsAt, EndsAt, NoLink, Taken}
-use Rattle.ov_cert.specs.declared.flaws.EntryFlaw.{EntryFlaw}
-use Rattle.ov_cert.specs.declared.flaws.EntryFlaw.TheVariants.{Missing, NamesOthers, Number, Path}
+use Rattle.ov_cert.specs.declared.path_and_entry_flaws.PathFlaw.{PathFlaw}
+use Rattle.ov_cert.specs.declared.path_and_entry_flaws.PathFlaw.TheVariants.{TooShort, BeginsAt, EndsAt, NoLink, Taken}
+use Rattle.ov_cert.specs.declared.path_and_entry_flaws.EntryFlaw.{EntryFlaw}
+use Rattle.ov_cert.specs.declared.path_and_entry_flaws.EntryFlaw.TheVariants.{Missing, NamesOthers, Number, Path}
 use Rattle.ov_cert.specs.Flaws.{OccursTwice, OneHas, HasPathFlaw, HasPairFlaw, HasFanFlaw}
 use Rattle.ov_cert.specs.Code.Tests.{entered, without_last, last_of, inner, steps, is_earlier, is_pair_path}
 use Rattle.ov_cert.specs.Code.Tests.{are_pair_paths, is_fan_path, are_fan_paths}

@@ -10,10 +10,10 @@ use Rattle.ov_graph.specs.Links.{LinkGraph}
 use Rattle.ov_graph.specs.Code.Tests.{are_joined}
 use Rattle.ov_cert.specs.declared.cert.PairPaths.{PairPaths}
 use Rattle.ov_cert.specs.declared.cert.FanPaths.{FanPaths}
-use Rattle.ov_cert.specs.declared.flaws.PathFlaw.{PathFlaw}
-use Rattle.ov_cert.specs.declared.flaws.PathFlaw.TheVariants.{TooShort, EndsAt, NoLink, Taken}
-use Rattle.ov_cert.specs.declared.flaws.EntryFlaw.{EntryFlaw}
-use Rattle.ov_cert.specs.declared.flaws.EntryFlaw.TheVariants.{NamesOthers, Number}
+use Rattle.ov_cert.specs.declared.path_and_entry_flaws.PathFlaw.{PathFlaw}
+use Rattle.ov_cert.specs.declared.path_and_entry_flaws.PathFlaw.TheVariants.{TooShort, EndsAt, NoLink, Taken}
+use Rattle.ov_cert.specs.declared.path_and_entry_flaws.EntryFlaw.{EntryFlaw}
+use Rattle.ov_cert.specs.declared.path_and_entry_flaws.EntryFlaw.TheVariants.{NamesOthers, Number}
 use Rattle.ov_cert.specs.Code.Tests.{chained, fresh, entered, without_last, last_of, inner, steps, is_earlier}
 use Rattle.ov_cert.specs.Code.Tests.{is_pair_path, are_pair_paths, is_fan_path, are_fan_paths, is_pair_entry}
 use Rattle.ov_cert.specs.Code.Tests.{is_fan_entry}

@@ -5,10 +5,10 @@ use Rattle.ov_graph.specs.Links.{LinkGraph}
 use Rattle.ov_graph.specs.Code.Tests.{are_joined}
 use Rattle.ov_cert.specs.declared.cert.PairPaths.{PairPaths}
 use Rattle.ov_cert.specs.declared.cert.FanPaths.{FanPaths}
-use Rattle.ov_cert.specs.declared.flaws.PathFlaw.{PathFlaw}
-use Rattle.ov_cert.specs.declared.flaws.PathFlaw.TheVariants.{TooShort, BeginsAt, EndsAt, NoLink, Taken}
-use Rattle.ov_cert.specs.declared.flaws.EntryFlaw.{EntryFlaw}
-use Rattle.ov_cert.specs.declared.flaws.EntryFlaw.TheVariants.{Missing, NamesOthers, Number, Path}
+use Rattle.ov_cert.specs.declared.path_and_entry_flaws.PathFlaw.{PathFlaw}
+use Rattle.ov_cert.specs.declared.path_and_entry_flaws.PathFlaw.TheVariants.{TooShort, BeginsAt, EndsAt, NoLink, Taken}
+use Rattle.ov_cert.specs.declared.path_and_entry_flaws.EntryFlaw.{EntryFlaw}
+use Rattle.ov_cert.specs.declared.path_and_entry_flaws.EntryFlaw.TheVariants.{Missing, NamesOthers, Number, Path}
 use Rattle.ov_cert.specs.Code.Tests.{entered, without_last, last_of, inner, steps, is_earlier}
 
 -- the first step of the list between two nodes that are not linked

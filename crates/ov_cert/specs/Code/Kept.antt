@@ -2,8 +2,8 @@
 use Rattle.std.specs.Prelude.{ℕ, List, Option, Some, None, Vec}
 use Rattle.std.specs.Global.{Global}
 use Rattle.ov_graph.specs.Links.{LinkGraph}
-use Rattle.ov_cert.specs.declared.held_graph.HeldGraph.{HeldGraph}
-use Rattle.ov_cert.specs.declared.held_graph.HeldGraph.TheVariants.{Own, Shared}
+use Rattle.ov_cert.specs.declared.own_or_shared_graph.HeldGraph.{HeldGraph}
+use Rattle.ov_cert.specs.declared.own_or_shared_graph.HeldGraph.TheVariants.{Own, Shared}
 
 -- a set of nodes of a graph; the members ascend
 pub record NodeSetState : Type 0 where

@@ -4,8 +4,8 @@ use Rattle.std.specs.Io.KnownBytes.{Appends}
 use Rattle.ov_graph.specs.Links.{LinkGraph}
 use Rattle.ov_io.specs.Device.{AppendsPrefixOf}
 use Rattle.ov_commands.specs.Pictures.{HoldsNot, NamesNot}
-use Rattle.ov_commands.specs.declared.file_command_fault.FileCommandFault.{FileCommandFault}
-use Rattle.ov_commands.specs.declared.file_command_fault.FileCommandFault.TheVariants.{Refused, Write, OutOfMemory}
+use Rattle.ov_commands.specs.declared.conversion_fault.FileCommandFault.{FileCommandFault}
+use Rattle.ov_commands.specs.declared.conversion_fault.FileCommandFault.TheVariants.{Refused, Write, OutOfMemory}
 
 -- no certificate that holds was found in the bytes: there is none, or memory ran out
 abbrev pub IsNotHeld : List ℕ → FileCommandFault → Type 0

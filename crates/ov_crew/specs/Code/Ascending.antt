@@ -2,7 +2,7 @@
 -- which its pairs are, and then its fans.
 use Rattle.std.specs.Prelude.{◌≡◌, ℕ, ◌+◌, ◌-◌, ◌≤◌, length}
 use Rattle.ov_even.specs.Code.Levels.{levels_behind, pairs_among}
-use Rattle.ov_crew.specs.declared.ascending_pieces.Column.{Column}
+use Rattle.ov_crew.specs.declared.ascending_piece_lookup.Column.{Column}
 
 -- how many nodes the graph and how many members the group has
 pub record GroupSizes : Type 0 where

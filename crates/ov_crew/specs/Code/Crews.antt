@@ -3,7 +3,7 @@ use Rattle.std.specs.Prelude.{◌≡◌, ℕ, ◌+◌, ◌<◌, true, List, [], 
 use Rattle.ov_ids.specs.Limits.{number_limit}
 use Rattle.ov_ids.specs.declared.out_of_memory.OutOfMemory.{OutOfMemory}
 use Rattle.ov_graph.specs.Links.{LinkGraph}
-use Rattle.ov_claims.specs.Claims.{fresh}
+use Rattle.ov_board.specs.Claims.{fresh}
 use Rattle.ov_board.specs.Board.{BoardState, SeatState}
 use Rattle.ov_even.specs.Order.{AreMoreThan}
 use Rattle.ov_even.specs.declared.worker_haul.Haul.{Haul}

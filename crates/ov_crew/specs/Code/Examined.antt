@@ -5,8 +5,8 @@ use Rattle.ov_graph.specs.Links.{LinkGraph}
 use Rattle.ov_fans.specs.Pieces.{IsGood}
 use Rattle.ov_fans.specs.Cuts.{IsParted}
 use Rattle.ov_fans.specs.declared.piece.Piece.{Piece}
-use Rattle.ov_claims.specs.Claims.{WorkerState}
-use Rattle.ov_claims.specs.Steps.{failing}
+use Rattle.ov_board.specs.Claims.{WorkerState}
+use Rattle.ov_board.specs.Steps.{failing}
 use Rattle.ov_even.specs.Order.{IsNumbered}
 use Rattle.ov_even.specs.declared.cut_search.PartedPiece.{PartedPiece}
 use Rattle.ov_crew.specs.declared.cut_worker.NumberedCut.{NumberedCut}

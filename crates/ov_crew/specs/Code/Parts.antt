@@ -2,7 +2,7 @@
 use Rattle.std.specs.Prelude.{◌≡◌, ℕ, ◌*◌, List, slice_get, take, drop, Result, Some, IfOk, Vec}
 use Rattle.std.specs.Global.{Global}
 use Rattle.ov_ids.specs.declared.out_of_memory.OutOfMemory.{OutOfMemory}
-use Rattle.ov_even.specs.declared.path_naming.NamedPaths.{NamedPaths}
+use Rattle.ov_even.specs.declared.paths_by_ids.NamedPaths.{NamedPaths}
 
 -- what a thread returns: its part of the list, or out of memory
 abbrev pub Part : Type 0

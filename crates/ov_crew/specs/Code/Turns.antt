@@ -6,9 +6,9 @@ use Rattle.ov_graph.specs.Links.{LinkGraph}
 use Rattle.ov_fans.specs.Cuts.{IsRight}
 use Rattle.ov_fans.specs.Theorems.{IsNoCut}
 use Rattle.ov_fans.specs.declared.piece.Piece.{Piece}
-use Rattle.ov_fans.specs.declared.settled.Settled.{Settled}
-use Rattle.ov_claims.specs.Claims.{WorkerState}
-use Rattle.ov_claims.specs.Steps.{failing}
+use Rattle.ov_fans.specs.declared.piece_result.Settled.{Settled}
+use Rattle.ov_board.specs.Claims.{WorkerState}
+use Rattle.ov_board.specs.Steps.{failing}
 
 -- the worker has taken x, a number below the total and above all that it had claimed
 pub record HasTaken (total x : ℕ) (w v : WorkerState) : Type 0 where

@@ -1,9 +1,9 @@
 -- The invariant of a desk.
 use Rattle.std.specs.Prelude.{◌≡◌, ℕ, false, List, length, map}
-use Rattle.ov_fans.specs.declared.settled.Settled.{Settled}
-use Rattle.ov_claims.specs.Claims.{WorkerState, DeskState, HasWorker}
+use Rattle.ov_fans.specs.declared.piece_result.Settled.{Settled}
+use Rattle.ov_board.specs.Claims.{WorkerState, DeskState, HasWorker}
 use Rattle.ov_ids.specs.Workers.{MayWork}
-use Rattle.ov_claims.specs.Steps.{IsLast}
+use Rattle.ov_board.specs.Steps.{IsLast}
 use Rattle.ov_even.specs.declared.worker_haul.Haul.{Haul}
 use Rattle.ov_desk.specs.Desk.{GroupDeskState, HasHand, IsNumberIn}
 use Rattle.ov_desk.specs.declared.piece_in_hand.Hand.{Hand}

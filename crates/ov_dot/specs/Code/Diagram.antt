@@ -7,15 +7,15 @@ use Rattle.ov_dot.specs.declared.token.Kind.TheVariants.{Strict, Graph, Digraph,
 use Rattle.ov_dot.specs.declared.token.Kind.TheVariants.{Quoted}
 use Rattle.ov_dot.specs.declared.token.Kind.TheVariants.{Html, OpenBrace, CloseBrace, OpenBracket, CloseBracket}
 use Rattle.ov_dot.specs.declared.token.Kind.TheVariants.{Semicolon, Comma, Equals, Colon, Line, Arrow}
-use Rattle.ov_dot.specs.declared.diagram_place.Place.{Place}
-use Rattle.ov_dot.specs.declared.diagram_place.Place.TheVariants.{Beginning, BehindStrict, BehindKind, BehindTitle}
-use Rattle.ov_dot.specs.declared.diagram_place.Place.TheVariants.{Body, Named}
-use Rattle.ov_dot.specs.declared.diagram_place.Place.TheVariants.{Member, PortNext, Ported, CompassNext, Directed}
-use Rattle.ov_dot.specs.declared.diagram_place.Place.TheVariants.{EndNext}
-use Rattle.ov_dot.specs.declared.diagram_place.Place.TheVariants.{ListNext, InList, Attribute, ValueNext, Valued}
-use Rattle.ov_dot.specs.declared.diagram_place.Place.TheVariants.{Listed}
-use Rattle.ov_dot.specs.declared.diagram_place.Place.TheVariants.{AssignedNext}
-use Rattle.ov_dot.specs.declared.diagram_place.Place.TheVariants.{SubgraphNext, SubgraphTitled, Over}
+use Rattle.ov_dot.specs.declared.grammar_state.Place.{Place}
+use Rattle.ov_dot.specs.declared.grammar_state.Place.TheVariants.{Beginning, BehindStrict, BehindKind, BehindTitle}
+use Rattle.ov_dot.specs.declared.grammar_state.Place.TheVariants.{Body, Named}
+use Rattle.ov_dot.specs.declared.grammar_state.Place.TheVariants.{Member, PortNext, Ported, CompassNext, Directed}
+use Rattle.ov_dot.specs.declared.grammar_state.Place.TheVariants.{EndNext}
+use Rattle.ov_dot.specs.declared.grammar_state.Place.TheVariants.{ListNext, InList, Attribute, ValueNext, Valued}
+use Rattle.ov_dot.specs.declared.grammar_state.Place.TheVariants.{Listed}
+use Rattle.ov_dot.specs.declared.grammar_state.Place.TheVariants.{AssignedNext}
+use Rattle.ov_dot.specs.declared.grammar_state.Place.TheVariants.{SubgraphNext, SubgraphTitled, Over}
 
 -- a name is an identifier that is no keyword, a numeral or a quoted text; it leads here
 abbrev pub name_to : Place → Kind → Option Place

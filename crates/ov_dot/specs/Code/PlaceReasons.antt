@@ -1,15 +1,15 @@
 -- Why a token can't stand at a place of the diagram.
 use Rattle.ov_dot.specs.declared.token.Kind.{Kind}
 use Rattle.ov_dot.specs.declared.token.Kind.TheVariants.{Subgraph, Html, OpenBrace, Line, Arrow}
-use Rattle.ov_dot.specs.declared.diagram_place.Place.{Place}
-use Rattle.ov_dot.specs.declared.diagram_place.Place.TheVariants.{Beginning, BehindStrict, BehindKind, BehindTitle}
-use Rattle.ov_dot.specs.declared.diagram_place.Place.TheVariants.{Body, Named}
-use Rattle.ov_dot.specs.declared.diagram_place.Place.TheVariants.{Member, PortNext, Ported, CompassNext, Directed}
-use Rattle.ov_dot.specs.declared.diagram_place.Place.TheVariants.{EndNext}
-use Rattle.ov_dot.specs.declared.diagram_place.Place.TheVariants.{ListNext, InList, Attribute, ValueNext, Valued}
-use Rattle.ov_dot.specs.declared.diagram_place.Place.TheVariants.{Listed}
-use Rattle.ov_dot.specs.declared.diagram_place.Place.TheVariants.{AssignedNext}
-use Rattle.ov_dot.specs.declared.diagram_place.Place.TheVariants.{SubgraphNext, SubgraphTitled, Over}
+use Rattle.ov_dot.specs.declared.grammar_state.Place.{Place}
+use Rattle.ov_dot.specs.declared.grammar_state.Place.TheVariants.{Beginning, BehindStrict, BehindKind, BehindTitle}
+use Rattle.ov_dot.specs.declared.grammar_state.Place.TheVariants.{Body, Named}
+use Rattle.ov_dot.specs.declared.grammar_state.Place.TheVariants.{Member, PortNext, Ported, CompassNext, Directed}
+use Rattle.ov_dot.specs.declared.grammar_state.Place.TheVariants.{EndNext}
+use Rattle.ov_dot.specs.declared.grammar_state.Place.TheVariants.{ListNext, InList, Attribute, ValueNext, Valued}
+use Rattle.ov_dot.specs.declared.grammar_state.Place.TheVariants.{Listed}
+use Rattle.ov_dot.specs.declared.grammar_state.Place.TheVariants.{AssignedNext}
+use Rattle.ov_dot.specs.declared.grammar_state.Place.TheVariants.{SubgraphNext, SubgraphTitled, Over}
 use Rattle.ov_dot.specs.declared.fault.Why.{Why}
 use Rattle.ov_dot.specs.declared.fault.Why.TheVariants.{NoGraph, NoBrace, NoName, NoStatement, BadAttributes}
 use Rattle.ov_dot.specs.declared.fault.Why.TheVariants.{SubgraphAsEnd}

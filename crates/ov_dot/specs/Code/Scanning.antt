@@ -3,11 +3,11 @@ use Rattle.std.specs.Prelude.{ℕ, ◌+◌, ◌-◌, Bool, true, false, ◌==◌
 use Rattle.std.specs.Prelude.{if◌then◌else◌}
 use Rattle.std.specs.Bool.{then_some}
 use Rattle.std.specs.Char.{is_ascii_digit}
-use Rattle.ov_dot.specs.declared.part_scanning.Place.{Place}
-use Rattle.ov_dot.specs.declared.part_scanning.Place.TheVariants.{Start, LineFeed, Slash, LineComment}
-use Rattle.ov_dot.specs.declared.part_scanning.Place.TheVariants.{BlockComment, BlockStar}
-use Rattle.ov_dot.specs.declared.part_scanning.Place.TheVariants.{Word, Minus, Point, Digits, Fraction, Text}
-use Rattle.ov_dot.specs.declared.part_scanning.Place.TheVariants.{Escaped, Angle, End}
+use Rattle.ov_dot.specs.declared.lexeme_scanning.Place.{Place}
+use Rattle.ov_dot.specs.declared.lexeme_scanning.Place.TheVariants.{Start, LineFeed, Slash, LineComment}
+use Rattle.ov_dot.specs.declared.lexeme_scanning.Place.TheVariants.{BlockComment, BlockStar}
+use Rattle.ov_dot.specs.declared.lexeme_scanning.Place.TheVariants.{Word, Minus, Point, Digits, Fraction, Text}
+use Rattle.ov_dot.specs.declared.lexeme_scanning.Place.TheVariants.{Escaped, Angle, End}
 use Rattle.ov_dot.specs.Parts.{is_blank, is_mark, is_letter, is_word_byte, is_in_line, line_feed}
 
 -- the place behind the first byte of a numeral

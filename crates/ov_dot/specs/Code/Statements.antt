@@ -6,8 +6,8 @@ use Rattle.std.specs.Prelude.{if◌then◌else◌}
 use Rattle.ov_dot.specs.Tokens.{Lexeme}
 use Rattle.ov_dot.specs.declared.token.Kind.{Kind}
 use Rattle.ov_dot.specs.declared.token.Kind.TheVariants.{Digraph, OpenBrace, CloseBrace, Equals, Line, Arrow}
-use Rattle.ov_dot.specs.declared.diagram_place.Place.{Place}
-use Rattle.ov_dot.specs.declared.diagram_place.Place.TheVariants.{Beginning, Named, Member, EndNext, Over}
+use Rattle.ov_dot.specs.declared.grammar_state.Place.{Place}
+use Rattle.ov_dot.specs.declared.grammar_state.Place.TheVariants.{Beginning, Named, Member, EndNext, Over}
 use Rattle.ov_dot.specs.declared.fault.DotFault.{DotFault}
 use Rattle.ov_dot.specs.declared.fault.DotFault.TheVariants.{UnreadLine}
 use Rattle.ov_dot.specs.declared.fault.Why.TheVariants.{WrongEdge, Unclosed}

@@ -3,7 +3,7 @@ use Rattle.std.specs.Prelude.{◌⊎◌, ℕ, ◌<◌, List}
 use Rattle.ov_ids.specs.Members.{Has}
 use Rattle.ov_graph.specs.Links.{LinkGraph, Linked}
 use Rattle.ov_dump.specs.Dumps.{IsNameOf, ends_of}
-use Rattle.ov_dump.specs.declared.dump_values.Listing.{Listing}
+use Rattle.ov_dump.specs.declared.dump_and_graph_types.Listing.{Listing}
 
 -- node i lists node j, as two graphs say: `up` has the links whose lower node lists the higher one, and `down` those
 -- whose higher node lists the lower one

@@ -3,8 +3,8 @@ use Rattle.std.specs.Prelude.{◌≡◌, ◌↔◌, ◌⊎◌, ⊤, ℕ, Bool, t
 use Rattle.std.specs.Prelude.{None, Result, Ok, Err}
 use Rattle.ov_ids.specs.Members.{Has}
 use Rattle.json.specs.Json.{Json, array, object, Items, Members}
-use Rattle.ov_dump.specs.declared.dump_values.Dump.{Dump}
-use Rattle.ov_dump.specs.declared.dump_values.Entry.{Entry}
+use Rattle.ov_dump.specs.declared.dump_and_graph_types.Dump.{Dump}
+use Rattle.ov_dump.specs.declared.dump_and_graph_types.Entry.{Entry}
 use Rattle.ov_dump.specs.EdgeLines.{IsBlankLine, IsEdge, IsReadable, IsWhy, before_mark, is_blank, is_name_byte}
 use Rattle.ov_dump.specs.Views.{LacksView, SayDump}
 use Rattle.ov_dump.specs.declared.edge_line.EdgeLine.{EdgeLine}

@@ -6,10 +6,10 @@ use Rattle.ov_fans.specs.Pieces.{IsPiece, IsLinkedPair, level_of}
 use Rattle.ov_fans.specs.Cuts.{IsRight, IsFoundFor, AreRightPaths}
 use Rattle.ov_fans.specs.Theorems.{IsNoCut}
 use Rattle.ov_fans.specs.declared.piece.Piece.{Piece}
-use Rattle.ov_fans.specs.declared.settled.Parting.{Parting}
-use Rattle.ov_fans.specs.declared.settled.Found.{Found}
-use Rattle.ov_fans.specs.declared.settled.Found.TheVariants.{Linked, Paths, Cut}
-use Rattle.ov_fans.specs.declared.settled.Settled.{Settled}
+use Rattle.ov_fans.specs.declared.piece_result.Parting.{Parting}
+use Rattle.ov_fans.specs.declared.piece_result.Found.{Found}
+use Rattle.ov_fans.specs.declared.piece_result.Found.TheVariants.{Linked, Paths, Cut}
+use Rattle.ov_fans.specs.declared.piece_result.Settled.{Settled}
 use Rattle.ov_fans.proofs.PieceCuts.Decided.{decides}
 use Rattle.std.proofs.Common.{zero, suc, eqb, false}
 use Rattle.ov_cert.specs.declared.cert.Split.{Split}

@@ -4,7 +4,7 @@ use Rattle.std.proofs.lemmas.Bool.{cases_lt}
 use Rattle.ov_graph.specs.Links.{LinkGraph}
 use Rattle.ov_fans.specs.Theorems.{IsNoCut}
 use Rattle.ov_fans.specs.declared.piece.Piece.{Piece}
-use Rattle.ov_fans.specs.declared.settled.Settled.{Settled}
+use Rattle.ov_fans.specs.declared.piece_result.Settled.{Settled}
 use Rattle.ov_even.specs.Order.{IsNumbered}
 use Rattle.ov_even.specs.Hauls.{IsInHauls, IsCleared}
 use Rattle.ov_even.specs.Levels.{IsTried, AreNumbersOf}

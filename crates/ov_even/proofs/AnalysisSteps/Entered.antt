@@ -17,8 +17,8 @@ use Rattle.ov_cert.specs.declared.cert.FanPaths.{FanPaths}
 use Rattle.ov_even.specs.Order.{ComesBefore}
 use Rattle.ov_even.specs.Naming.{IsUnlinked, AreUnlinkedPieces, AreFound, HaveAskedPaths, named_of}
 use Rattle.ov_even.specs.Code.Entries.{AreNamedPieces, entry_of_pair, entry_of_fan, pair_entries, fan_entries}
-use Rattle.ov_even.specs.declared.path_naming.FoundPaths.{FoundPaths}
-use Rattle.ov_even.specs.declared.path_naming.NamedPaths.{NamedPaths}
+use Rattle.ov_even.specs.declared.paths_by_ids.FoundPaths.{FoundPaths}
+use Rattle.ov_even.specs.declared.paths_by_ids.NamedPaths.{NamedPaths}
 use Rattle.ov_even.proofs.PieceOrder.PieceLevels.{level_low}
 use Rattle.ov_even.proofs.PieceOrder.Placing.{pair_piece, piece_unlinked, fan_piece, piece_later}
 use Rattle.ov_even.proofs.AnalysisSteps.Named.{AreNamed, named_none, named_behind, named_first}

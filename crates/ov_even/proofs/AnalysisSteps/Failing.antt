@@ -12,9 +12,9 @@ use Rattle.ov_graph.proofs.GraphValues.OneGraph.{not_self}
 use Rattle.ov_fans.specs.Pieces.{IsPiece, level_of}
 use Rattle.ov_fans.specs.Cuts.{IsParted, IsFoundFor}
 use Rattle.ov_fans.specs.declared.piece.Piece.{Piece}
-use Rattle.ov_fans.specs.declared.settled.Parting.{Parting}
-use Rattle.ov_fans.specs.declared.settled.Found.{Found}
-use Rattle.ov_fans.specs.declared.settled.Found.TheVariants.{Linked as linked_found, Paths, Cut}
+use Rattle.ov_fans.specs.declared.piece_result.Parting.{Parting}
+use Rattle.ov_fans.specs.declared.piece_result.Found.{Found}
+use Rattle.ov_fans.specs.declared.piece_result.Found.TheVariants.{Linked as linked_found, Paths, Cut}
 use Rattle.ov_even.specs.Hauls.{AreRight}
 use Rattle.ov_even.specs.declared.worker_haul.Haul.{Haul}
 use Rattle.ov_even.specs.Code.Narrowing.{HasUnlinked, IsCutOf, HasCutOf, SplitsWith}

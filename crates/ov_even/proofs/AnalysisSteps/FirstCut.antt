@@ -6,9 +6,9 @@ use Rattle.std.proofs.lemmas.List.{take_more}
 use Rattle.ov_ids.specs.Members.{Has}
 use Rattle.ov_ids.proofs.Members.{has_append_left, has_append_right, has_append_cases}
 use Rattle.ov_fans.specs.Theorems.{IsNoCut}
-use Rattle.ov_fans.specs.declared.settled.Found.{Found}
-use Rattle.ov_fans.specs.declared.settled.Found.TheVariants.{Linked, Paths, Cut}
-use Rattle.ov_fans.specs.declared.settled.Settled.{Settled}
+use Rattle.ov_fans.specs.declared.piece_result.Found.{Found}
+use Rattle.ov_fans.specs.declared.piece_result.Found.TheVariants.{Linked, Paths, Cut}
+use Rattle.ov_fans.specs.declared.piece_result.Settled.{Settled}
 use Rattle.ov_even.specs.Order.{ComesBefore}
 use Rattle.ov_even.specs.Hauls.{IsInHauls}
 use Rattle.ov_even.specs.declared.worker_haul.Haul.{Haul}

@@ -15,7 +15,7 @@ use Rattle.ov_even.specs.Levels.{IsLevelGood}
 use Rattle.ov_even.specs.Naming.{HaveAskedPaths}
 use Rattle.ov_even.specs.Order.{ComesBefore}
 use Rattle.ov_even.specs.Outlines.{IsOutline}
-use Rattle.ov_even.specs.declared.path_naming.NamedPaths.{NamedPaths}
+use Rattle.ov_even.specs.declared.paths_by_ids.NamedPaths.{NamedPaths}
 use Rattle.ov_even.specs.Code.Entries.{pair_entries, fan_entries}
 use Rattle.ov_even.specs.Code.Levels.{pieces_of_level}
 use Rattle.ov_even.proofs.AnalysisSteps.Entered.{AreOfLevel, have_paths, have_fans}

@@ -8,11 +8,11 @@ use Rattle.ov_fans.specs.Pieces.{IsPiece, IsLinkedPair, level_of}
 use Rattle.std.proofs.lemmas.Bool.{cases_lt}
 use Rattle.ov_even.proofs.PieceNumbers.LevelPlaces.{length_level_low, length_level_high}
 use Rattle.ov_even.proofs.PieceNumbers.Pairs.{pairs_few}
-use Rattle.ov_fans.specs.declared.settled.Found.TheVariants.{Linked}
+use Rattle.ov_fans.specs.declared.piece_result.Found.TheVariants.{Linked}
 use Rattle.ov_fans.specs.Cuts.{IsRight, IsFoundFor}
 use Rattle.ov_fans.specs.Theorems.{IsNoCut}
 use Rattle.ov_fans.specs.declared.piece.Piece.{Piece}
-use Rattle.ov_fans.specs.declared.settled.Settled.{Settled}
+use Rattle.ov_fans.specs.declared.piece_result.Settled.{Settled}
 use Rattle.ov_even.specs.Order.{ComesBefore}
 use Rattle.ov_even.specs.Code.Levels.{pieces_of_level}
 use Rattle.ov_even.specs.Code.Trying.{AreSettledRight, IsClearedBy}

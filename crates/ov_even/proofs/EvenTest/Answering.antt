@@ -13,7 +13,7 @@ use Rattle.ov_cert.specs.Valid.{IsCutOff, HavePaths, HaveFans, IsValidSplit, IsV
 use Rattle.ov_fans.specs.Pieces.{level_of}
 use Rattle.ov_fans.specs.Cuts.{IsSide, IsParted}
 use Rattle.ov_fans.specs.declared.piece.Piece.{Piece}
-use Rattle.ov_fans.specs.declared.settled.Parting.{Parting}
+use Rattle.ov_fans.specs.declared.piece_result.Parting.{Parting}
 use Rattle.ov_fans.proofs.PieceCuts.Only.{same_cut}
 use Rattle.ov_even.specs.First.{IsFirst}
 use Rattle.ov_even.specs.Answer.{NamesParting, NamesFirstCut, IsAnswer}

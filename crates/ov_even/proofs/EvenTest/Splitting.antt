@@ -9,7 +9,7 @@ use Rattle.ov_fans.specs.Pieces.{member_at, level_of, source_of, IsTarget, IsPie
 use Rattle.ov_fans.specs.Cuts.{IsCut, IsFar, IsParted}
 use Rattle.ov_fans.specs.declared.piece.Piece.{Piece}
 use Rattle.ov_fans.specs.declared.piece.Piece.TheVariants.{Pair, Fan}
-use Rattle.ov_fans.specs.declared.settled.Parting.{Parting}
+use Rattle.ov_fans.specs.declared.piece_result.Parting.{Parting}
 use Rattle.ov_fans.proofs.PieceNets.Ranks.{member_in}
 use Rattle.ov_fans.proofs.PieceCuts.Refuted.{far_exists}
 use Rattle.ov_fans.proofs.PieceNets.Routes.{pair_differ}

@@ -6,7 +6,7 @@ use Rattle.ov_cert.specs.declared.cert.FanPaths.{FanPaths}
 use Rattle.ov_fans.specs.Pieces.{IsPieceOf, member_at}
 use Rattle.ov_fans.specs.declared.piece.Piece.{Piece}
 use Rattle.ov_fans.specs.declared.piece.Piece.TheVariants.{Pair, Fan}
-use Rattle.ov_even.specs.declared.path_naming.NamedPaths.{NamedPaths}
+use Rattle.ov_even.specs.declared.paths_by_ids.NamedPaths.{NamedPaths}
 
 -- each of these is a piece for groups of m members
 abbrev pub AreNamedPieces : ℕ → List NamedPaths → Type 0

@@ -8,9 +8,9 @@ use Rattle.ov_graph.specs.Joined.{SplitsGroup}
 use Rattle.ov_graph.specs.Even.{PassesEven}
 use Rattle.ov_fans.specs.Pieces.{level_of}
 use Rattle.ov_fans.specs.Theorems.{IsNoCut}
-use Rattle.ov_fans.specs.declared.settled.Found.{Found}
-use Rattle.ov_fans.specs.declared.settled.Found.TheVariants.{Linked as linked_found, Paths, Cut}
-use Rattle.ov_fans.specs.declared.settled.Settled.{Settled}
+use Rattle.ov_fans.specs.declared.piece_result.Found.{Found}
+use Rattle.ov_fans.specs.declared.piece_result.Found.TheVariants.{Linked as linked_found, Paths, Cut}
+use Rattle.ov_fans.specs.declared.piece_result.Settled.{Settled}
 use Rattle.ov_even.specs.Hauls.{IsInHauls, AreRight}
 use Rattle.ov_even.specs.Levels.{IsLevelGood, IsLevelCleared, SearchState}
 use Rattle.ov_even.specs.declared.worker_haul.Haul.{Haul}

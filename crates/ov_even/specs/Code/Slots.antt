@@ -5,8 +5,8 @@ use Rattle.ov_graph.specs.Links.{LinkGraph}
 use Rattle.ov_fans.specs.Pieces.{IsPiece, IsLinkedPair, level_of}
 use Rattle.ov_fans.specs.Cuts.{AreRightPaths}
 use Rattle.ov_fans.specs.declared.piece.Piece.{Piece}
-use Rattle.ov_fans.specs.declared.settled.Found.TheVariants.{Paths}
-use Rattle.ov_fans.specs.declared.settled.Settled.{Settled}
+use Rattle.ov_fans.specs.declared.piece_result.Found.TheVariants.{Paths}
+use Rattle.ov_fans.specs.declared.piece_result.Settled.{Settled}
 use Rattle.ov_fans.specs.Pieces.{IsPieceOf}
 use Rattle.ov_even.specs.Code.Levels.{pieces_of_level}
 

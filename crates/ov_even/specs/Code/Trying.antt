@@ -6,7 +6,7 @@ use Rattle.ov_fans.specs.Pieces.{IsPiece, IsLinkedPair}
 use Rattle.ov_fans.specs.Cuts.{IsRight}
 use Rattle.ov_fans.specs.Theorems.{IsNoCut}
 use Rattle.ov_fans.specs.declared.piece.Piece.{Piece}
-use Rattle.ov_fans.specs.declared.settled.Settled.{Settled}
+use Rattle.ov_fans.specs.declared.piece_result.Settled.{Settled}
 
 -- each of these settled pieces has a right result for the graph and the group
 abbrev pub AreSettledRight : LinkGraph → List ℕ → List Settled → Type 0

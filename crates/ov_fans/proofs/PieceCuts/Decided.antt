@@ -5,8 +5,8 @@ use Rattle.ov_fans.specs.Pieces.{IsGood}
 use Rattle.ov_fans.specs.Cuts.{IsFoundFor}
 use Rattle.ov_fans.specs.Theorems.{IsNoCut, RightDecides}
 use Rattle.ov_fans.specs.declared.piece.Piece.{Piece}
-use Rattle.ov_fans.specs.declared.settled.Found.{Found}
-use Rattle.ov_fans.specs.declared.settled.Found.TheVariants.{Linked, Paths, Cut}
+use Rattle.ov_fans.specs.declared.piece_result.Found.{Found}
+use Rattle.ov_fans.specs.declared.piece_result.Found.TheVariants.{Linked, Paths, Cut}
 use Rattle.ov_fans.proofs.PieceCuts.Refuted.{cut_refutes}
 
 pub found_decides : (g : LinkGraph) (q : List ℕ) (p : Piece) (found : Found) → IsGraph g → IsFoundFor g q p found

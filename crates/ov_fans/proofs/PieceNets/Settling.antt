@@ -14,7 +14,7 @@ use Rattle.ov_fans.specs.Cuts.{IsCut, IsNearest, IsFar, IsSide, IsParted, AreRig
 use Rattle.ov_fans.specs.Code.Nets.{net_of}
 use Rattle.ov_fans.specs.declared.piece.Piece.{Piece}
 use Rattle.ov_fans.specs.declared.piece.Piece.TheVariants.{Pair, Fan}
-use Rattle.ov_fans.specs.declared.settled.Parting.{Parting}
+use Rattle.ov_fans.specs.declared.piece_result.Parting.{Parting}
 use Rattle.ov_fans.proofs.PieceCuts.Parted.{cut_of, nearest_of, side_of}
 use Rattle.ov_fans.proofs.PieceNets.Routes.{asked_paths}
 

@@ -6,7 +6,7 @@ use Rattle.ov_graph.specs.Row.{HasBit}
 use Rattle.ov_split.specs.SplitNetState.{SplitNetState}
 use Rattle.ov_split.specs.Code.Residual.{Table, IsFlow}
 use Rattle.ov_flow.specs.Code.Reached.{IsStepBy}
-use Rattle.ov_flow.specs.declared.walk_taking.Hop.{Hop}
+use Rattle.ov_flow.specs.declared.walk_augmentation.Hop.{Hop}
 
 -- the table that a list represents: at each place the place before it on its path
 abbrev pub table_of : List (Option ℕ) → Table

@@ -4,8 +4,8 @@ use Rattle.ov_graph.specs.Paths.{node_at}
 use Rattle.ov_graph.specs.Row.{HasBit}
 use Rattle.ov_graphfile.specs.NamesState.{NamesState}
 use Rattle.ov_graphfile.specs.Groups.{Means, MeansAt, IsNobodys, IsShared, SpellsId}
-use Rattle.ov_graphfile.specs.declared.group_reading.Owner.{Owner}
-use Rattle.ov_graphfile.specs.declared.group_reading.Owner.TheVariants.{One, Nobody, Several}
+use Rattle.ov_graphfile.specs.declared.group_from_names_or_ids.Owner.{Owner}
+use Rattle.ov_graphfile.specs.declared.group_from_names_or_ids.Owner.TheVariants.{One, Nobody, Several}
 
 -- the part means the node at this place, or nobody, or it is the name of two nodes
 abbrev pub IsOwner : NamesState → List ℕ → Owner → Type 0

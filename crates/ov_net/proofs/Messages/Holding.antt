@@ -22,9 +22,9 @@ use Rattle.ov_plum.specs.PlumRows.{AllowedFrom, AllowedGossip, AllowedTimer, Del
 use Rattle.ov_plum.proofs.Maps.{id_cmp_total, id_cmp_same}
 use Rattle.ov_peer.specs.Step.{TreePart, Told, PeerStep, delivery_at}
 use Rattle.ov_peer.specs.PeerState.{PeerState}
-use Rattle.ov_peer.specs.declared.input.Delivery.{Delivery}
-use Rattle.ov_peer.specs.declared.input.Input.{Input}
-use Rattle.ov_peer.specs.declared.input.Input.TheVariants as input
+use Rattle.ov_peer.specs.declared.input_and_output.Delivery.{Delivery}
+use Rattle.ov_peer.specs.declared.input_and_output.Input.{Input}
+use Rattle.ov_peer.specs.declared.input_and_output.Input.TheVariants as input
 use Rattle.ov_net.proofs.Steps.Places.{some_way, inserted_here, inserted_stays, inserted_cases}
 use Rattle.ov_net.proofs.Messages.Quiet.{AllCarry, no_sends, one_send, carry_append, carry_each, heard_quiet}
 

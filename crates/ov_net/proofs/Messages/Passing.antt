@@ -16,9 +16,9 @@ use Rattle.ov_plum.specs.PlumRows.{Delivered}
 use Rattle.ov_plum.specs.PlumState.{HeldState}
 use Rattle.ov_peer.specs.Step.{delivery_at}
 use Rattle.ov_peer.specs.PeerState.{PeerState, newborn}
-use Rattle.ov_peer.specs.declared.input.Delivery.{Delivery}
-use Rattle.ov_peer.specs.declared.input.Input.{Input}
-use Rattle.ov_peer.specs.declared.input.Input.TheVariants as input
+use Rattle.ov_peer.specs.declared.input_and_output.Delivery.{Delivery}
+use Rattle.ov_peer.specs.declared.input_and_output.Input.{Input}
+use Rattle.ov_peer.specs.declared.input_and_output.Input.TheVariants as input
 use Rattle.ov_net.specs.Journal.{Delivers}
 use Rattle.ov_net.specs.Net.{HaveOwnIds, Net, LivesAs}
 use Rattle.ov_net.specs.NetStep.{NetStep, TakesInput, LiveTakesInput, OnlyPackets, Received}

@@ -12,10 +12,10 @@ use Rattle.ov_plum.specs.PlumRows.{Delivered, IsQuiet, broadcasts, receives, fir
 use Rattle.ov_net.proofs.OneStep.OfTree.{SameTree, tree_same}
 use Rattle.ov_peer.specs.PeerState.{PeerState}
 use Rattle.ov_peer.specs.Step.{HyParViewPart, TreePart, Told, PeerStep, delivery_at}
-use Rattle.ov_peer.specs.declared.input.Delivery.{Delivery}
-use Rattle.ov_peer.specs.declared.input.Input.{Input}
-use Rattle.ov_peer.specs.declared.input.Input.TheVariants.{Boot, Receive, CrashReport, Broadcast, Timer}
-use Rattle.ov_peer.specs.declared.input.Input.TheVariants as input
+use Rattle.ov_peer.specs.declared.input_and_output.Delivery.{Delivery}
+use Rattle.ov_peer.specs.declared.input_and_output.Input.{Input}
+use Rattle.ov_peer.specs.declared.input_and_output.Input.TheVariants.{Boot, Receive, CrashReport, Broadcast, Timer}
+use Rattle.ov_peer.specs.declared.input_and_output.Input.TheVariants as input
 
 rested : (n m m' : HyParViewState) (c d : List Choice) (a b : List ViewChange) (x y : List (ℕ × Message))
     → DoesNothing n c m a × (x ≡ []) → DoesNothing n d m' b × (y ≡ []) → SameAllowed c d m m' a b x y

@@ -5,9 +5,9 @@ use Rattle.std.specs.Prelude.{remove, slice_get}
 use Rattle.std.specs.FinMap as map
 use Rattle.ov_wire.specs.declared.message.Message.{Message}
 use Rattle.ov_peer.specs.PeerState.{PeerState, newborn}
-use Rattle.ov_peer.specs.declared.input.Delivery.{Delivery}
-use Rattle.ov_peer.specs.declared.input.Input.{Input}
-use Rattle.ov_peer.specs.declared.input.Input.TheVariants as input
+use Rattle.ov_peer.specs.declared.input_and_output.Delivery.{Delivery}
+use Rattle.ov_peer.specs.declared.input_and_output.Input.{Input}
+use Rattle.ov_peer.specs.declared.input_and_output.Input.TheVariants as input
 use Rattle.ov_net.specs.Net.{Net}
 use Rattle.ov_net.specs.NetStep.{change_at, TakesInput, LiveTakesInput, OnlyPackets, Received, Happens}
 use Rattle.ov_net.specs.Theorems.{WorldStep}

@@ -12,8 +12,8 @@ use Rattle.ov_wire.specs.declared.message.Message.{Message}
 use Rattle.ov_views.specs.declared.change.ViewChange.{ViewChange}
 use Rattle.ov_peer.specs.Planning.{Follows, IsPlanFor}
 use Rattle.ov_peer.specs.PeerState.{PeerState, newborn}
-use Rattle.ov_peer.specs.declared.input.Input.{Input}
-use Rattle.ov_peer.specs.declared.input.Input.TheVariants as input
+use Rattle.ov_peer.specs.declared.input_and_output.Input.{Input}
+use Rattle.ov_peer.specs.declared.input_and_output.Input.TheVariants as input
 use Rattle.ov_peer.proofs.Following.{drawn_step}
 use Rattle.ov_net.specs.Code.Effects.{AreEffectsOfPlan, AreEffectsOfBirth, AreEffects, HaveRoom, SendFew}
 use Rattle.ov_net.specs.Code.Effects.{IsAfter, IsWithin, NamedCanChange, NamedNodeChanges, taking, packets_after}

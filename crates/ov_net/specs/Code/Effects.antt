@@ -7,7 +7,7 @@ use Rattle.ov_views.specs.declared.change.ViewChange.{ViewChange}
 use Rattle.ov_peer.specs.Limits.{DrawnFrom}
 use Rattle.ov_peer.specs.Planning.{Follows, Plans, IsPlanFor}
 use Rattle.ov_peer.specs.PeerState.{PeerState}
-use Rattle.ov_peer.specs.declared.input.Input.{Input}
+use Rattle.ov_peer.specs.declared.input_and_output.Input.{Input}
 use Rattle.ov_peer.specs.declared.plan.Plan.{Plan}
 use Rattle.ov_net.specs.Limits.{most_packets, step_packets}
 use Rattle.ov_net.specs.Net.{Net}

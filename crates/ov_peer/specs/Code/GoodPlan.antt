@@ -5,7 +5,7 @@ use Rattle.ov_views.specs.Handling.{step_words}
 use Rattle.ov_peer.specs.Code.Messages.{AreSendable}
 use Rattle.ov_peer.specs.PeerState.{PeerState}
 use Rattle.ov_peer.specs.Planning.{Plans}
-use Rattle.ov_peer.specs.declared.input.Input.{Input}
+use Rattle.ov_peer.specs.declared.input_and_output.Input.{Input}
 use Rattle.ov_peer.specs.declared.plan.Plan.{Plan}
 
 -- how many random words of an event a step uses at most: those of one handler

@@ -1,8 +1,8 @@
 -- How much room a line that is written takes at most, and how large its numbers are.
 use Rattle.std.specs.Prelude.{ℕ, ◌+◌, ◌*◌, ◌<◌, List, length, Some, None}
 use Rattle.ov_ids.specs.Limits.{number_limit}
-use Rattle.ov_recording.specs.declared.act.Act.{Act}
-use Rattle.ov_recording.specs.declared.act.Act.TheVariants as act
+use Rattle.ov_recording.specs.declared.recordable_event.Act.{Act}
+use Rattle.ov_recording.specs.declared.recordable_event.Act.TheVariants as act
 
 -- how many bytes a number takes at most, with the space before it: chosen here
 abbrev pub number_room : ℕ

@@ -3,8 +3,8 @@ use Rattle.std.proofs.Common.{◌≡◌, ◌≤◌, ◌+◌, List, [], ◌∷◌
 use Rattle.ov_hall.proofs.Flat.{total-append}
 use Rattle.ov_run.specs.Code.Jobs.{joined}
 use Rattle.ov_run_meaning.specs.Sections.{ToldLine, accepted_in, one_accepted, one_refused, refused_in}
-use Rattle.ov_run_meaning.specs.declared.outcome.Outcome.{Outcome}
-use Rattle.ov_run_meaning.specs.declared.outcome.Outcome.TheVariants.{Accepted, Refused}
+use Rattle.ov_run_meaning.specs.declared.line_run_outcome.Outcome.{Outcome}
+use Rattle.ov_run_meaning.specs.declared.line_run_outcome.Outcome.TheVariants.{Accepted, Refused}
 
 one_of_two : (o : Outcome) → one_accepted o + one_refused o ≡ 1
 one_of_two Accepted = omega arith

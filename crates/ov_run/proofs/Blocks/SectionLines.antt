@@ -6,8 +6,8 @@ use Rattle.ov_ids.specs.ParamsState.{ParamsState}
 use Rattle.ov_ids.specs.FaultOrder.{IsRefusedBy}
 use Rattle.ov_snap.specs.Refusals.{BeginJudged, FilingJudged}
 use Rattle.ov_snap.specs.ReportState.{ReportState}
-use Rattle.ov_snap.specs.declared.fault.CoreFault.{CoreFault}
-use Rattle.ov_snap.specs.declared.fault.CoreFault.TheVariants.{OutOfMemory}
+use Rattle.ov_snap.specs.declared.core_fault.CoreFault.{CoreFault}
+use Rattle.ov_snap.specs.declared.core_fault.CoreFault.TheVariants.{OutOfMemory}
 use Rattle.ov_snap.specs.declared.kept_snapshots.Snapshot.{Snapshot}
 use Rattle.ov_snap.specs.Logs.{core_made, mark}
 use Rattle.ov_snap.specs.DriverSteps.{HasBegun, HasFiled, HasLooked}
@@ -15,12 +15,12 @@ use Rattle.ov_snap.specs.declared.driver_log.Mark.{Mark}
 use Rattle.ov_snap.specs.declared.driver_log.Ticket.{Ticket}
 use Rattle.ov_run_meaning.specs.Sections.{HasAnalysed, IsAccepted, IsRefused, IsRefusedAnalysis, IsReportOn, RunsLine}
 use Rattle.ov_run_meaning.specs.Sections.{RunsSection, ToldLine, is_event, told_of}
-use Rattle.ov_run_meaning.specs.declared.outcome.Outcome.{Outcome}
-use Rattle.ov_run_meaning.specs.declared.outcome.Outcome.TheVariants.{Accepted, Refused}
+use Rattle.ov_run_meaning.specs.declared.line_run_outcome.Outcome.{Outcome}
+use Rattle.ov_run_meaning.specs.declared.line_run_outcome.Outcome.TheVariants.{Accepted, Refused}
 use Rattle.ov_run_meaning.specs.declared.refusal.Refusal.{Refusal}
 use Rattle.ov_run_meaning.specs.declared.refusal.Refusal.TheVariants.{World, Core}
-use Rattle.ov_scenario.specs.declared.section.Deed.{Deed}
-use Rattle.ov_scenario.specs.declared.section.Deed.TheVariants as deed
+use Rattle.ov_scenario.specs.declared.line_of_section.Deed.{Deed}
+use Rattle.ov_scenario.specs.declared.line_of_section.Deed.TheVariants as deed
 use Rattle.ov_scenario.specs.Sections.{SectionLine}
 
 -- ---- the pass of one driver, which has seen more

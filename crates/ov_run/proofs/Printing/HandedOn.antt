@@ -10,13 +10,13 @@ use Rattle.ov_run_meaning.specs.Ending.{BeginsLines, EndsLines}
 use Rattle.ov_run_meaning.specs.Faults.{write_faults}
 use Rattle.ov_run_meaning.specs.Strict.{StopsLines}
 use Rattle.ov_run.specs.Code.Outcomes.{RanLines}
-use Rattle.ov_run.specs.Code.Writing.{IsOfWriting, Writes, WritesPrefix}
+use Rattle.ov_run_meaning.specs.Writing.{IsOfWriting, Writes, WritesPrefix}
 use Rattle.ov_run_meaning.specs.declared.refusal.Refusal.{Refusal}
 use Rattle.ov_run_meaning.specs.declared.run_fault.RunFault.{RunFault}
 use Rattle.ov_run_meaning.specs.declared.run_fault.RunFault.TheVariants.{Write, Refused, OutOfMemory}
 use Rattle.ov_run_meaning.specs.declared.strictness.Strictness.{Strictness}
 use Rattle.ov_run_meaning.specs.declared.strictness.Strictness.TheVariants.{Strict}
-use Rattle.ov_run.proofs.Printing.Ending.{appended_kept, err_of, failed_by, prefix_kept}
+use Rattle.ov_run_meaning.proofs.Writing.Prefixes.{appended_kept, err_of, failed_by, prefix_kept}
 
 -- a fault of writing is none of a refused line
 not_refused : (f : RunFault) (n : ℕ) (refusal : Refusal) → IsOfWriting f → ¬ (f ≡ Refused n refusal)

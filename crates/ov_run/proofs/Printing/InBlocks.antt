@@ -13,13 +13,13 @@ use Rattle.ov_run_meaning.specs.Faults.{write_faults}
 use Rattle.ov_run_meaning.specs.Run.{IsRunInBlocks, IsRunOf, behind_buffer}
 use Rattle.ov_run_meaning.specs.Running.{PrintsScenario}
 use Rattle.ov_run_meaning.specs.Strict.{AcceptsScenario, StopsScenario}
-use Rattle.ov_run.specs.Code.Writing.{is_write}
+use Rattle.ov_run.specs.Code.Failing.{is_write}
 use Rattle.ov_run_meaning.specs.declared.refusal.Refusal.{Refusal}
 use Rattle.ov_run_meaning.specs.declared.run_fault.RunFault.{RunFault}
 use Rattle.ov_run_meaning.specs.declared.run_fault.RunFault.TheVariants as fault
 use Rattle.ov_run_meaning.specs.declared.run_fault.RunFault.TheVariants.{Write}
 use Rattle.ov_run_meaning.specs.declared.strictness.Strictness.{Strictness}
-use Rattle.ov_run.proofs.Printing.Ending.{appended_kept, prefix_kept}
+use Rattle.ov_run_meaning.proofs.Writing.Prefixes.{appended_kept, prefix_kept}
 
 -- ---- whether the writer failed
 

@@ -15,17 +15,18 @@ use Rattle.ov_scenario.specs.declared.scenario.Look.{Look}
 use Rattle.ov_run_meaning.specs.Accepting.{DoesEvent, RefusesLook, ShowsLook}
 use Rattle.ov_run_meaning.specs.Ending.{BeginsLines, BeginsLook, EndsLine}
 use Rattle.ov_run_meaning.specs.Faults.{write_faults}
-use Rattle.ov_run.specs.Code.Outcomes.{LineCame, LineRan, RanAsBlock, WritesOutcome}
-use Rattle.ov_run.specs.Code.Writing.{IsOfWriting, Writes, WritesPrefix}
+use Rattle.ov_run.specs.Code.Outcomes.{LineCame, LineRan, RanAsBlock}
+use Rattle.ov_run_meaning.specs.Writing.{IsOfWriting, Writes, WritesOutcome, WritesPrefix}
 use Rattle.ov_run.specs.declared.line_outcome.BlockTold.{BlockTold}
 use Rattle.ov_run.specs.declared.line_outcome.Came.{Came}
 use Rattle.ov_run.specs.declared.line_outcome.Came.TheVariants.{Alone, Block}
-use Rattle.ov_run_meaning.specs.declared.outcome.Outcome.{Outcome}
-use Rattle.ov_run_meaning.specs.declared.outcome.Outcome.TheVariants.{Accepted, Refused}
+use Rattle.ov_run_meaning.specs.declared.line_run_outcome.Outcome.{Outcome}
+use Rattle.ov_run_meaning.specs.declared.line_run_outcome.Outcome.TheVariants.{Accepted, Refused}
 use Rattle.ov_run_meaning.specs.declared.run_fault.RunFault.{RunFault}
 use Rattle.ov_run_meaning.specs.declared.run_fault.RunFault.TheVariants.{Write, OutOfMemory}
 use Rattle.ov_run_meaning.specs.declared.strictness.Strictness.TheVariants.{Strict}
-use Rattle.ov_run.proofs.Printing.Ending.{err_of, failed_by, kept_appended, kept_prefix, none_went, nothing, whole}
+use Rattle.ov_run_meaning.proofs.Writing.Prefixes.{err_of, failed_by, kept_appended, kept_prefix, none_went}
+use Rattle.ov_run.proofs.Printing.Ending.{nothing, whole}
 
 -- what became of a line, and the core after it
 abbrev pub LineDone : Type 0

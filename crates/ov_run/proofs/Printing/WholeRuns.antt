@@ -7,14 +7,14 @@ use Rattle.ov_run_meaning.specs.Faults.{write_faults}
 use Rattle.ov_run_meaning.specs.Run.{IsRunOf}
 use Rattle.ov_run_meaning.specs.Running.{PrintsScenario}
 use Rattle.ov_run_meaning.specs.Strict.{AcceptsScenario, StopsScenario}
-use Rattle.ov_run.specs.Code.Writing.{IsOfRunning, IsBeforeLines}
+use Rattle.ov_run.specs.Code.Failing.{IsOfRunning, IsBeforeLines}
 use Rattle.ov_run_meaning.specs.declared.refusal.Refusal.{Refusal}
 use Rattle.ov_run_meaning.specs.declared.run_fault.RunFault.{RunFault}
 use Rattle.ov_run_meaning.specs.declared.run_fault.RunFault.TheVariants as fault
 use Rattle.ov_run_meaning.specs.declared.run_fault.RunFault.TheVariants.{Write, Refused, OutOfMemory}
 use Rattle.ov_run_meaning.specs.declared.strictness.Strictness.{Strictness}
 use Rattle.ov_run_meaning.specs.declared.strictness.Strictness.TheVariants.{Strict}
-use Rattle.ov_run.proofs.Printing.Ending.{err_of, failed_by}
+use Rattle.ov_run_meaning.proofs.Writing.Prefixes.{err_of, failed_by}
 use Rattle.ov_run.proofs.Printing.HandedOn.{holds_of, refused_in_err}
 
 -- how many failures of its writer a run counts that ends by this fault

@@ -15,13 +15,14 @@ use Rattle.ov_run_meaning.specs.Refusals.{number_of}
 use Rattle.ov_run_meaning.specs.Running.{PrintsLines}
 use Rattle.ov_run_meaning.specs.Sections.{RunTogether, ToldLine, accepted_in, refused_in}
 use Rattle.ov_run_meaning.specs.Strict.{AcceptsLine, AcceptsLines, StopsLines}
+use Rattle.ov_run_meaning.specs.Writing.{IsOfWriting, Writes, WritesOutcome, WritesPrefix}
 use Rattle.ov_run.specs.Code.Jobs.{joined}
-use Rattle.ov_run.specs.Code.Writing.{IsOfRunning, IsOfWriting, Writes, WritesPrefix}
+use Rattle.ov_run.specs.Code.Failing.{IsOfRunning}
 use Rattle.ov_run.specs.declared.line_outcome.BlockTold.{BlockTold}
 use Rattle.ov_run.specs.declared.line_outcome.Came.{Came}
 use Rattle.ov_run.specs.declared.line_outcome.Came.TheVariants.{Alone, Block}
-use Rattle.ov_run_meaning.specs.declared.outcome.Outcome.{Outcome}
-use Rattle.ov_run_meaning.specs.declared.outcome.Outcome.TheVariants.{Accepted, Refused}
+use Rattle.ov_run_meaning.specs.declared.line_run_outcome.Outcome.{Outcome}
+use Rattle.ov_run_meaning.specs.declared.line_run_outcome.Outcome.TheVariants.{Accepted, Refused}
 use Rattle.ov_run_meaning.specs.declared.refusal.Refusal.{Refusal}
 use Rattle.ov_run_meaning.specs.declared.run_fault.RunFault.{RunFault}
 use Rattle.ov_run_meaning.specs.declared.run_fault.RunFault.TheVariants as fault
@@ -34,12 +35,6 @@ use Rattle.ov_run_meaning.specs.declared.strictness.Strictness.TheVariants.{Leni
 abbrev pub is_event_line : Line → Bool
 is_event_line (line.Event event words) = true
 is_event_line other = false
-
--- the writer took what is printed of a line that was done; or the line was refused, and the writer took nothing
-abbrev pub WritesOutcome :
-    (List ℕ → Type 0) → (Refusal → Type 0) → Option (List ℕ) → Option (List ℕ) → Outcome → Type 0
-WritesOutcome IsDone IsRefused before after Accepted = Writes IsDone before after
-WritesOutcome IsDone IsRefused before after (Refused refusal) = IsRefused refusal × Appends before after []
 
 -- a line that is no block is refused for this reason
 abbrev pub RefusesAlone : CoreState → Line → Refusal → Type 0

@@ -7,8 +7,8 @@ use Rattle.ov_scenario.specs.Code.Judging.{Judges, faulty_of}
 use Rattle.ov_scenario.specs.Scenarios.{AreFaulty, AreFirstOf, before_of, most_counted}
 use Rattle.ov_scenario.specs.Statements.{Stated}
 use Rattle.ov_scenario.specs.declared.fault_listing.FaultyLines.{FaultyLines}
-use Rattle.ov_scenario.specs.declared.judging.Judged.{Judged}
-use Rattle.ov_scenario.specs.declared.judging.Judging.{Judging}
+use Rattle.ov_scenario.specs.declared.judged_line_iterator.Judged.{Judged}
+use Rattle.ov_scenario.specs.declared.judged_line_iterator.Judging.{Judging}
 use Rattle.ov_scenario.specs.declared.line_judging.Before.{Before}
 use Rattle.ov_scenario.specs.declared.scenario_fault.FaultyLine.{FaultyLine}
 use Rattle.ov_scenario.proofs.Scenarios.Judged.{JudgedSoFar, begun, judged_more, all_judged}

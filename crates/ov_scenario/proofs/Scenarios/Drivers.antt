@@ -14,7 +14,7 @@ use Rattle.ov_scenario.specs.declared.scenario.Line.{Line}
 use Rattle.ov_scenario.specs.declared.scenario.Line.TheVariants as line
 use Rattle.ov_scenario.specs.declared.scenario_fault.LineFault.{LineFault}
 use Rattle.ov_scenario.specs.declared.scenario_fault.LineFault.TheVariants as fault
-use Rattle.ov_scenario.specs.declared.section.Deed.TheVariants as deed
+use Rattle.ov_scenario.specs.declared.line_of_section.Deed.TheVariants as deed
 use Rattle.ov_scenario.specs.declared.statement.Statement.TheVariants as says
 use Rattle.ov_scenario.proofs.Scenarios.Judged.{open_more}
 

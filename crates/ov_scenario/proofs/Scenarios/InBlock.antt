@@ -10,7 +10,7 @@ use Rattle.ov_scenario.specs.Code.RunnableLines.{AreEventWords, AreReadable, Tak
 use Rattle.ov_scenario.specs.declared.block_reading.Part.TheVariants as part
 use Rattle.ov_scenario.specs.declared.scenario.Line.TheVariants as line
 use Rattle.ov_scenario.specs.declared.scenario.Subject.{Subject}
-use Rattle.ov_scenario.specs.declared.section.Deed.TheVariants as deed
+use Rattle.ov_scenario.specs.declared.line_of_section.Deed.TheVariants as deed
 use Rattle.ov_scenario.specs.declared.statement.Statement.{Statement}
 use Rattle.ov_scenario.specs.declared.statement.Statement.TheVariants as says
 use Rattle.ov_scenario.proofs.Scenarios.Readable.{later_readable}

@@ -9,8 +9,8 @@ use Rattle.ov_scenario.specs.Scenarios.{IsWrong, IsWrongIn, IsWrongOutside}
 use Rattle.ov_scenario.specs.Scenarios.{AreFaulty, IsFirstAfter, IsFirstFaulty}
 use Rattle.ov_scenario.specs.Sections.{open_from, open_next}
 use Rattle.ov_scenario.specs.Statements.{Stated}
-use Rattle.ov_scenario.specs.declared.judging.Judged.{Judged}
-use Rattle.ov_scenario.specs.declared.judging.Judging.{Judging}
+use Rattle.ov_scenario.specs.declared.judged_line_iterator.Judged.{Judged}
+use Rattle.ov_scenario.specs.declared.judged_line_iterator.Judging.{Judging}
 use Rattle.ov_scenario.specs.declared.line_judging.Before.{Before}
 use Rattle.ov_scenario.specs.declared.open_block.OpenBlock.{OpenBlock}
 use Rattle.ov_scenario.specs.declared.scenario_fault.FaultyLine.{FaultyLine}

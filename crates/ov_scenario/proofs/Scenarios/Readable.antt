@@ -3,7 +3,7 @@ use Rattle.std.proofs.Common.{◌≡◌, ◌∙◌, inr, inl, ℕ, true, List, [
 use Rattle.std.proofs.Common.{refl, ap, sym, subst}
 use Rattle.rand_core.specs.Stream.{Stream}
 use Rattle.ov_lines.specs.Lines.{kept_lines}
-use Rattle.ov_lines.specs.declared.unread.Unread.{Unread}
+use Rattle.ov_lines.specs.declared.unexpected_word.Unread.{Unread}
 use Rattle.ov_scenario.specs.RunLines.{FirstNeedsMemory, ReadingNeedsMemory}
 use Rattle.ov_scenario.specs.Scenarios.{AreFaulty, AreFaultless, IsWrong, before_of, stated_at, stated_lines}
 use Rattle.ov_scenario.specs.Sections.{SectionLine, is_together, section_line}
@@ -13,7 +13,7 @@ use Rattle.ov_scenario.specs.declared.line_judging.Before.{Before}
 use Rattle.ov_scenario.specs.declared.scenario.Line.{Line}
 use Rattle.ov_scenario.specs.declared.scenario_fault.LineFault.{LineFault}
 use Rattle.ov_scenario.specs.declared.scenario_fault.LineFault.TheVariants as fault
-use Rattle.ov_scenario.specs.declared.section.Deed.TheVariants as deed
+use Rattle.ov_scenario.specs.declared.line_of_section.Deed.TheVariants as deed
 use Rattle.ov_scenario.specs.declared.statement.Statement.{Statement}
 use Rattle.ov_scenario.specs.declared.statement.Statement.TheVariants as says
 use Rattle.ov_scenario.proofs.Scenarios.Asked.{StillLeft, block_begun}

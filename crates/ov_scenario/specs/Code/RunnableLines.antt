@@ -12,7 +12,7 @@ use Rattle.ov_scenario.specs.declared.block_reading.Part.TheVariants as part
 use Rattle.ov_scenario.specs.declared.words_from_seed.SeedWords.{SeedWords}
 use Rattle.ov_scenario.specs.declared.scenario.Line.{Line}
 use Rattle.ov_scenario.specs.declared.scenario.Line.TheVariants as line
-use Rattle.ov_scenario.specs.declared.section.Deed.TheVariants as deed
+use Rattle.ov_scenario.specs.declared.line_of_section.Deed.TheVariants as deed
 use Rattle.ov_scenario.specs.declared.statement.Statement.{Statement}
 use Rattle.ov_scenario.specs.declared.statement.Statement.TheVariants as says
 

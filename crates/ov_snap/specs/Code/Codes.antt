@@ -2,7 +2,7 @@
 use Rattle.std.specs.Prelude.{List, refl}
 use Rattle.std.specs.Coded.{Coded, code_by, coded×, coded_list}
 use Rattle.ov_desk.specs.Desk.{GroupDeskState}
-use Rattle.ov_desk.specs.contracts.analysis_desk.GroupDesk as desk
+use Rattle.ov_desk.specs.contracts.worker_desk.GroupDesk as desk
 use Rattle.ov_net.specs.Code.Codes.{world_code}
 use Rattle.ov_net.specs.World.{WorldState}
 use Rattle.ov_snap.specs.CoreState.{CoreState}

@@ -2,7 +2,7 @@
 use ov_cert::{Cert, FanPaths, Split};
 use ov_graph::{Graph, GraphFault};
 use ov_ids::{NodeId, OutOfMemory, Seq};
-use ov_paths::Paths;
+use ov_lists::Paths;
 use ov_picture::{ChosenEntry, Drawing, PictureFault, draw};
 use ov_test_kit::ids;
 use std::alloc::Global;

@@ -1,5 +1,5 @@
-use ov_block_list::BlockList;
 use ov_ids::OutOfMemory;
+use ov_lists::BlockList;
 use std::alloc::Global;
 
 /// A text of the number: an item that owns memory.

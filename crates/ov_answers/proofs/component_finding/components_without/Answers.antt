@@ -2,7 +2,7 @@
 use Rattle.std.proofs.Common.{◌≡◌, ◌∙◌, ◌≤◌, ℕ, ◌+◌, List, [], ◌∷◌, ◌++◌, length, ap, sym, subst}
 use Rattle.std.proofs.lemmas.Bool.{both_ways}
 use Rattle.ov_graph.specs.Row.{picked}
-use Rattle.ov_paths.specs.Building.{Building}
+use Rattle.ov_lists.specs.Building.{Building}
 use Rattle.ov_answers.specs.Components.{AreComponents}
 use Rattle.ov_answers.proofs.Divided.{IsDivided, divided_whole, divided_past, divided_more, divided_all}
 use Rattle.ov_answers.proofs.component_finding.components_without.Goals as goal

@@ -3,7 +3,7 @@ use Rattle.std.proofs.Common.{◌≡◌, ◌∙◌, ℕ, ◌+◌, List, [], ◌�
 use Rattle.std.proofs.Common.{append_assoc, append-nil}
 use Rattle.ov_graph.specs.Row.{picked}
 use Rattle.ov_graph.proofs.BitRows.Read.{next_picked, none_picked}
-use Rattle.ov_paths.specs.Building.{Building}
+use Rattle.ov_lists.specs.Building.{Building}
 use Rattle.ov_answers.proofs.component_finding.push_component.Goals as goal
 
 pub loop-place-preserved : goal.loop-place-preserved

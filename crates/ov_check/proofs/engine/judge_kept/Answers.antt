@@ -3,7 +3,7 @@ use Rattle.std.proofs.Common.{◌≡◌, List, ℕ, Result, Ok, Err, IsErrAnd, r
 use Rattle.ov_check.specs.Outcome.{IsOutcome, SaysExactNumber, status_of}
 use Rattle.ov_check.specs.Run.{IsRun, status_in}
 use Rattle.ov_check.specs.declared.outcome.Outcome.{Outcome}
-use Rattle.ov_check.specs.declared.judge_fault.JudgeFault.{JudgeFault}
+use Rattle.ov_check.specs.declared.read_or_write_fault.JudgeFault.{JudgeFault}
 use Rattle.ov_check.proofs.Running.{IsRead, written}
 use Rattle.ov_check.proofs.engine.judge_kept.Goals as goal
 

@@ -2,7 +2,7 @@
 use Rattle.std.proofs.Common.{◌≡◌, ◌∙◌, map, sym, ap, subst}
 use Rattle.ov_fans.specs.declared.piece.Piece.{Piece}
 use Rattle.ov_even.specs.Naming.{AreWanted, HaveAskedPaths, named_of}
-use Rattle.ov_even.specs.declared.path_naming.NamedPaths.{NamedPaths}
+use Rattle.ov_even.specs.declared.paths_by_ids.NamedPaths.{NamedPaths}
 use Rattle.ov_even.proofs.AnalysisSteps.Entered.{same_pieces, all_asked}
 use Rattle.ov_crew.proofs.analysis_by_threads.assembled.Goals as goal
 

@@ -5,7 +5,7 @@ use Rattle.ov_ids.specs.Members.{Has}
 use Rattle.ov_ids.proofs.Members.{has_append_right}
 use Rattle.ov_fans.specs.Group.{SettlerState}
 use Rattle.ov_fans.specs.Pieces.{IsPiece}
-use Rattle.ov_claims.specs.Claims.{WorkerState}
+use Rattle.ov_board.specs.Claims.{WorkerState}
 use Rattle.ov_even.specs.Order.{AreMoreThan, IsNumbered}
 use Rattle.ov_even.proofs.AnalysisSteps.Narrowing.{members_few}
 use Rattle.ov_even.proofs.PieceNumbers.Numbering.{numbered_piece}

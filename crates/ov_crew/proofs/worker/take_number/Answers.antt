@@ -1,7 +1,7 @@
 -- A claim and a look, one after the other.
 use Rattle.std.proofs.Common.{◌≡◌, ◌<◌, sym, ap, ◌∙◌, subst, arith}
 use Rattle.ov_ids.specs.Members.{Has}
-use Rattle.ov_claims.specs.Steps.{looking, claiming}
+use Rattle.ov_board.specs.Steps.{looking, claiming}
 use Rattle.ov_board.specs.Board.{SeatState}
 use Rattle.ov_board.proofs.Later.{later}
 use Rattle.ov_crew.specs.Code.Turns.{HasTaken, HasStopped}

@@ -6,10 +6,10 @@ use Rattle.ov_ids.specs.Members.{Has}
 use Rattle.ov_ids.proofs.Members.{has_append_right}
 use Rattle.ov_graph.specs.Links.{LinkGraph}
 use Rattle.ov_fans.specs.declared.piece.Piece.{Piece}
-use Rattle.ov_fans.specs.declared.settled.Settled.{Settled}
+use Rattle.ov_fans.specs.declared.piece_result.Settled.{Settled}
 use Rattle.ov_fans.specs.Group.{SettlerState}
 use Rattle.ov_fans.specs.Pieces.{IsPiece}
-use Rattle.ov_claims.specs.Claims.{WorkerState, fresh}
+use Rattle.ov_board.specs.Claims.{WorkerState, fresh}
 use Rattle.ov_even.specs.Order.{AreMoreThan, IsNumbered}
 use Rattle.ov_even.proofs.AnalysisSteps.Narrowing.{members_few}
 use Rattle.ov_even.proofs.PieceNumbers.Numbering.{numbered_piece}

@@ -2,7 +2,7 @@
 use Rattle.std.proofs.Common.{◌≡◌, ◌∙◌, ◌++◌, ◌∷◌, [], List, suc, take, drop, ap, sym, subst}
 use Rattle.std.proofs.lemmas.List.{take_more}
 use Rattle.std.proofs.lemmas.Result.{err_from_is_err_and}
-use Rattle.ov_dump.specs.declared.dump_values.Entry.{Entry}
+use Rattle.ov_dump.specs.declared.dump_and_graph_types.Entry.{Entry}
 use Rattle.ov_dump.proofs.Places.{parted}
 use Rattle.ov_dump.proofs.Sounding.{SoundSoFar, begun, flaw, more}
 use Rattle.ov_dump.proofs.dump_judging.judge_entries.Goals as goal

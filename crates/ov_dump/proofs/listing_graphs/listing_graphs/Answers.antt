@@ -4,7 +4,7 @@ use Rattle.std.proofs.lemmas.List.{take_more}
 use Rattle.ov_ids.specs.Members.{Has}
 use Rattle.ov_ids.proofs.Members.{has_place}
 use Rattle.ov_dump.specs.Code.Numbering.{Follows, NodeLists}
-use Rattle.ov_dump.specs.declared.dump_values.Listing.{Listing}
+use Rattle.ov_dump.specs.declared.dump_and_graph_types.Listing.{Listing}
 use Rattle.ov_dump.proofs.Linking.{FollowsSoFar, follows_begun, follows_more}
 use Rattle.ov_dump.proofs.listing_graphs.listing_graphs.Goals as goal
 

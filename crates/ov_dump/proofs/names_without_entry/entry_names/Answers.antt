@@ -3,7 +3,7 @@ use Rattle.std.proofs.Common.{◌∙◌, ◌↔◌, ◌++◌, ◌∷◌, [], ℕ
 use Rattle.std.proofs.lemmas.List.{take_more}
 use Rattle.ov_ids.specs.Members.{Has}
 use Rattle.ov_dump.specs.Dumps.{names_of}
-use Rattle.ov_dump.specs.declared.dump_values.Entry.{Entry}
+use Rattle.ov_dump.specs.declared.dump_and_graph_types.Entry.{Entry}
 use Rattle.ov_dump.proofs.Answering.{entry_more}
 use Rattle.ov_dump.proofs.names_without_entry.entry_names.Goals as goal
 

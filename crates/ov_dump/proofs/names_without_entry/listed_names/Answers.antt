@@ -2,7 +2,7 @@
 use Rattle.std.proofs.Common.{◌∙◌, ◌++◌, ◌∷◌, [], List, take, ap, sym, subst}
 use Rattle.std.proofs.lemmas.List.{take_more}
 use Rattle.ov_dump.specs.Code.Listed.{Missing}
-use Rattle.ov_dump.specs.declared.dump_values.Listing.{Listing}
+use Rattle.ov_dump.specs.declared.dump_and_graph_types.Listing.{Listing}
 use Rattle.ov_dump.proofs.Answering.{missing_more}
 use Rattle.ov_dump.proofs.names_without_entry.listed_names.Goals as goal
 

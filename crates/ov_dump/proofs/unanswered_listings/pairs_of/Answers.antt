@@ -3,7 +3,7 @@ use Rattle.std.proofs.Common.{◌∙◌, ◌↔◌, ◌++◌, ◌∷◌, [], ℕ
 use Rattle.std.proofs.lemmas.List.{take_more}
 use Rattle.ov_ids.specs.Members.{Has}
 use Rattle.ov_dump.specs.Dumps.{ends_of}
-use Rattle.ov_dump.specs.declared.dump_values.Listing.{Listing}
+use Rattle.ov_dump.specs.declared.dump_and_graph_types.Listing.{Listing}
 use Rattle.ov_dump.proofs.Answering.{pairs_more}
 use Rattle.ov_dump.proofs.unanswered_listings.pairs_of.Goals as goal
 

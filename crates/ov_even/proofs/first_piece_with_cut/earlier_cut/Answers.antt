@@ -3,7 +3,7 @@ use Rattle.std.proofs.Common.{◌≡◌, List, [], ◌∷◌, ◌++◌, ◌+◌,
 use Rattle.std.proofs.Common.{take_all}
 use Rattle.std.specs.Option.{option_copied}
 use Rattle.std.proofs.lemmas.Bool.{both_ways}
-use Rattle.ov_fans.specs.declared.settled.Settled.{Settled as settled}
+use Rattle.ov_fans.specs.declared.piece_result.Settled.{Settled as settled}
 use Rattle.ov_even.specs.Code.Cuts.{IsFirstCut}
 use Rattle.ov_even.proofs.AnalysisSteps.FirstCut.{one_more, cut_earlier, cut_stays}
 use Rattle.ov_even.proofs.first_piece_with_cut.earlier_cut.Goals as goal

@@ -1,7 +1,7 @@
 -- One more haul is examined.
 use Rattle.std.proofs.Common.{◌≡◌, ◌∙◌, List, ◌++◌, ◌+◌, take, sym, ap, subst}
 use Rattle.std.specs.Option.{option_copied}
-use Rattle.ov_fans.specs.declared.settled.Settled.{Settled as settled}
+use Rattle.ov_fans.specs.declared.piece_result.Settled.{Settled as settled}
 use Rattle.ov_even.specs.declared.worker_haul.Haul.{Haul as haul}
 use Rattle.ov_even.specs.Code.Cuts.{IsFirstCut, all_settled}
 use Rattle.ov_even.proofs.AnalysisSteps.FirstCut.{all_more}

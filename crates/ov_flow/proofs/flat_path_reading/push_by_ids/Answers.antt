@@ -3,7 +3,7 @@ use Rattle.std.proofs.Common.{◌∙◌, ℕ, [], ◌∷◌, inl, refl, sym, sub
 use Rattle.std.proofs.lemmas.List.{get_or_read}
 use Rattle.ov_ids.specs.Members.{Has}
 use Rattle.ov_ids.proofs.Members.{has_append_left, has_append_right}
-use Rattle.ov_paths.specs.Building.{Building}
+use Rattle.ov_lists.specs.Building.{Building}
 use Rattle.ov_flow.proofs.FlatPaths.{one_more}
 use Rattle.ov_flow.proofs.flat_path_reading.push_by_ids.Goals as goal
 

@@ -1,5 +1,5 @@
 use Rattle.std.proofs.Common.{◌∷◌, map, refl, ap, ◌∙◌, None, Some}
-use Rattle.ov_peer.specs.declared.input.Input.TheVariants.{Boot}
+use Rattle.ov_peer.specs.declared.input_and_output.Input.TheVariants.{Boot}
 use Rattle.ov_net.specs.NetStep.{change_at}
 use Rattle.ov_net.specs.declared.planned_effects.NodeChange.TheVariants as change
 use Rattle.ov_net.specs.declared.journal_entry_and_changes.Change.TheVariants.{Born}

@@ -1,6 +1,6 @@
 use Rattle.std.proofs.Common.{None, Some, sym, subst}
 use Rattle.ov_peer.specs.PeerState.{PeerState, newborn}
-use Rattle.ov_peer.specs.declared.input.Input.TheVariants.{Boot}
+use Rattle.ov_peer.specs.declared.input_and_output.Input.TheVariants.{Boot}
 use Rattle.ov_net.specs.Code.Effects.{AreEffectsOfBirth}
 use Rattle.ov_net.specs.declared.planned_effects.Effects.{Effects}
 use Rattle.ov_net.specs.declared.planned_effects.NodeChange.TheVariants as change

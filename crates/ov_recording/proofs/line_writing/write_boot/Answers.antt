@@ -2,7 +2,7 @@
 use Rattle.std.proofs.Common.{ℕ, ap, sym, ◌∙◌, ◌++◌, Some}
 use Rattle.ov_recording.specs.Acts.{act_line}
 use Rattle.ov_recording.specs.WrittenLines.{ended}
-use Rattle.ov_recording.specs.declared.act.Act.TheVariants as act
+use Rattle.ov_recording.specs.declared.recordable_event.Act.TheVariants as act
 use Rattle.ov_recording.proofs.Appending.{boot_by}
 use Rattle.ov_recording.proofs.line_writing.write_boot.Goals as goal
 

@@ -1,7 +1,7 @@
 -- The line of the report was written, or a prefix of it.
 use Rattle.std.proofs.Common.{◌≡◌, ◌∙◌}
 use Rattle.ov_run_meaning.specs.Accepting.{FilesReport, RefusesAnalysis}
-use Rattle.ov_run.proofs.Printing.Outcomes.{begun, done}
+use Rattle.ov_run_meaning.proofs.Writing.Outcomes.{begun, done}
 use Rattle.ov_run.proofs.line_running.run_analysis.Goals as goal
 
 pub returns-in-Ok-clause-outcome : goal.returns-in-Ok-clause-outcome

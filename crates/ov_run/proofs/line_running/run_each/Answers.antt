@@ -9,7 +9,8 @@ use Rattle.ov_run.proofs.Blocks.Drivers.{drivers_more}
 use Rattle.ov_run_meaning.specs.Strict.{RefusesLine}
 use Rattle.ov_run.specs.Code.Outcomes.{WritesRest, rest_of}
 use Rattle.ov_run_meaning.specs.declared.run_fault.RunFault.TheVariants.{OutOfMemory, Write}
-use Rattle.ov_run.proofs.Printing.Ending.{begun_so_too, followed, all_went, none_went, nothing, prefix_went, whole}
+use Rattle.ov_run_meaning.proofs.Writing.Prefixes.{all_went, none_went, prefix_went}
+use Rattle.ov_run.proofs.Printing.Ending.{begun_so_too, followed, nothing, whole}
 use Rattle.ov_run.proofs.Printing.HandedOn.{stopped_at, stopped_by}
 use Rattle.ov_run.proofs.Printing.Running.{AcceptedSoFar, SoFar, accepted_begun, accepted_ended, accepted_more}
 use Rattle.ov_run.proofs.Printing.Running.{begun, more, ended, unread}

@@ -1,7 +1,7 @@
 -- What went is a prefix of the line of the entry.
 use Rattle.std.proofs.Common.{refl}
 use Rattle.ov_run_meaning.specs.Accepting.{DoesEvent}
-use Rattle.ov_run.proofs.Printing.Outcomes.{begun}
+use Rattle.ov_run_meaning.proofs.Writing.Outcomes.{begun}
 use Rattle.ov_run.proofs.line_running.run_event.Goals as goal
 
 pub returns-in-Ok-clause-begun : goal.returns-in-Ok-clause-begun

@@ -9,10 +9,11 @@ use Rattle.ov_run.specs.Code.Jobs.{HasDrivers}
 use Rattle.ov_run.specs.Code.Outcomes.{LineCame}
 use Rattle.ov_run.specs.declared.line_outcome.Came.TheVariants.{Alone, Block}
 use Rattle.ov_run_meaning.specs.declared.strictness.Strictness.TheVariants.{Strict}
-use Rattle.ov_run.proofs.Printing.Ending.{kept_prefix, whole}
+use Rattle.ov_run_meaning.proofs.Writing.Outcomes.{kept_outcome}
+use Rattle.ov_run_meaning.proofs.Writing.Prefixes.{kept_prefix}
+use Rattle.ov_run.proofs.Printing.Ending.{whole}
 use Rattle.ov_run.proofs.Printing.OneLine.{RanWith, at_a_write, block_came, block_ended, ended_by, event_ended}
 use Rattle.ov_run.proofs.Printing.OneLine.{look_begun, look_came, not_handed_on, ran_as}
-use Rattle.ov_run.proofs.Printing.Outcomes.{kept_outcome}
 use Rattle.ov_run.proofs.line_running.run_line.Goals as goal
 
 -- ---- an event

@@ -2,7 +2,7 @@
 use Rattle.std.proofs.Common.{rules, ◌≡◌, Some, None, sym, subst}
 use Rattle.ov_scenario.specs.Code.RunnableLines.{stream_now, AreEventWords, TakesPart}
 use Rattle.ov_scenario.specs.declared.block_reading.Part.TheVariants as part
-use Rattle.ov_scenario.specs.declared.section.Deed.TheVariants as deed
+use Rattle.ov_scenario.specs.declared.line_of_section.Deed.TheVariants as deed
 use Rattle.ov_scenario.specs.declared.statement.Statement.TheVariants as says
 use Rattle.ov_scenario.proofs.Scenarios.InBlock.{does_nothing, gives_words, begins_section, ends_block, analyses}
 use Rattle.ov_scenario.proofs.Scenarios.InBlock.{happens}

@@ -1,5 +1,5 @@
 use Rattle.std.proofs.Common.{ap, sym, ◌∙◌, arith}
-use Rattle.ov_claims.specs.Steps.{Claims}
+use Rattle.ov_board.specs.Steps.{Claims}
 use Rattle.ov_board.proofs.Exchanging as exchange
 use Rattle.ov_board.proofs.claim_board.Board.claim.Goals as goal
 

@@ -1,6 +1,6 @@
 use Rattle.std.proofs.Common.{ap, sym, ◌∙◌, subst, arith}
 use Rattle.ov_ids.specs.Members.{Has}
-use Rattle.ov_claims.specs.Steps.{Fails}
+use Rattle.ov_board.specs.Steps.{Fails}
 use Rattle.ov_board.specs.Board.{SeatState}
 use Rattle.ov_board.proofs.Exchanging as exchange
 use Rattle.ov_board.proofs.claim_board.Board.fail.Goals as goal

@@ -1,6 +1,6 @@
 use Rattle.std.proofs.Common.{◌≡◌, ℕ, ap, sym, ◌∙◌, subst, arith}
 use Rattle.ov_ids.specs.Members.{Has}
-use Rattle.ov_claims.specs.Steps.{Looks}
+use Rattle.ov_board.specs.Steps.{Looks}
 use Rattle.ov_board.specs.Board.{SeatState}
 use Rattle.ov_board.specs.Code.Rule.{worker_of}
 use Rattle.ov_board.proofs.Exchanging as exchange

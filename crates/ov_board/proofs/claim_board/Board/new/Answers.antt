@@ -1,6 +1,6 @@
 use Rattle.std.proofs.Common.{◌≡◌, length, List, [], ◌∷◌, take, drop, slice_get}
 use Rattle.std.proofs.Common.{ap, sym, ◌∙◌, arith, length-append}
-use Rattle.ov_claims.specs.Claims.{fresh}
+use Rattle.ov_board.specs.Claims.{fresh}
 use Rattle.ov_board.specs.Rule.{Numbered}
 use Rattle.ov_board.specs.declared.ghost_views.SeatView.{SeatView}
 use Rattle.ov_board.specs.Board.{BoardState, SeatState, new_seat}

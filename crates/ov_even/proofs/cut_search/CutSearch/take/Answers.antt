@@ -4,7 +4,7 @@ use Rattle.std.proofs.Common.{◌∙◌, ◌<◌, ℕ, List, length, sym, ap, su
 use Rattle.ov_even.specs.First.{IsDecidingCut}
 use Rattle.ov_even.specs.Levels.{IsLevelDecided, IsFirstOfLevel, SearchState}
 use Rattle.ov_even.specs.Code.Narrowing.{SplitsWith}
-use Rattle.ov_fans.specs.declared.settled.Parting.{Parting}
+use Rattle.ov_fans.specs.declared.piece_result.Parting.{Parting}
 use Rattle.ov_even.proofs.AnalysisSteps.Bounding.{first_decides, first_splits}
 use Rattle.ov_even.proofs.cut_search.CutSearch.take.Goals as goal
 

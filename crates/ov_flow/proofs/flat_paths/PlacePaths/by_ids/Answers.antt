@@ -3,7 +3,7 @@ use Rattle.std.proofs.Common.{◌≡◌, ◌∙◌, ℕ, ◌-◌, ◌∷◌, ◌
 use Rattle.std.proofs.Common.{length, reverse, slice_index}
 use Rattle.ov_ids.specs.Members.{Has}
 use Rattle.ov_graph.specs.Paths.{node_at}
-use Rattle.ov_paths.specs.Building.{Building}
+use Rattle.ov_lists.specs.Building.{Building}
 use Rattle.ov_flow.specs.Flow.{ArePlaces, ended_by}
 use Rattle.ov_flow.specs.Code.Flat.{paths_after}
 use Rattle.ov_flow.proofs.FlatPaths.{in_flat, has_reversed, path_more}

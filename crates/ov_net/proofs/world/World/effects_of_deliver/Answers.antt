@@ -1,7 +1,7 @@
 use Rattle.std.proofs.Common.{Some, subst, sym, ap, ◌∙◌}
 use Rattle.std.proofs.lemmas.Result.{IfOk-weaker}
 use Rattle.ov_peer.specs.PeerState.{PeerState}
-use Rattle.ov_peer.specs.declared.input.Input.TheVariants as input
+use Rattle.ov_peer.specs.declared.input_and_output.Input.TheVariants as input
 use Rattle.ov_net.specs.Code.Effects.{AreEffectsOfPlan}
 use Rattle.ov_net.specs.declared.member.Member.{Member}
 use Rattle.ov_net.proofs.Steps.EventEffects.{deliver_effects}

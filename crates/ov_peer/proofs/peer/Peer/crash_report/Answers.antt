@@ -1,6 +1,6 @@
 use Rattle.std.proofs.Common.{refl, sym, ap, subst, arith}
 use Rattle.ov_peer.specs.Code.Messages.{AreSendable}
-use Rattle.ov_peer.specs.declared.input.Input.TheVariants.{CrashReport}
+use Rattle.ov_peer.specs.declared.input_and_output.Input.TheVariants.{CrashReport}
 use Rattle.ov_peer.specs.declared.plan.NextViews.{NextViews}
 use Rattle.ov_peer.proofs.Steps.{peer_of}
 use Rattle.ov_peer.proofs.Following.{copied_plan}

@@ -1,7 +1,7 @@
 use Rattle.std.proofs.Common.{sym, ap, subst}
 use Rattle.ov_wire.specs.declared.message.Message.{Message}
 use Rattle.ov_peer.specs.Code.Messages.{AreSendable}
-use Rattle.ov_peer.specs.declared.input.Input.TheVariants.{Receive}
+use Rattle.ov_peer.specs.declared.input_and_output.Input.TheVariants.{Receive}
 use Rattle.ov_peer.specs.declared.plan.NextViews.{NextViews}
 use Rattle.ov_peer.proofs.Steps.{peer_of, tree_rests}
 use Rattle.ov_peer.proofs.Following.{copied_plan}

@@ -4,7 +4,7 @@ use Rattle.ov_peer.specs.Code.Messages.{AreSendable}
 use Rattle.ov_peer.specs.PeerState.{PeerState}
 use Rattle.ov_peer.specs.Step.{HyParViewPart}
 use Rattle.ov_peer.specs.Planning.{Plans}
-use Rattle.ov_peer.specs.declared.input.Input.TheVariants.{Shuffle}
+use Rattle.ov_peer.specs.declared.input_and_output.Input.TheVariants.{Shuffle}
 use Rattle.ov_peer.proofs.Steps.{peer_of}
 use Rattle.ov_peer.proofs.Following.{moves_plan}
 use Rattle.ov_peer.proofs.peer.Peer.shuffle.Goals as goal

@@ -2,7 +2,7 @@ use Rattle.std.proofs.Common.{◌≡◌, sym, subst}
 use Rattle.ov_views.specs.Changes.{after_changes}
 use Rattle.ov_peer.specs.Limits.{DrawnFrom}
 use Rattle.ov_peer.specs.Step.{PeerStep}
-use Rattle.ov_peer.specs.declared.input.Output.{Output}
+use Rattle.ov_peer.specs.declared.input_and_output.Output.{Output}
 use Rattle.ov_peer.proofs.Following.{drawn_step, followed_tracks}
 use Rattle.ov_peer.proofs.peer.Peer.step.Goals as goal
 

@@ -1,0 +1,99 @@
+ghost use Rattle.std.specs.Prelude.{◌≡◌, ◌≢◌, ◌<◌, false, option_map, Some, Err, IfOk, IfErr};
+ghost use Rattle.ov_io.specs.Device.{most_faults};
+ghost use Rattle.ov_answers.specs.Analysing.{IsAnalysis, IsAnalysisOf, IsFileAnalysis};
+ghost use Rattle.ov_answers.specs.Code.TextFaults.{IsTextFault};
+
+use crate::answer_making::{Answer, answer_for, graph_of};
+use crate::report_or_refusal::Answered;
+use crate::request::Request;
+use ov_even::Watcher;
+use ov_ids::{NodeId, Workers};
+use ov_io::{Sink, Source};
+use ov_run_meaning::{RunFault, members_of};
+use std::alloc::Global;
+use std::io::{Read, Write};
+use std::thread::Threads;
+
+/// Reads a graph file to its end, finds how few crashes of nodes split a group of its nodes, by this number of workers,
+/// and writes the line of the answer; the certificate file follows it if that is asked for. Without a group, all nodes
+/// are the group. Returns what was printed. A graph without nodes (30) and ids that are no group (34) are refusals that
+/// are printed, and no faults. The watcher sees how far the analysis has come.
+///
+/// Line (70) is returned for the first line that can't be read, Graph with the number of its fault if the lines say
+/// no graph, and Read (71) if the reader failed in this call. Write (72) is returned if the writer failed in this call,
+/// and then a prefix of the text was written. With any other fault nothing was written. OutOfMemory (99) is returned if
+/// an allocation was refused. The numbers and the form of what is printed are chosen here.
+pub fn analyse_file<T: Threads + Sync, R: Read, W: Write, P: Watcher>(
+    rt: &T,
+    alloc: Global,
+    source: &mut Source<R>,
+    sink: &mut Sink<W>,
+    group: Option<&[NodeId]>,
+    workers: Workers,
+    certificate: bool,
+    watcher: &mut P,
+) -> Result<Answered, RunFault>
+    requires reads { source.old.faults < most_faults }
+    requires writes { sink.old.faults < most_faults }
+    ensures analysis { IsFileAnalysis R.remaining W.contents source.old sink.old
+        (option_map (λ ids. ids.now) group.entry) certificate source.new sink.new result }
+{
+    let bytes = source.read_all(alloc)?;
+    analyse_bytes(
+        rt,
+        alloc,
+        &bytes,
+        sink,
+        group,
+        workers,
+        certificate,
+        watcher,
+    )
+}
+
+/// Does what `analyse_file` does with the graph file of these bytes, which were read before.
+#[tactic(auto, using(crate::proofs::Written::refused))]
+pub fn analyse_bytes<T: Threads + Sync, W: Write, P: Watcher>(
+    rt: &T,
+    alloc: Global,
+    bytes: &[u8],
+    sink: &mut Sink<W>,
+    group: Option<&[NodeId]>,
+    workers: Workers,
+    certificate: bool,
+    watcher: &mut P,
+) -> Result<Answered, RunFault>
+    requires writes { sink.old.faults < most_faults }
+    ensures analysis { IsAnalysisOf (Some bytes.now) W.contents sink.old (option_map (λ ids. ids.now) group.entry)
+        certificate sink.new result }
+    ensures read { result ≢ Err RunFault.Read }
+{
+    let request = Request {
+        group,
+        workers,
+        certificate,
+        names: false,
+        explain: false,
+    };
+    let answer = plain_answer(rt, alloc, bytes, &request, watcher)?;
+    sink.write_all(&answer.text)?;
+    Ok(answer.told.answered)
+}
+
+/// What is printed of a graph file without its names, which are not read.
+fn plain_answer<T: Threads + Sync, P: Watcher>(
+    rt: &T,
+    alloc: Global,
+    bytes: &[u8],
+    request: &Request<'_>,
+    watcher: &mut P,
+) -> Result<Answer, RunFault>
+    requires plain { request.now.names ≡ false }
+    ensures answer { IfOk result (λ answer. IsAnalysis bytes.now (option_map (λ ids. ids.now) request.now.group)
+        request.now.certificate answer.told.answered answer.text.items) }
+    ensures fault { IfErr result (IsTextFault bytes.now) }
+{
+    let graph = graph_of(alloc, bytes)?;
+    let members = members_of(request.group, &graph);
+    Ok(answer_for(rt, alloc, &graph, members, None, request, watcher)?)
+}

@@ -1,0 +1,68 @@
+use crate::GrowArgumentsFault;
+use crate::grow_and_sweep_clap_commands::{CommandName, command};
+use crate::growing_option_table::takes_text;
+use clap::error::ErrorKind;
+use clap::{ArgMatches, Error as ClapError};
+use ov_io::shown_name;
+use std::alloc::{AllocError, Global};
+use std::fmt::Write;
+
+/// What stands below a reason, as `clap` writes it.
+const HELP: &str = "\n\nFor more information, try '--help'.\n";
+
+/// What is found in the words of a command.
+pub(crate) fn found_in<'a>(
+    alloc: Global,
+    name: CommandName,
+    words: &'a [String],
+) -> Result<ArgMatches<'a>, GrowArgumentsFault> {
+    match command(alloc, name)?.try_get_matches_from(words) {
+        Ok(found) => Ok(found),
+        Err(error) => Err(told(alloc, name, words, &error)?),
+    }
+}
+
+/// What `clap` says of words in which it found a fault, or of a request for help. The words are shown with the codes of
+/// their control characters, so that each is on one line.
+fn told(
+    alloc: Global,
+    name: CommandName,
+    words: &[String],
+    error: &ClapError,
+) -> Result<GrowArgumentsFault, AllocError> {
+    if error.kind() == ErrorKind::OutOfMemory {
+        return Ok(GrowArgumentsFault::OutOfMemory);
+    }
+    let mut shown = Vec::new(alloc);
+    for word in words {
+        shown.push(shown_name(alloc, word.as_str())?)?;
+    }
+    let reason = match command(alloc, name)?.try_get_matches_from(&shown) {
+        Ok(_) => format!(in alloc; "{error}")?,
+        Err(error) => format!(in alloc; "{error}")?,
+    };
+    Ok(GrowArgumentsFault::BadArguments { reason })
+}
+
+/// The option of this name takes something other than this text.
+pub(crate) fn bad_value(
+    alloc: Global,
+    name: &str,
+    text: &str,
+) -> Result<GrowArgumentsFault, AllocError> {
+    let takes = takes_text(alloc, name)?;
+    bad_value_since(alloc, name, text, takes.as_str())
+}
+
+/// The option of this name can't have this text, for a reason, in the form of `clap`.
+pub(crate) fn bad_value_since(
+    alloc: Global,
+    name: &str,
+    text: &str,
+    reason: &str,
+) -> Result<GrowArgumentsFault, AllocError> {
+    let shown = shown_name(alloc, text)?;
+    Ok(GrowArgumentsFault::BadArguments {
+        reason: format!(in alloc; "error: invalid value '{shown}' for '--{name}': {reason}{HELP}")?,
+    })
+}

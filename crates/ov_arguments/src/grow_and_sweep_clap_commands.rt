@@ -1,0 +1,185 @@
+use crate::clap_commands_and_help;
+use crate::growing_option_table::{OPTIONS, ORDERS, OptionForm, SWEEP_OPTIONS, Takes};
+use clap::{Arg, ArgAction, Command};
+use std::alloc::{AllocError, Global};
+
+/// The names of the two commands that grow overlays.
+const GROW: &str = "grow";
+
+const SWEEP: &str = "sweep";
+
+/// What help of `overlay grow` says, with examples first.
+const GROW_EXAMPLES: &str = "\
+Examples:
+  overlay grow --nodes 60 --seed 7 | overlay run
+  overlay grow --active 4 --crash 20 --broadcasts 5 > overlay.txt";
+
+const GROW_ABOUT: &str = "Grows an overlay, and prints the scenario that grows it again.";
+
+const GROW_BELOW: &str = "\
+A lost JOIN is never sent again, so with --loss-join some nodes may never come in.
+The scenario is what `overlay run` reads.";
+
+/// What help of `overlay sweep` says, with examples first.
+const SWEEP_EXAMPLES: &str = "\
+Examples:
+  overlay sweep --active 3,4,5,6,7 --runs 100 --summary
+  overlay sweep --crash 0,10,cut --workers 4 --svg crash.svg > rows.csv
+  overlay sweep --read rows.csv --summary";
+
+const SWEEP_ABOUT: &str = "\
+Grows many overlays, and prints a row of each: how few crashes split it, after it has settled, after the crash, and
+after it has healed. An option takes values with one comma between two, and every combination is one setting.";
+
+const SWEEP_BELOW: &str = "\
+A lost JOIN is never sent again, so with --loss-join some nodes may never come in.
+A row can be run again by `overlay grow OPTIONS --seed S | overlay run`.";
+
+/// What help says of the options that only `overlay sweep` has.
+const SUMMARY: &str = "Prints a summary for people in place of the rows";
+
+const SVG: &str = "Writes a picture of all runs into this file too";
+
+const READ: &str = "Reads rows from these files in place of growing; - is standard input";
+
+const PROGRESS: &str = "Prints on standard error how far it has come";
+
+/// The option that takes no list in a sweep.
+const SEED: &str = "seed";
+
+/// The commands that grow overlays.
+#[derive(Clone, Copy)]
+pub(crate) enum CommandName {
+    Grow,
+    Sweep,
+}
+
+impl CommandName {
+    /// The command of this name, if it grows overlays.
+    pub(crate) fn of(word: &str) -> Option<CommandName> {
+        if word == GROW {
+            return Some(CommandName::Grow);
+        }
+        if word == SWEEP {
+            return Some(CommandName::Sweep);
+        }
+        None
+    }
+}
+
+/// All commands with their options, of which help is told. Those that grow overlays are not among those that it lists.
+///
+/// The words of these two are parsed by their own part of the tree, and all others by the part without them: `clap` has
+/// exact contracts for commands whose options take no lists and exclude no others.
+pub(crate) fn command_tree<'a>(alloc: Global) -> Result<Command<'a>, AllocError> {
+    clap_commands_and_help::command(alloc)?
+        .subcommand(grow_command(alloc)?.hide(true))?
+        .subcommand(sweep_command(alloc)?.hide(true))
+}
+
+/// The words that a command takes.
+pub(crate) fn command<'a>(alloc: Global, name: CommandName) -> Result<Command<'a>, AllocError> {
+    match name {
+        CommandName::Grow => grow_command(alloc),
+        CommandName::Sweep => sweep_command(alloc),
+    }
+}
+
+/// The words after `overlay grow`.
+fn grow_command<'a>(alloc: Global) -> Result<Command<'a>, AllocError> {
+    let mut command = Command::new(alloc, GROW)
+        .bin_name("overlay grow")?
+        .no_binary_name(true)
+        .before_help(GROW_EXAMPLES)
+        .about(GROW_ABOUT)
+        .after_help(GROW_BELOW);
+    for option in &OPTIONS {
+        command = command.arg(one_value(alloc, option)?)?;
+    }
+    Ok(command)
+}
+
+/// The words after `overlay sweep`.
+fn sweep_command<'a>(alloc: Global) -> Result<Command<'a>, AllocError> {
+    let mut command = Command::new(alloc, SWEEP)
+        .bin_name("overlay sweep")?
+        .no_binary_name(true)
+        .before_help(SWEEP_EXAMPLES)
+        .about(SWEEP_ABOUT)
+        .after_help(SWEEP_BELOW);
+    for option in &OPTIONS {
+        command = command.arg(list(alloc, option))?;
+    }
+    for option in &SWEEP_OPTIONS {
+        command = command.arg(with_usual(text(alloc, option.name, "N", option.help), option))?;
+    }
+    command
+        .arg(flag(alloc, "summary", SUMMARY).conflicts_with("list")?)?
+        .arg(text(alloc, "svg", "FILE", SVG).conflicts_with("list")?)?
+        .arg(files(alloc)?)?
+        .arg(flag(alloc, "progress", PROGRESS))
+}
+
+/// An option of `overlay grow`.
+fn one_value<'a>(alloc: Global, option: &'static OptionForm) -> Result<Arg<'a>, AllocError> {
+    let arg = match option.takes {
+        Takes::Order => order(alloc, option, "ORDER"),
+        Takes::Nothing => return flag(alloc, option.name, option.help).conflicts_with("crash"),
+        _ => text(alloc, option.name, "N", option.help),
+    };
+    Ok(with_usual(arg, option))
+}
+
+/// An option of `overlay sweep`, which takes a list; but the seed is that of each first run.
+fn list<'a>(alloc: Global, option: &'static OptionForm) -> Arg<'a> {
+    let arg = match option.takes {
+        Takes::Order => order(alloc, option, "ORDER,.."),
+        Takes::Nothing => return flag(alloc, option.name, option.help),
+        _ if option.name == SEED => {
+            return with_usual(text(alloc, option.name, "N", option.help), option);
+        }
+        _ => text(alloc, option.name, "N,..", option.help),
+    };
+    with_usual(arg.value_delimiter(','), option)
+}
+
+/// The option, with the text that stands for it if it is not given.
+fn with_usual<'a>(arg: Arg<'a>, option: &'static OptionForm) -> Arg<'a> {
+    match option.usual {
+        Some(usual) => arg.default_value(usual),
+        None => arg,
+    }
+}
+
+/// An option of this name, with one of the words for whose turn is next.
+fn order<'a>(alloc: Global, option: &'static OptionForm, value: &'static str) -> Arg<'a> {
+    text(alloc, option.name, value, option.help).value_parser(ORDERS.as_slice())
+}
+
+/// An option of this name, with a text.
+fn text<'a>(alloc: Global, name: &'static str, value: &'static str, help: &'static str) -> Arg<'a> {
+    Arg::new(alloc, name)
+        .long(name)
+        .action(ArgAction::Set)
+        .value_name(value)
+        .help(help)
+}
+
+/// The files of rows that are read.
+fn files<'a>(alloc: Global) -> Result<Arg<'a>, AllocError> {
+    let mut arg = text(alloc, "read", "FILE", READ)
+        .num_args(1..)
+        .conflicts_with("progress")?;
+    for option in OPTIONS.iter().chain(&SWEEP_OPTIONS) {
+        arg = arg.conflicts_with(option.name)?;
+    }
+    Ok(arg)
+}
+
+/// An option of this name, without a text.
+fn flag<'a>(alloc: Global, name: &'static str, help: &'static str) -> Arg<'a> {
+    Arg::new(alloc, name)
+        .long(name)
+        .action(ArgAction::SetTrue)
+        .help(help)
+}

@@ -1,0 +1,156 @@
+use crate::certificate_option_tip::certificate_tip;
+use crate::clap_commands_and_help::command;
+use crate::grow_and_sweep_clap_commands::command_tree;
+use clap::error::ErrorKind;
+use clap::{ArgMatches, Command};
+use ov_ids::OutOfMemory;
+use ov_io::shown_name;
+use ov_lines::{comma_hint, read_ids, read_workers};
+use std::alloc::{AllocError, Global};
+use std::fmt::Write;
+
+/// The program with its version, and the logic that it is proved with. Each kit of that logic may build it.
+const VERSION: &str = "overlay 1.0, proved with Rattle's logic dac8208d650f15bf\n";
+
+/// The word that asks for help of a command, in its place.
+const HELP: &str = "help";
+
+/// What is printed of arguments of which one is no text, so that `clap` does not see them.
+const NO_TEXT: &str = "error: an argument is no UTF-8 text\n";
+
+/// What the texts of `--group` and `--workers` must be. `clap` takes any text; the two are read here.
+const GROUP: &str = "ids from 0 to 4294967295, with one comma between two, or names beside --names";
+
+const WORKERS: &str = "a number from 1 to 64";
+
+/// What the texts of `--pair` and `--fan` must be.
+const PAIR: &str = "two ids with one comma between them";
+
+const FAN: &str = "one id";
+
+/// What is printed if two of three flags are given, or two of two options.
+const FORMATS: &str = "error: only one of '--views', '--edges' and '--dot' can be given\n\n\
+                       For more information, try '--help'.\n";
+
+const ENTRIES: &str = "error: only one of '--pair' and '--fan' can be given\n\n\
+                       For more information, try '--help'.\n";
+
+/// What is said of arguments that `overlay` refuses: help, the version, or what is wrong with them. They are the
+/// arguments after the program's name. An empty list means that an argument is no UTF-8. The text ends with a line
+/// feed; it is empty if nothing is wrong. `clap` makes it, from the arguments that `overlay` takes, except for the
+/// version and for a bad text of an option. A line `tip: ..` below it may say what is meant. OutOfMemory (99) if an
+/// allocation is refused.
+pub fn argument_reasons(alloc: Global, arguments: &[String]) -> Result<String, OutOfMemory> {
+    match arguments.first() {
+        None => Ok(String::from_str(alloc, NO_TEXT)?),
+        Some(first) if asks_for_version(first.as_str()) => Ok(String::from_str(alloc, VERSION)?),
+        Some(_) => reasons(alloc, arguments),
+    }
+}
+
+/// Whether the first argument asks for the version.
+fn asks_for_version(first: &str) -> bool {
+    first == "--version" || first == "-V"
+}
+
+/// What `clap` says of these arguments, or what is wrong with the texts that it finds in them.
+fn reasons(alloc: Global, arguments: &[String]) -> Result<String, OutOfMemory> {
+    let shown = shown(alloc, arguments)?;
+    match told_by(alloc, &shown)?.try_get_matches_from(&shown) {
+        Ok(matches) => text_reason(alloc, &matches),
+        Err(error) if error.kind() == ErrorKind::OutOfMemory => Err(OutOfMemory),
+        Err(error) => {
+            let mut reason = format!(in alloc; "{error}")?;
+            reason.push_str(certificate_tip(alloc, &shown)?.as_str())?;
+            Ok(reason)
+        }
+    }
+}
+
+/// The commands by which these arguments are told. Help is that of any command. Else those that grow overlays are left
+/// out, so that they are not offered in place of what is no command.
+fn told_by<'a>(alloc: Global, arguments: &[String]) -> Result<Command<'a>, AllocError> {
+    match arguments.first() {
+        Some(first) if first.as_str() == HELP => command_tree(alloc),
+        _ => command(alloc),
+    }
+}
+
+/// The arguments as a person can read them, each on one line: control characters are shown as their codes. None of
+/// them is part of the name of an option, of ids or of a number, so that nothing else is wrong with what is shown.
+fn shown(alloc: Global, arguments: &[String]) -> Result<Vec<String>, AllocError> {
+    let mut shown = Vec::new(alloc);
+    for argument in arguments {
+        shown.push(shown_name(alloc, argument.as_str())?)?;
+    }
+    Ok(shown)
+}
+
+/// What is wrong with the texts that a command was given, if they ask for nothing.
+fn text_reason(alloc: Global, matches: &ArgMatches) -> Result<String, OutOfMemory> {
+    let Some((command, found)) = matches.subcommand() else {
+        return Ok(String::new(alloc));
+    };
+    match command {
+        "analyse" => analysis_reason(alloc, found),
+        "import" => Ok(String::from_str(alloc, FORMATS)?),
+        "picture" => picture_reason(alloc, found),
+        _ => Ok(String::new(alloc)),
+    }
+}
+
+/// What is wrong with the text of `--group` or of `--workers`.
+fn analysis_reason(alloc: Global, found: &ArgMatches) -> Result<String, OutOfMemory> {
+    let mut reason = String::new(alloc);
+    if let Some(text) = ids_asked(found) {
+        if read_ids(alloc, text.as_bytes())?.is_none() {
+            push_bad_text(&mut reason, "group", text, GROUP)?;
+            return Ok(reason);
+        }
+    }
+    if let Some(text) = found.get_str("workers") {
+        if read_workers(text.as_bytes()).is_none() {
+            push_bad_text(&mut reason, "workers", text, WORKERS)?;
+        }
+    }
+    Ok(reason)
+}
+
+/// What is wrong with the texts of `--pair` and `--fan`.
+fn picture_reason(alloc: Global, found: &ArgMatches) -> Result<String, OutOfMemory> {
+    let mut reason = String::new(alloc);
+    match (found.get_str("pair"), found.get_str("fan")) {
+        (Some(_), Some(_)) => reason.push_str(ENTRIES)?,
+        (Some(text), None) => push_bad_text(&mut reason, "pair", text, PAIR)?,
+        (None, Some(text)) => push_bad_text(&mut reason, "fan", text, FAN)?,
+        (None, None) => {}
+    }
+    Ok(reason)
+}
+
+/// The text of the ids of a group. Beside `--names` there is none, since names may be any text.
+fn ids_asked<'a>(found: &'a ArgMatches<'_>) -> Option<&'a str> {
+    if found.get_str("names") == Some("true") {
+        return None;
+    }
+    found.get_str("group")
+}
+
+/// Appends that an option takes something other than this text, in the form of `clap`, and which comma of it is one too
+/// many.
+fn push_bad_text(
+    reason: &mut String,
+    option: &str,
+    text: &str,
+    wanted: &str,
+) -> Result<(), AllocError> {
+    write!(
+        reason,
+        "error: invalid value '{text}' for '--{option} <{option}>': it takes {wanted}\n\n\
+         For more information, try '--help'.\n"
+    )?;
+    match comma_hint(text.as_bytes()) {
+        Some(hint) => write!(reason, "tip: '{text}' {hint}\n"),
+        None => Ok(()),
+    }
+}

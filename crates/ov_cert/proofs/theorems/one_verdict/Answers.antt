@@ -1,5 +1,0 @@
-use Rattle.ov_cert.proofs.Validity.Exact.{one_verdict}
-use Rattle.ov_cert.proofs.theorems.one_verdict.Goals as goal
-
-pub returns : goal.returns
-returns c = one_verdict

@@ -1,5 +1,0 @@
-use Rattle.ov_cert.proofs.Validity.Exact.{valid_means}
-use Rattle.ov_cert.proofs.theorems.valid_means.Goals as goal
-
-pub returns : goal.returns
-returns c = valid_means

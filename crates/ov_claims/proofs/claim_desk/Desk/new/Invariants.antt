@@ -1,6 +1,0 @@
-use Rattle.std.proofs.Common.{◌≡◌, replicate}
-use Rattle.ov_claims.specs.Claims.{fresh}
-use Rattle.ov_claims.proofs.claim_desk.Desk.new.Given as goal
-
-abbrev pub invariant-loop : goal.invariant-loop
-invariant-loop l = l.fresh.items ≡ replicate l.counter fresh

@@ -1,5 +1,0 @@
-use Rattle.ov_claims.proofs.Ending.{ends_done}
-use Rattle.ov_claims.proofs.theorems.ends_done.Goals as goal
-
-pub returns : goal.returns
-returns c = ends_done

@@ -1,5 +1,0 @@
-use Rattle.ov_claims.proofs.Staying.{stays_legal}
-use Rattle.ov_claims.proofs.theorems.stays_legal.Goals as goal
-
-pub returns : goal.returns
-returns c = stays_legal

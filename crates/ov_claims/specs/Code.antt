@@ -1,2 +1,0 @@
--- What private contracts and proofs use.
-pub mod Kept

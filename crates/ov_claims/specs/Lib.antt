@@ -1,4 +1,0 @@
-pub mod Claims
-pub mod Steps
-pub mod Theorems
-pub mod Code

@@ -1,0 +1,78 @@
+ghost use Rattle.std.specs.Prelude.{◌≡◌};
+ghost use Rattle.ov_commands.specs.Faults.{command_number};
+ghost use Rattle.ov_commands.specs.declared.conversion_fault.FileCommandFault.TheVariants.{OutOfMemory as no_room};
+ghost use Rattle.ov_commands.specs.declared.conversion_fault.FileCommandFault.TheVariants.{Write as write_failed};
+
+use ov_ids::OutOfMemory;
+use ov_io::WriteFault;
+use std::alloc::{AllocError, AllocFailed};
+use std::fmt::{Display, Formatter, Result as Printed, Write};
+
+/// Why a command that turns one file into another ended before its end. It is shown as the line that is printed on
+/// standard error. (The numbers are chosen here.)
+#[derive(Clone, Copy, Debug, PartialEq, Eq)]
+pub enum FileCommandFault {
+    /// What the file says is refused, with this number.
+    Refused { number: u32 },
+    /// The result can't be written (72).
+    Write,
+    /// An allocation was refused (99).
+    OutOfMemory,
+}
+
+impl FileCommandFault {
+    /// The fault's number.
+    pub fn number(&self) -> u32
+        ensures { result ≡ command_number self.now }
+    {
+        match self {
+            FileCommandFault::Refused { number } => *number,
+            FileCommandFault::Write => 72,
+            FileCommandFault::OutOfMemory => 99,
+        }
+    }
+}
+
+impl Display for FileCommandFault {
+    ghost use Rattle.std.specs.Prelude.{Some};
+    ghost use Rattle.ov_io.specs.Refusal.{refusal_text};
+
+    ghost output = { λ fault. Some (refusal_text (command_number fault)) };
+
+    fn fmt<W: Write>(&self, f: &mut Formatter<W>) -> Printed {
+        let number = self.number();
+        write!(f, "refused {number}")
+    }
+}
+
+impl From<WriteFault> for FileCommandFault {
+    ghost from_gives = { λ _ e. e ≡ write_failed };
+
+    fn from(_fault: WriteFault) -> FileCommandFault {
+        FileCommandFault::Write
+    }
+}
+
+impl From<OutOfMemory> for FileCommandFault {
+    ghost from_gives = { λ _ e. e ≡ no_room };
+
+    fn from(_fault: OutOfMemory) -> FileCommandFault {
+        FileCommandFault::OutOfMemory
+    }
+}
+
+impl From<AllocError> for FileCommandFault {
+    ghost from_gives = { λ _ e. e ≡ no_room };
+
+    fn from(_error: AllocError) -> FileCommandFault {
+        FileCommandFault::OutOfMemory
+    }
+}
+
+impl<T: Drop> From<AllocFailed<T>> for FileCommandFault {
+    ghost from_gives = { λ _ e. e ≡ no_room };
+
+    fn from(_error: AllocFailed<T>) -> FileCommandFault {
+        FileCommandFault::OutOfMemory
+    }
+}

@@ -1,5 +1,0 @@
-use Rattle.ov_dot.proofs.Refusing.{same_saying}
-use Rattle.ov_dot.proofs.theorems.one_saying.Goals as goal
-
-pub returns : goal.returns
-returns c = same_saying

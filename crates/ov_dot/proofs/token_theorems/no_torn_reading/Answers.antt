@@ -1,5 +1,0 @@
-use Rattle.ov_dot.proofs.OneCut.{no_torn_reading}
-use Rattle.ov_dot.proofs.token_theorems.no_torn_reading.Goals as goal
-
-pub returns : goal.returns
-returns c = no_torn_reading

@@ -1,0 +1,5 @@
+use Rattle.ov_dot.proofs.OneCut.{no_torn_reading}
+use Rattle.ov_dot.proofs.unique_tokens_theorems.no_torn_reading.Goals as goal
+
+pub returns : goal.returns
+returns c = no_torn_reading

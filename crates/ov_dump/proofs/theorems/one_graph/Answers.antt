@@ -1,5 +1,0 @@
-use Rattle.ov_dump.proofs.Linking.{graph_one}
-use Rattle.ov_dump.proofs.theorems.one_graph.Goals as goal
-
-pub returns : goal.returns
-returns c = graph_one

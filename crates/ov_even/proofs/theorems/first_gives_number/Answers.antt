@@ -1,5 +1,0 @@
-use Rattle.ov_even.proofs.EvenTest.Firsts.{first_gives_number}
-use Rattle.ov_even.proofs.theorems.first_gives_number.Goals as goal
-
-pub returns : goal.returns
-returns c = first_gives_number

@@ -1,5 +1,0 @@
-use Rattle.ov_even.proofs.EvenTest.Answering.{one_answer}
-use Rattle.ov_even.proofs.theorems.one_answer.Goals as goal
-
-pub returns : goal.returns
-returns c = one_answer

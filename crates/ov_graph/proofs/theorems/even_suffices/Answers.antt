@@ -1,5 +1,0 @@
-use Rattle.ov_graph.proofs.EvenTest.Sufficing.{even_suffices}
-use Rattle.ov_graph.proofs.theorems.even_suffices.Goals as goal
-
-pub returns : goal.returns
-returns c = even_suffices

@@ -1,5 +1,0 @@
-use Rattle.ov_graph.proofs.EvenTest.Sufficing.{one_number}
-use Rattle.ov_graph.proofs.theorems.one_number.Goals as goal
-
-pub returns : goal.returns
-returns c = one_number

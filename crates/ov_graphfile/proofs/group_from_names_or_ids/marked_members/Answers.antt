@@ -1,0 +1,69 @@
+-- One part more, or the fault of a part.
+use Rattle.std.proofs.Common.{◌≡◌, ◌∙◌, ℕ, List, map, get_or, sym, ap, subst, arith}
+use Rattle.std.proofs.lemmas.Bool.{both_ways}
+use Rattle.std.proofs.lemmas.List.{length-map, get_or_default}
+use Rattle.ov_graph.specs.Links.{LinkGraph}
+use Rattle.ov_graph.specs.Paths.{node_at}
+use Rattle.ov_graphfile.specs.Groups.{Means, IsNobodys, IsShared, IsGroupFault}
+use Rattle.ov_graphfile.specs.declared.group_fault.GroupFault.TheVariants.{NamedTwice}
+use Rattle.ov_graphfile.proofs.Meanings.{none_marked, marked_more, named_twice}
+use Rattle.ov_graphfile.proofs.group_from_names_or_ids.marked_members.Goals as goal
+
+pub loop-at-init : goal.loop-at-init
+loop-at-init c = none_marked c.args.names.now (map (λ part. part.now) c.args.parts.now)
+
+pub returns-in-Nobody-clause-fault : goal.returns-in-Nobody-clause-fault
+returns-in-Nobody-clause-fault c =
+    let long = length-map c.args.parts.now (λ part. part.now) in
+    let within = c.loop-at-test.true in
+    (omega (arith, long, within), subst (IsNobodys c.args.names.now) c.part_at-part.ensures c.in-Nobody.ensures.owner)
+
+pub returns-in-Several-clause-fault : goal.returns-in-Several-clause-fault
+returns-in-Several-clause-fault c =
+    let long = length-map c.args.parts.now (λ part. part.now) in
+    let within = c.loop-at-test.true in
+    (omega (arith, long, within), subst (IsShared c.args.names.now) c.part_at-part.ensures c.in-Several.ensures.owner)
+
+pub has-requires : goal.has-requires
+has-requires c =
+    let below = c.in-One.ensures.owner.0 in
+    let few = c.owner_of.ensures.few in
+    omega (arith, below, few)
+
+pub put-requires : goal.put-requires
+put-requires c =
+    let below = c.in-One.ensures.owner.0 in
+    let few = c.owner_of.ensures.few in
+    omega (arith, below, few)
+
+pub returns-then-has-clause-fault : goal.returns-then-has-clause-fault
+returns-then-has-clause-fault c =
+    let names = c.args.names.now in
+    let parts = map (λ part. part.now) c.args.parts.now in
+    let place = c.in-One.place in
+    let below = c.in-One.ensures.owner.0 in
+    let node = c.index-nodes-place.result in
+    let long = length-map c.args.parts.now (λ part. part.now) in
+    let within = c.loop-at-test.true in
+    let means = subst (λ (t : List ℕ). Means names t (node_at names.graph place)) c.part_at-part.ensures
+    c.in-One.ensures.owner.1 in
+    let read : node ≡ get_or names.graph.nodes place node =
+    subst (λ (xs : List ℕ). node ≡ get_or xs place node)
+    (c.nodes.ensures.nodes ∙ ap (λ (h : LinkGraph). h.nodes) c.graph.ensures) c.index-nodes-place.is in
+    subst (λ (n : ℕ). IsGroupFault names parts (NamedTwice n))
+    (sym (read ∙ get_or_default names.graph.nodes place node 0 below))
+    (named_twice names parts c.loop-at.row c.loop-at.at place c.loop-at.invariant (omega (arith, long, within)) means
+    (c.has.ensures.0 c.if-has.true))
+
+pub loop-at-preserved : goal.loop-at-preserved
+loop-at-preserved c =
+    let names = c.args.names.now in
+    let parts = map (λ part. part.now) c.args.parts.now in
+    let place = c.in-One.place in
+    let long = length-map c.args.parts.now (λ part. part.now) in
+    let within = c.loop-at-test.true in
+    marked_more names parts c.loop-at.row c.put.new.row c.loop-at.at place c.owner_of.ensures.graph
+    c.loop-at.invariant (omega (arith, long, within)) c.in-One.ensures.owner.0
+    (subst (λ (t : List ℕ). Means names t (node_at names.graph place)) c.part_at-part.ensures
+    c.in-One.ensures.owner.1)
+    (λ h. both_ways c.has.result c.if-has.false (c.has.ensures.1 h)) c.put.ensures

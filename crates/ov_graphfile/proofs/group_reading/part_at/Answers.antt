@@ -1,7 +1,0 @@
--- The part is read.
-use Rattle.std.proofs.Common.{sym}
-use Rattle.ov_graphfile.proofs.Tables.{now_read}
-use Rattle.ov_graphfile.proofs.group_reading.part_at.Goals as goal
-
-pub returns : goal.returns
-returns c = sym (now_read c.args.parts.now c.args.at _ c.requires)

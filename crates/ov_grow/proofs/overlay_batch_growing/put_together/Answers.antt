@@ -1,0 +1,34 @@
+-- One row more, or the run that was refused.
+use Rattle.std.proofs.Common.{◌≡◌, ◌∷◌, [], ℕ, Some, arith, length, length-append, refl, rules, slice_get, subst, sym}
+use Rattle.std.proofs.lemmas.Option.{slice_get_read}
+use Rattle.ov_grow.specs.Sweeps.{IsOutcomeAt}
+use Rattle.ov_grow.specs.Code.Shares.{Outcome}
+use Rattle.ov_grow.proofs.Sharing.{refused_here, row_more}
+use Rattle.ov_grow.proofs.overlay_batch_growing.put_together.Goals as goal
+
+pub loop-place-preserved : goal.loop-place-preserved
+loop-place-preserved c =
+    let i = c.loop-place.invariant in
+    let old = c.loop-place.rows.items in
+    let row = c.in-Ok.row in
+    let pushed = c.in_ok-push-in-Ok.ensures.items in
+    let longer = length-append old (row ∷ []) in
+    record {
+      count = rw pushed (omega (arith, longer, i.count));
+      each = rw pushed (row_more c.args.batch.now old row c.loop-place.place i.count i.each (search rules));
+    }
+
+pub returns-in-Err : goal.returns-in-Err
+returns-in-Err c =
+    let batch = c.args.batch.now in
+    let i = c.loop-place.invariant in
+    let read = slice_get_read batch (length batch) c.loop-place.place c.index-batch-place.result refl (search rules)
+    c.index-batch-place.is in
+    record {
+      each = i.each;
+      ends = (
+        subst (λ (n : ℕ). slice_get batch n ≡ Some c.index-batch-place.result) (sym i.count) read,
+        refused_here batch c.loop-place.place c.index-batch-place.result c.in-Err.fault read
+            (subst (λ (x : Outcome). IsOutcomeAt batch c.loop-place.place x) c.in-Err.is c.in_ok-row.ensures),
+      );
+    }

@@ -1,5 +1,0 @@
-use Rattle.ov_grow.proofs.OnePhase.{one_growth}
-use Rattle.ov_grow.proofs.theorems.one_growth.Goals as goal
-
-pub returns : goal.returns
-returns c = one_growth

@@ -1,0 +1,77 @@
+ghost use Rattle.std.specs.Prelude.{◌≡◌};
+ghost use Rattle.std.specs.Iterator.{IsFinite};
+ghost use Rattle.ov_grow.specs.Sweeps.{AreSwept, IsSweepOf};
+
+use crate::overlay_batch_growing::{GrownBatch, grow_batch};
+use crate::sweep_fault::SweepFault;
+use ov_grow_options::GrowOptions;
+use ov_ids::Workers;
+use ov_sweep_rows::Row;
+use std::alloc::Global;
+use std::thread::Threads;
+
+/// How many runs a batch has for each worker. (Chosen here.)
+const RUNS_OF_A_WORKER: usize = 8;
+
+/// Takes the rows of a sweep. `taken` are the rows that it has taken so far, if its value says them.
+pub trait RowTaker {
+    ghost use Rattle.std.specs.Prelude.{List, Option};
+    ghost use Rattle.ov_grow.specs.Sweeps.{WereGiven};
+    ghost use Rattle.ov_sweep_rows.specs.declared.row.Row.{Row};
+
+    ghost taken: { Self → Option (List Row) };
+
+    /// Takes the rows of the next runs, in the order of the runs, or the first ones of them if it ends with a fault.
+    fn take(&mut self, rows: &[Row]) -> Result<(), SweepFault>
+        ensures { WereGiven rows.now (taken self.old) (taken self.new) result };
+}
+
+/// Grows an overlay with the options of each of these runs by these workers, batch by batch, and has the rows of each
+/// batch taken before the next one begins. The first run that is refused ends the sweep, after the rows before it were
+/// taken.
+///
+/// Run (see `GrowFault`): a run was refused. Write (72): the rows were not taken. OutOfMemory (99): an allocation was
+/// refused.
+pub fn sweep<R: Threads + Sync, I: Iterator<Item = GrowOptions> + Drop, T: RowTaker>(
+    rt: &R,
+    alloc: Global,
+    runs: I,
+    workers: Workers,
+    taker: &mut T,
+) -> Result<(), SweepFault>
+    requires can { I.can_next runs }
+    requires ends { IsFinite (I.remaining runs) }
+    ensures { IsSweepOf I.next_gives runs (T.taken taker.old) (T.taken taker.new) result }
+{
+    let size = workers.count() as usize * RUNS_OF_A_WORKER;
+    let mut batch = Vec::new(alloc);
+    for options in runs {
+        batch.push(options)?;
+        if batch.len() >= size {
+            sweep_batch(rt, alloc, &batch, workers, taker)?;
+            batch.clear();
+        }
+    }
+    if batch.is_empty() {
+        return Ok(());
+    }
+    sweep_batch(rt, alloc, &batch, workers, taker)
+}
+
+/// Grows an overlay with each of these options, and has their rows taken.
+fn sweep_batch<R: Threads + Sync, T: RowTaker>(
+    rt: &R,
+    alloc: Global,
+    batch: &[GrowOptions],
+    workers: Workers,
+    taker: &mut T,
+) -> Result<(), SweepFault>
+    ensures { AreSwept batch.now (T.taken taker.old) (T.taken taker.new) result }
+{
+    let GrownBatch { rows, refused } = grow_batch(rt, alloc, batch, workers)?;
+    taker.take(&rows)?;
+    match refused {
+        Some(refused) => Err(SweepFault::Run(refused)),
+        None => Ok(()),
+    }
+}

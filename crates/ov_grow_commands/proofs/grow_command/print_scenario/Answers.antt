@@ -1,0 +1,47 @@
+-- What was written is the text of what was grown.
+use Rattle.std.proofs.Common.{ℕ, List, sym, subst}
+use Rattle.std.specs.Prelude.{Err}
+use Rattle.std.specs.Io.KnownBytes.{Appends}
+use Rattle.ov_io.specs.Device.{AppendsPrefixOf}
+use Rattle.ov_grow_options.specs.declared.options.GrowOptions.{GrowOptions}
+use Rattle.ov_grow.specs.Growing.{Grows}
+use Rattle.ov_grow.specs.declared.phase_outcome.Phase.{Phase}
+use Rattle.ov_recording.specs.Replay.{Replays}
+use Rattle.ov_snap.specs.CoreState.{CoreState}
+use Rattle.ov_grow_commands.specs.Growing.{IsGrownBy, WasPrinted}
+use Rattle.ov_grow_commands.specs.declared.grow_command_fault.GrowthFault.{GrowthFault}
+use Rattle.ov_grow_commands.proofs.grow_command.print_scenario.Goals as goal
+
+-- what was grown is grown by its text
+is_grown : (o : GrowOptions) (text : List ℕ) (core : CoreState) (settled crashed healed : Phase)
+    → Grows o text core.world settled crashed healed → Replays text core → IsGrownBy o text
+is_grown o text core settled crashed healed grows replays = record {
+  core = core;
+  settled = settled;
+  crashed = crashed;
+  healed = healed;
+  grows = grows;
+  replays = replays;
+}
+
+pub returns-in-Ok-write_all-clause-printed : goal.returns-in-Ok-write_all-clause-printed
+returns-in-Ok-write_all-clause-printed g c =
+    let grown = c.in-Ok.grown in (
+      grown.text.items,
+      is_grown c.args.options.now grown.text.items grown.core grown.settled grown.crashed grown.healed
+          c.in-Ok.ensures.grows c.in-Ok.ensures.replays,
+      subst (λ (text : List ℕ). Appends (g.W.Write.contents c.args.sink.now.writer) (g.W.Write.contents
+          c.write_all.new.self.writer) text) c.deref.ensures.value c.in-Ok-write_all.ensures.bytes,
+    )
+
+pub returns-in-Ok-clause-printed : goal.returns-in-Ok-clause-printed
+returns-in-Ok-clause-printed g c =
+    let grown = c.in-Ok.grown in
+    subst (λ (fault : GrowthFault). WasPrinted c.args.options.now g.W.Write.contents c.args.sink.now.writer
+    c.write_all.new.self.writer (Err fault)) (sym c.told.ensures) (
+      grown.text.items,
+      is_grown c.args.options.now grown.text.items grown.core grown.settled grown.crashed grown.healed
+          c.in-Ok.ensures.grows c.in-Ok.ensures.replays,
+      subst (λ (text : List ℕ). AppendsPrefixOf text (g.W.Write.contents c.args.sink.now.writer) (g.W.Write.contents
+          c.write_all.new.self.writer)) c.deref.ensures.value c.write_all.ensures.prefix,
+    )

@@ -1,0 +1,31 @@
+-- What `overlay grow` prints.
+use Rattle.std.specs.Prelude.{◌≡◌, ℕ, List, Option, Result, Ok, Err}
+use Rattle.std.specs.Io.KnownBytes.{Appends}
+use Rattle.ov_grow_options.specs.declared.options.GrowOptions.{GrowOptions}
+use Rattle.ov_grow.specs.Growing.{Grows, IsGrowRefusal}
+use Rattle.ov_grow.specs.declared.phase_outcome.Phase.{Phase}
+use Rattle.ov_io.specs.Device.{AppendsPrefixOf}
+use Rattle.ov_recording.specs.Replay.{Replays}
+use Rattle.ov_snap.specs.CoreState.{CoreState}
+use Rattle.ov_grow_commands.specs.declared.grow_command_fault.GrowthFault.{GrowthFault}
+use Rattle.ov_grow_commands.specs.declared.grow_command_fault.GrowthFault.TheVariants as growth
+
+-- with these options an overlay is grown by the scenario of this text, which replays its core
+pub record IsGrownBy (o : GrowOptions) (text : List ℕ) : Type 0 where
+  pub core : CoreState
+  pub settled : Phase
+  pub crashed : Phase
+  pub healed : Phase
+  pub grows : Grows o text core.world settled crashed healed
+  pub replays : Replays text core
+
+-- what a writer took: all of such a text; a prefix of it, if writing failed; and nothing, if growing was refused
+-- for this reason
+abbrev pub WasPrinted :
+    {W : Type 0} → GrowOptions → (W → Option (List ℕ)) → W → W → Result (Unit {0}) GrowthFault → Type 0
+WasPrinted o contents old new (Ok done) =
+    (text : List ℕ) × IsGrownBy o text × Appends (contents old) (contents new) text
+WasPrinted o contents old new (Err growth.Write) =
+    (text : List ℕ) × IsGrownBy o text × AppendsPrefixOf text (contents old) (contents new)
+WasPrinted o contents old new (Err (growth.Growing fault)) = IsGrowRefusal o fault × (new ≡ old)
+WasPrinted o contents old new (Err other) = ⊥

@@ -1,0 +1,72 @@
+ghost use Rattle.std.specs.Prelude.{◌≡◌, ◌<◌, ◌+◌, IfErr};
+ghost use Rattle.ov_io.specs.Device.{most_faults};
+ghost use Rattle.ov_grow_commands.specs.Growing.{WasPrinted};
+ghost use Rattle.ov_grow_commands.specs.declared.grow_command_fault.GrowthFault.TheVariants.{Growing, Write as write_failed};
+
+use crate::grow_command_fault::GrowthFault;
+use ov_arguments::GrowRequest;
+use ov_grow::{GrowFault, grow};
+use ov_grow_options::GrowOptions;
+use ov_io::Sink;
+use std::io::Write;
+
+/// Grows an overlay, and prints its scenario. Prints nothing if growing is refused, but why on standard error.
+pub(crate) fn grow_asked(rt: &HostRuntime, request: &GrowRequest) -> Result<(), GrowthFault> {
+    let mut sink = Sink::new(rt.stdout());
+    print_scenario(rt, &request.options, &mut sink)
+}
+
+/// Grows an overlay with these options, and writes its scenario. Writes nothing if growing is refused. Prints why it
+/// ended before its end.
+fn print_scenario<W: Write>(
+    rt: &HostRuntime,
+    options: &GrowOptions,
+    sink: &mut Sink<W>,
+) -> Result<(), GrowthFault>
+    requires { sink.old.faults < most_faults }
+    ensures printed { WasPrinted options.now W.contents sink.old.writer sink.new.writer result }
+    ensures failed { IfErr result (λ fault. fault ≡ write_failed → sink.new.faults ≡ sink.old.faults + 1) }
+{
+    match grow(rt.alloc(), options) {
+        Ok(grown) => match sink.write_all(&grown.text) {
+            Ok(()) => Ok(()),
+            Err(_) => Err(told(rt, GrowthFault::Write)),
+        },
+        Err(fault) => Err(not_grown(rt, fault)),
+    }
+}
+
+/// Ends if growing was refused. Prints why.
+fn not_grown(rt: &HostRuntime, fault: GrowFault) -> GrowthFault
+    ensures { result ≡ Growing fault }
+{
+    let ended = GrowthFault::Growing(fault);
+    let _ = eprintln!(rt; "{ended}");
+    print_refusal(rt, &fault);
+    ended
+}
+
+/// Prints why growing was refused, in words.
+pub(crate) fn print_refusal(rt: &HostRuntime, fault: &GrowFault) {
+    let _ = match fault {
+        GrowFault::Event(refusal) => eprintln!(rt; "growing ended: {refusal}"),
+        GrowFault::Analysis(refusal) => eprintln!(rt; "growing ended: {refusal}"),
+        GrowFault::OutOfMemory => eprintln!(rt; "out of memory"),
+    };
+}
+
+/// Prints the line of a fault, and what it means. Nothing more is known of it.
+pub(crate) fn told(rt: &HostRuntime, fault: GrowthFault) -> GrowthFault
+    ensures { result ≡ fault }
+{
+    let meaning = match fault {
+        GrowthFault::Arguments => "the words after the command can't be read",
+        GrowthFault::Growing(_) => "growing was refused",
+        GrowthFault::Row => "a line is no row",
+        GrowthFault::Read => "reading failed",
+        GrowthFault::Write => "writing failed",
+        GrowthFault::OutOfMemory => "out of memory",
+    };
+    let _ = eprintln!(rt; "{fault}\n{meaning}");
+    fault
+}

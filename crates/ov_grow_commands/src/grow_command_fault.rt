@@ -1,0 +1,97 @@
+ghost use Rattle.std.specs.Prelude.{◌≡◌};
+ghost use Rattle.ov_grow_commands.specs.GrowFaults.{growth_number};
+ghost use Rattle.ov_grow_commands.specs.declared.grow_command_fault.GrowthFault.TheVariants.{Growing, OutOfMemory as out_of_memory};
+ghost use Rattle.ov_grow_commands.specs.declared.grow_command_fault.GrowthFault.TheVariants.{Write as write_failed};
+
+use ov_grow::GrowFault;
+use ov_ids::OutOfMemory;
+use ov_io::WriteFault;
+use std::alloc::{AllocError, AllocFailed};
+use std::fmt::{Display, Formatter, Result as Printed, Write};
+
+/// Why `overlay grow` or `overlay sweep` ended before its end. It is shown as the line that is printed on standard
+/// error.
+#[derive(Clone, Copy, Debug, PartialEq, Eq)]
+pub enum GrowthFault {
+    /// The words after the command can't be read.
+    Arguments,
+    /// Growing was refused.
+    Growing(GrowFault),
+    /// A file of rows has a line that is none.
+    Row,
+    /// A file of rows can't be read.
+    Read,
+    /// Something can't be written.
+    Write,
+    /// An allocation was refused.
+    OutOfMemory,
+}
+
+impl GrowthFault {
+    /// The fault's number.
+    pub fn number(&self) -> u32
+        ensures { result ≡ growth_number self.now }
+    {
+        match self {
+            GrowthFault::Arguments => 73,
+            GrowthFault::Growing(fault) => fault.number(),
+            GrowthFault::Row => 70,
+            GrowthFault::Read => 71,
+            GrowthFault::Write => 72,
+            GrowthFault::OutOfMemory => 99,
+        }
+    }
+}
+
+impl Display for GrowthFault {
+    ghost use Rattle.std.specs.Prelude.{Some};
+    ghost use Rattle.ov_io.specs.Refusal.{refusal_text};
+    ghost use Rattle.ov_grow_commands.specs.GrowFaults.{growth_number};
+
+    ghost output = { λ fault. Some (refusal_text (growth_number fault)) };
+
+    fn fmt<W: Write>(&self, f: &mut Formatter<W>) -> Printed {
+        let number = self.number();
+        write!(f, "refused {number}")
+    }
+}
+
+impl From<GrowFault> for GrowthFault {
+    ghost from_gives = { λ fault e. e ≡ Growing fault };
+
+    fn from(fault: GrowFault) -> GrowthFault {
+        GrowthFault::Growing(fault)
+    }
+}
+
+impl From<WriteFault> for GrowthFault {
+    ghost from_gives = { λ _ e. e ≡ write_failed };
+
+    fn from(_fault: WriteFault) -> GrowthFault {
+        GrowthFault::Write
+    }
+}
+
+impl From<OutOfMemory> for GrowthFault {
+    ghost from_gives = { λ _ e. e ≡ out_of_memory };
+
+    fn from(_fault: OutOfMemory) -> GrowthFault {
+        GrowthFault::OutOfMemory
+    }
+}
+
+impl From<AllocError> for GrowthFault {
+    ghost from_gives = { λ _ e. e ≡ out_of_memory };
+
+    fn from(_error: AllocError) -> GrowthFault {
+        GrowthFault::OutOfMemory
+    }
+}
+
+impl<T: Drop> From<AllocFailed<T>> for GrowthFault {
+    ghost from_gives = { λ _ e. e ≡ out_of_memory };
+
+    fn from(_error: AllocFailed<T>) -> GrowthFault {
+        GrowthFault::OutOfMemory
+    }
+}

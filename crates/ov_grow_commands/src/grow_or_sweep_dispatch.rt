@@ -1,0 +1,37 @@
+use crate::grow_command::{grow_asked, told};
+use crate::grow_command_fault::GrowthFault;
+use crate::sweep_command::sweep_asked;
+use ov_arguments::{GrowArgumentsFault, GrowingRequest, read_growing};
+use std::thread::Threads;
+
+/// Does what these arguments ask for, if their first is `grow` or `sweep`. False if it is not, and nothing is done.
+pub fn grow_or_sweep<T: Threads + Sync>(
+    rt: &HostRuntime,
+    threads: &T,
+    arguments: &[String],
+) -> Result<bool, GrowthFault> {
+    match read_growing(rt.alloc(), arguments) {
+        Ok(None) => Ok(false),
+        Ok(Some(GrowingRequest::Grow(request))) => {
+            grow_asked(rt, &request)?;
+            Ok(true)
+        }
+        Ok(Some(GrowingRequest::Sweep(request))) => {
+            sweep_asked(rt, threads, &request)?;
+            Ok(true)
+        }
+        Err(fault) => Err(unread_words(rt, &fault)),
+    }
+}
+
+/// Ends if words can't be read. Prints help, or what is wrong with them.
+fn unread_words(rt: &HostRuntime, fault: &GrowArgumentsFault) -> GrowthFault {
+    match fault {
+        GrowArgumentsFault::BadArguments { reason } => {
+            let ended = GrowthFault::Arguments;
+            let _ = eprint!(rt; "{ended}\n{reason}");
+            ended
+        }
+        GrowArgumentsFault::OutOfMemory => told(rt, GrowthFault::OutOfMemory),
+    }
+}

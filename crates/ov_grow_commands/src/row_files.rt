@@ -1,0 +1,73 @@
+use crate::grow_command::told;
+use crate::grow_command_fault::GrowthFault;
+use ov_io::{ReadFault, Source, shown_name, unopened_text, unread_text};
+use ov_sweep_rows::{Row, RowFault, read_rows};
+use std::fs::File;
+use std::io::Read;
+
+/// The rows of files, one file after the other. Prints why, if a file can't be read or has a line that is no row.
+pub(crate) fn rows_of_files(rt: &HostRuntime, files: &[String]) -> Result<Vec<Row>, GrowthFault> {
+    let mut rows = Vec::new(rt.alloc());
+    for file in files {
+        let bytes = bytes_of_file(rt, file.as_str())?;
+        match read_rows(rt.alloc(), &bytes) {
+            Ok(more) => rows.extend_from_slice(&more)?,
+            Err(fault) => return Err(no_rows(rt, file.as_str(), fault)),
+        }
+    }
+    Ok(rows)
+}
+
+/// The name that stands for standard input.
+const STANDARD_INPUT: &str = "-";
+
+/// All bytes of a file, or of standard input.
+fn bytes_of_file(rt: &HostRuntime, name: &str) -> Result<Vec<u8>, GrowthFault> {
+    if name == STANDARD_INPUT {
+        return all_bytes(rt, name, rt.stdin());
+    }
+    match File::open(rt, name) {
+        Ok(file) => all_bytes(rt, name, file),
+        Err(error) => {
+            let ended = GrowthFault::Read;
+            let _ = eprintln!(rt; "{ended}");
+            if let Ok(text) = unopened_text(rt.alloc(), name, &error) {
+                let _ = eprintln!(rt; "{text}");
+            }
+            Err(ended)
+        }
+    }
+}
+
+/// All bytes of a reader that has this name.
+fn all_bytes<R: Read + Drop>(
+    rt: &HostRuntime,
+    name: &str,
+    reader: R,
+) -> Result<Vec<u8>, GrowthFault> {
+    match Source::new(reader).read_all(rt.alloc()) {
+        Ok(bytes) => Ok(bytes),
+        Err(ReadFault::OutOfMemory) => Err(told(rt, GrowthFault::OutOfMemory)),
+        Err(ReadFault::Read) => {
+            let ended = GrowthFault::Read;
+            let _ = eprintln!(rt; "{ended}");
+            if let Ok(text) = unread_text(rt.alloc(), name) {
+                let _ = eprintln!(rt; "{text}");
+            }
+            Err(ended)
+        }
+    }
+}
+
+/// Ends if a file has a line that is no row. Prints its name, and which line.
+fn no_rows(rt: &HostRuntime, name: &str, fault: RowFault) -> GrowthFault {
+    if fault == RowFault::OutOfMemory {
+        return told(rt, GrowthFault::OutOfMemory);
+    }
+    let ended = GrowthFault::Row;
+    let _ = eprintln!(rt; "{ended}");
+    if let Ok(shown) = shown_name(rt.alloc(), name) {
+        let _ = eprintln!(rt; "{shown}: {fault}");
+    }
+    ended
+}

@@ -1,0 +1,126 @@
+ghost use Rattle.std.specs.Prelude.{◌≡◌, [], IfErr};
+ghost use Rattle.ov_grow.specs.Sweeps.{WereGiven};
+ghost use Rattle.ov_grow_commands.specs.KeptRows.{needs_rows};
+ghost use Rattle.ov_grow_commands.specs.Code.Keeping.{IsOfNoRun, kept_rows};
+
+use crate::sweep_progress::RunProgress;
+use ov_arguments::{Printed, SweepRequest};
+use ov_grow::{RowTaker, SweepFault};
+use ov_io::Sink;
+use ov_sweep_rows::{Row, header_text, row_text};
+
+/// Prints the rows of a sweep as they come, unless a summary is asked for, and keeps those that are needed at the end.
+#[derive(Drop)]
+pub(crate) struct RowPrinter<'a> {
+    rt: &'a HostRuntime,
+    request: &'a SweepRequest,
+    kept: Vec<Row>,
+    progress: RunProgress<'a>,
+    done: u64,
+}
+
+/// Whether the rows are needed at the end, for a summary or a picture.
+fn needs_rows(request: &SweepRequest) -> bool
+    ensures { result ≡ needs_rows request.now }
+{
+    match request.printed {
+        Printed::Summary => true,
+        Printed::Rows | Printed::List { .. } => request.svg.is_some(),
+    }
+}
+
+impl<'a> RowPrinter<'a> {
+    /// A printer to which no row was given.
+    pub(crate) fn new(rt: &'a HostRuntime, request: &'a SweepRequest) -> RowPrinter<'a>
+        ensures { kept_rows result.request.now result.kept.items ≡ kept_rows request.now [] }
+    {
+        RowPrinter {
+            rt,
+            request,
+            kept: Vec::new(rt.alloc()),
+            progress: RunProgress::new(rt, request.progress),
+            done: 0,
+        }
+    }
+
+    /// Prints the header of the rows, if rows are asked for.
+    pub(crate) fn print_header(&self) -> Result<(), SweepFault> {
+        if self.request.printed != Printed::Rows {
+            return Ok(());
+        }
+        let text = header_text(self.rt.alloc())?;
+        Ok(Sink::new(self.rt.stdout()).write_all(&text)?)
+    }
+
+    /// Prints rows, if they are asked for. Each is written by itself, so that a signal leaves whole rows.
+    fn print(&self, rows: &[Row]) -> Result<(), SweepFault>
+        ensures { IfErr result IsOfNoRun }
+    {
+        if self.request.printed != Printed::Rows {
+            return Ok(());
+        }
+        write_rows(self.rt, rows)
+    }
+
+    /// Keeps rows, if a summary or a picture needs them.
+    fn keep(&mut self, rows: &[Row]) -> Result<(), SweepFault>
+        ensures { WereGiven rows.now (kept_rows self.old.request.now self.old.kept.items)
+            (kept_rows self.new.request.now self.new.kept.items) result }
+    {
+        if needs_rows(self.request) {
+            self.kept.extend_from_slice(rows)?;
+        }
+        Ok(())
+    }
+
+    /// Tells how far the sweep has come, once so many runs more are done.
+    fn tell(&mut self, count: usize)
+        ensures rows { self.new.kept.items ≡ self.old.kept.items }
+        ensures request { self.new.request ≡ self.old.request }
+    {
+        self.done = self.done.saturating_add(count as u64);
+        if self.done > 0 {
+            self.progress.sees(self.done, self.request.len());
+        }
+    }
+
+    /// The rows that were kept.
+    pub(crate) fn into_kept(self) -> Vec<Row>
+        ensures { result ≡ self.entry.kept }
+    {
+        let RowPrinter {
+            rt: _,
+            request: _,
+            kept,
+            progress: _,
+            done: _,
+        } = self;
+        kept
+    }
+}
+
+impl<'a> RowTaker for RowPrinter<'a> {
+    ghost use Rattle.ov_grow_commands.specs.Code.Keeping.{kept_rows};
+
+    ghost taken = { λ printer. kept_rows printer.request.now printer.kept.items };
+
+    fn take(&mut self, rows: &[Row]) -> Result<(), SweepFault> {
+        let printed = self.print(rows);
+        if printed.is_err() {
+            return printed;
+        }
+        self.tell(rows.len());
+        self.keep(rows)
+    }
+}
+
+/// Writes rows to standard output, one after the other.
+pub(crate) fn write_rows(rt: &HostRuntime, rows: &[Row]) -> Result<(), SweepFault>
+    ensures { IfErr result IsOfNoRun }
+{
+    for row in rows {
+        let text = row_text(rt.alloc(), row)?;
+        Sink::new(rt.stdout()).write_all(&text)?;
+    }
+    Ok(())
+}

@@ -1,5 +1,0 @@
-use Rattle.ov_hall.proofs.Exact as exact
-use Rattle.ov_hall.proofs.theorems.every_log_is_exact.Goals as goal
-
-pub returns : goal.returns
-returns c = exact.every_log_is_exact

@@ -1,0 +1,4 @@
+pub mod Cut
+pub mod Blocks
+pub mod Dense
+pub mod Kept

@@ -1,5 +1,0 @@
-use Rattle.ov_net.proofs.Journal.Telling.{links_stay, links_were}
-use Rattle.ov_net.proofs.theorems.links_stay.Goals as goal
-
-pub returns : goal.returns
-returns c = λ journal more m g within. (links_stay journal more m g within, links_were journal more m g within)

@@ -1,5 +1,0 @@
-use Rattle.ov_plum.proofs.Branching.{down_keeps}
-use Rattle.ov_plum.proofs.branches.Branches.down.Goals as goal
-
-pub invariant_of-self : goal.invariant_of-self
-invariant_of-self c = rw (c.remove.ensures.value, c.remove-2.ensures.value) (down_keeps _ _ c.self.invariant)

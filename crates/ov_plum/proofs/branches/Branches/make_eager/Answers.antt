@@ -1,7 +1,0 @@
-use Rattle.std.proofs.Common.{sym, ◌∙◌}
-use Rattle.ov_plum.proofs.Branching.{turns_eager}
-use Rattle.ov_plum.proofs.branches.Branches.make_eager.Goals as goal
-
-pub invariant_of-self : goal.invariant_of-self
-invariant_of-self c = rw (c.insert.ensures.value, c.remove.ensures.value)
-    (turns_eager _ _ c.self.invariant (sym c.contains.ensures.value ∙ c.if-contains.true))

@@ -1,5 +1,0 @@
-use Rattle.ov_sweep.proofs.OneRow.{one_row}
-use Rattle.ov_sweep.proofs.theorems.one_row.Goals as goal
-
-pub returns : goal.returns
-returns c = one_row

@@ -1,0 +1,212 @@
+use crate::phase_summary::{ascending_ks, count, split_count};
+use crate::picture_layout::{ABOVE, LABEL, LEFT, Layout, PHASE, PLOT};
+use crate::picture_style::tone;
+use crate::plot_dots::push_dots;
+use crate::runs_by_setting::{cell_at, number, shown_cell};
+use crate::setting_names::SETTING_NAMES;
+use crate::summary::percent;
+use crate::{Phase, Row, Setting};
+use std::alloc::{AllocError, Global};
+use std::fmt::Write;
+
+/// What the vertical axis shows, and its unit.
+const AXIS: &str = "k: fewest crashes that split it (nodes)";
+
+/// How many numbers of an axis are written at most.
+const MOST_TICKS: u32 = 20;
+
+/// One row of columns of the picture, whose upper edge is at `top`.
+#[derive(Clone, Copy)]
+pub(crate) struct Panel<'a> {
+    pub(crate) layout: &'a Layout,
+    pub(crate) top: f64,
+}
+
+impl Panel<'_> {
+    /// The height of k 0.
+    fn zero(&self) -> f64 {
+        self.bottom() - self.layout.k_height() / 2.0
+    }
+
+    /// The lower edge of what is plotted.
+    fn bottom(&self) -> f64 {
+        self.top + ABOVE + PLOT
+    }
+
+    /// The middle of the column at a place.
+    fn middle(&self, place: usize) -> f64 {
+        LEFT + (number(place) + 0.5) * self.layout.column
+    }
+}
+
+/// Appends a panel: its axes, and a column for each of these settings.
+pub(crate) fn push_panel(
+    alloc: Global,
+    text: &mut String,
+    panel: Panel<'_>,
+    settings: &[Setting<'_>],
+    differing: &[usize],
+) -> Result<(), AllocError> {
+    push_axes(text, panel, number(settings.len()))?;
+    for (place, setting) in settings.iter().enumerate() {
+        push_edge(text, panel, panel.middle(place) + panel.layout.column / 2.0)?;
+        push_column(alloc, text, panel, panel.middle(place), setting)?;
+    }
+    for (line, option) in differing.iter().enumerate() {
+        push_labels(alloc, text, panel, line, *option, settings)?;
+    }
+    Ok(())
+}
+
+/// Appends the axes of a panel with so many columns, and a line for each k that is written.
+fn push_axes(text: &mut String, panel: Panel<'_>, columns: f64) -> Result<(), AllocError> {
+    let right = LEFT + columns * panel.layout.column;
+    let width = right - LEFT;
+    let height = panel.layout.k_height();
+    let band = panel.bottom() - height;
+    write!(
+        text,
+        "<rect class=\"zero\" x=\"{LEFT}\" y=\"{band:.1}\" width=\"{width:.1}\" height=\"{height:.1}\"/>\n"
+    )?;
+    push_ticks(text, panel, right)?;
+    push_axis_lines(text, panel, right)?;
+    let middle = panel.bottom() - PLOT / 2.0;
+    write!(
+        text,
+        "<text class=\"middle\" transform=\"translate(20 {middle:.1}) rotate(-90)\">{AXIS}</text>\n"
+    )?;
+    let split = panel.top + 12.0;
+    push_name(text, split, "runs split, %")
+}
+
+/// Appends the two axes.
+fn push_axis_lines(text: &mut String, panel: Panel<'_>, right: f64) -> Result<(), AllocError> {
+    let bottom = panel.bottom();
+    let top = bottom - PLOT;
+    write!(
+        text,
+        "<path class=\"axis\" fill=\"none\" d=\"M{LEFT} {top:.1}V{bottom:.1}H{right:.1}\"/>\n"
+    )
+}
+
+/// Appends the line where a column ends.
+fn push_edge(text: &mut String, panel: Panel<'_>, x: f64) -> Result<(), AllocError> {
+    let top = panel.top;
+    let bottom = panel.bottom();
+    write!(
+        text,
+        "<path class=\"line\" d=\"M{x:.1} {top:.1}V{bottom:.1}\"/>\n"
+    )
+}
+
+/// Appends a text that ends before the vertical axis.
+fn push_name(text: &mut String, y: f64, name: &str) -> Result<(), AllocError> {
+    let x = LEFT - 10.0;
+    write!(
+        text,
+        "<text class=\"end\" x=\"{x}\" y=\"{y:.1}\">{name}</text>\n"
+    )
+}
+
+/// Appends the numbers of the vertical axis, each with its line.
+fn push_ticks(text: &mut String, panel: Panel<'_>, right: f64) -> Result<(), AllocError> {
+    let most = panel.layout.most_k;
+    let apart = most.div_ceil(MOST_TICKS).max(1);
+    for tick in 0..=MOST_TICKS {
+        let k = tick.saturating_mul(apart);
+        if k <= most {
+            let y = panel.zero() - f64::from(k) * panel.layout.k_height();
+            write!(
+                text,
+                "<path class=\"line\" d=\"M{LEFT} {y:.1}H{right:.1}\"/>\n"
+            )?;
+            push_tick(text, y + 4.5, k)?;
+        }
+    }
+    Ok(())
+}
+
+/// Appends a number of the vertical axis.
+fn push_tick(text: &mut String, y: f64, k: u32) -> Result<(), AllocError> {
+    let x = LEFT - 10.0;
+    let meaning = if k == 0 { "split " } else { "" };
+    write!(
+        text,
+        "<text class=\"end\" x=\"{x}\" y=\"{y:.1}\">{meaning}{k}</text>\n"
+    )
+}
+
+/// Appends the column of a setting, with its middle at `middle`: the dots of its runs after each phase, and above them
+/// the share that is split.
+fn push_column(
+    alloc: Global,
+    text: &mut String,
+    panel: Panel<'_>,
+    middle: f64,
+    setting: &Setting<'_>,
+) -> Result<(), AllocError> {
+    let apart = panel.layout.column * PHASE;
+    for (phase, x) in [
+        (Phase::Settle, middle - apart),
+        (Phase::Crash, middle),
+        (Phase::Heal, middle + apart),
+    ] {
+        let ks = ascending_ks(alloc, &setting.runs, phase)?;
+        push_dots(text, panel.layout, phase, &ks, x, panel.zero())?;
+        push_share(text, panel, phase, &setting.runs, x)?;
+    }
+    Ok(())
+}
+
+/// Appends the share that is split after a phase.
+fn push_share(
+    text: &mut String,
+    panel: Panel<'_>,
+    phase: Phase,
+    runs: &[&Row],
+    x: f64,
+) -> Result<(), AllocError> {
+    let class = tone(phase);
+    let y = panel.top + 12.0;
+    let share = percent(split_count(runs, phase), count(runs.len()));
+    write!(
+        text,
+        "<text class=\"small middle {class}\" x=\"{x:.1}\" y=\"{y:.1}\">"
+    )?;
+    push_percent(text, share)?;
+    text.push_str("</text>\n")
+}
+
+/// Appends a share in whole percent. One that is neither nothing nor all is not rounded to that.
+fn push_percent(text: &mut String, share: f64) -> Result<(), AllocError> {
+    if share > 0.0 && share < 1.0 {
+        text.push_str("&lt;1")
+    } else if share > 99.0 && share < 100.0 {
+        text.push_str("&gt;99")
+    } else {
+        write!(text, "{share:.0}")
+    }
+}
+
+/// Appends what the settings of a panel have in one of the options in which they differ, on this line below the axis.
+fn push_labels(
+    alloc: Global,
+    text: &mut String,
+    panel: Panel<'_>,
+    line: usize,
+    option: usize,
+    settings: &[Setting<'_>],
+) -> Result<(), AllocError> {
+    let y = panel.bottom() + 18.0 + number(line) * LABEL;
+    let name = SETTING_NAMES.get(option).map_or("", |option| option.name);
+    push_name(text, y, name)?;
+    for (place, setting) in settings.iter().enumerate() {
+        let x = panel.middle(place);
+        let cell = shown_cell(alloc, cell_at(&setting.cells, option))?;
+        write!(
+            text,
+            "<text class=\"middle\" x=\"{x:.1}\" y=\"{y:.1}\">{cell}</text>\n"
+        )?;
+    }
+    Ok(())
+}

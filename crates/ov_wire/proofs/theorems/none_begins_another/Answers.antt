@@ -1,5 +1,0 @@
-use Rattle.ov_wire.proofs.Messages.{begins_no_other}
-use Rattle.ov_wire.proofs.theorems.none_begins_another.Goals as goal
-
-pub returns : goal.returns
-returns c = begins_no_other

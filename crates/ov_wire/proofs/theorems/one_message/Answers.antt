@@ -1,5 +1,0 @@
-use Rattle.ov_wire.proofs.Messages.{read_once}
-use Rattle.ov_wire.proofs.theorems.one_message.Goals as goal
-
-pub returns : goal.returns
-returns c = read_once

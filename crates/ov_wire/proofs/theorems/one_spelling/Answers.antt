@@ -1,5 +1,0 @@
-use Rattle.ov_wire.proofs.Messages.{spelled_once}
-use Rattle.ov_wire.proofs.theorems.one_spelling.Goals as goal
-
-pub returns : goal.returns
-returns c = spelled_once

@@ -1,0 +1,196 @@
+"""Dumps by their files: the graph that `overlay import` makes of them, with its notes."""
+
+from __future__ import annotations
+
+import json
+import os
+import pathlib
+import re
+import sys
+from dataclasses import dataclass, field
+from typing import Dict, List, NamedTuple, Optional, Sequence, Tuple
+
+from .errors import BadDump, LibraryMissing, Refused
+from .forms import Asked, NATIVE, listings_of, of_graphviz, of_hosts, text_of
+from .values import Views
+from .graphs import NamedGraph
+from .programs import Program, call, find, refuse
+
+GRAPH_FILE = re.compile(r"(?:\s*#[^\n]*\n|\s*\n)*\s*(?:node|link) +\d")
+NAME = re.compile(r"# (\d+) (.*)")
+ONE_SIDED = re.compile(r"^listed by one end only: (\d+)$", re.MULTILINE)
+WITHOUT_ENTRY = re.compile(r"^listed without an entry: (\d+)$", re.MULTILINE)
+TOO_MANY = """
+leave hosts out of the dump: ask about one site after the other, or about some hosts with all that they are linked to"""
+# The words of a refusal of DOT that Graphviz may read all the same.
+BY_GRAPHVIZ = ("in place of a subgraph", "an HTML text")
+
+
+class Options(NamedTuple):
+    """How a dump is to become a graph: as `overlay import` has it, and as a form, a field or columns are asked for."""
+
+    either: bool = False
+    entries: bool = False
+    asked: Asked = Asked()
+
+    @property
+    def words(self) -> List[str]:
+        """The options of `overlay import`, but for the form."""
+        return ["--either"] * self.either + ["--entries"] * self.entries
+
+
+@dataclass(frozen=True)
+class Dump:
+    """A dump that was read: the graph file that `overlay import` made of it, and what is to be told of it.
+
+    `one_sided` is how many listings the other end does not answer, and `without_entry` how many names are listed and
+    have no entry; both are None of a graph file, which does not say so.
+    """
+
+    name: str
+    graph_file: str = field(repr=False)
+    notes: Tuple[str, ...] = field(repr=False)
+    one_sided: Optional[int]
+    without_entry: Optional[int]
+
+    @property
+    def graph(self) -> NamedGraph[str]:
+        """The graph, by the names of its hosts."""
+        return read_graph_file(self.graph_file)
+
+
+def read_graph_file(text: str) -> NamedGraph[str]:
+    """The graph in a graph file that the program overlay accepts. A node without a name is called by its id, and so is
+    each but the first with a name that is taken.
+
+    >>> graph = read_graph_file("# 4 oslo\\nnode 4\\nnode 7\\nlink 4 7\\n")
+    >>> graph.ids, graph.links
+    ({'oslo': 4, '7': 7}, [[4, 7]])
+    """
+    before, names, links = "", {}, []  # type: str, Dict[int, str], List[List[int]]
+    for line in text.split("\n"):
+        words = line.split()
+        if words[:1] == ["node"]:
+            said = NAME.fullmatch(before.rstrip("\r"))
+            names[int(words[1])] = said[2] if said and int(said[1]) == int(words[1]) else words[1]
+        elif words[:1] == ["link"]:
+            links.append([int(words[1]), int(words[2])])
+        before = line
+    ids: Dict[str, int] = {}
+    for place, name in names.items():
+        ids[name if name not in ids else f"{name} ({place})"] = place
+    return NamedGraph(ids, links)
+
+
+def contents_of(places: Sequence[str]) -> Dict[pathlib.Path, bytes]:
+    """The bytes of each file, and of each file in a folder but hidden ones. `-` is standard input."""
+    found: Dict[pathlib.Path, bytes] = {}
+    for place in places:
+        if place == "-":
+            if sys.stdin.isatty():
+                print("reading standard input, to its end (Ctrl-D)", file=sys.stderr)
+            found[pathlib.Path("standard input")] = sys.stdin.buffer.read()
+        elif os.path.isdir(place):
+            inner = sorted(it for it in pathlib.Path(place).iterdir() if it.is_file() and it.name[0] != ".")
+            if not inner:
+                raise BadDump(f"{place}: the folder has no files")
+            found.update((it, it.read_bytes()) for it in inner)
+        else:
+            found[pathlib.Path(place)] = pathlib.Path(place).read_bytes()
+    return found
+
+
+def read_dump(
+    places: Sequence[str],
+    options: Options = Options(),
+    *,
+    is_graph_taken: bool = True,
+    overlay: Optional[Program] = None,
+) -> Dump:
+    """Reads a dump: one file or standard input (`-`), or several files or a folder, each file of one host.
+
+    `overlay import` reads it as it is, if it is of one of its forms. Any other form is turned into views first. With
+    `is_graph_taken` a graph file is taken as it is. `Refused` and `BadDump` say why a dump can't be read.
+    """
+    if len(places) == 1 and not os.path.isdir(places[0]):
+        ((place, data),) = contents_of(places).items()
+        try:
+            return dump_of(data, str(place), options, is_graph_taken, overlay)
+        except (BadDump, LibraryMissing, Refused) as why:
+            raise named_error(why, str(place)) from None
+    files = contents_of(places)
+    views = of_hosts(files, options.asked)
+    name = places[0] if len(places) == 1 else f"{len(files)} files"
+    told = notes_on(views, name)
+    try:
+        return imported(json.dumps(views.value).encode(), name, ["--views", *options.words], told, overlay)
+    except Refused as why:
+        raise named_error(why, name) from None
+
+
+def notes_on(views: Views, name: str) -> List[str]:
+    """How a dump was read, and what is likely to be wrong with that."""
+    notes = [f"{name} was read as {views.kind}"]
+    if not views.has_known:
+        notes.append("no host that is listed has an entry; --by FIELD names hosts by another field of objects")
+    return notes
+
+
+def named_error(why: Exception, name: str) -> Exception:
+    """The same error, with the name of the file."""
+    if isinstance(why, Refused):
+        # overlay was given the dump on standard input, and not by such options
+        reason = re.sub(
+            r"--(views|edges|dot)\b", r"--form \1", why.reason.replace("tip: standard input", f"tip: {name}")
+        )
+        advice = TOO_MANY if why.number == 31 else ""
+        return Refused(why.number, why.line, f"{name}: {reason}{advice}")
+    return type(why)(f"{name}: {why}")
+
+
+def dump_of(
+    data: bytes, name: str, options: Options = Options(), is_graph_taken: bool = True, overlay: Optional[Program] = None
+) -> Dump:
+    """Reads a dump that is one text: its bytes, and the name of its file.
+
+    >>> dump = dump_of(b'{"nodes": [{"id": "b"}, {"id": "a"}], "links": [{"source": "a", "target": "b"}]}', "net.json")
+    >>> print(dump.graph_file, end="")
+    # 1 a
+    node 1
+    # 2 b
+    node 2
+    link 1 2
+    >>> dump.notes
+    ('net.json was read as a graph of nodes and links',)
+    """
+    data, told = text_of(data)
+    notes = [f"{name}: {it}" for it in told]
+    if is_graph_taken and not options.asked.form and GRAPH_FILE.match(data.decode(errors="replace")):
+        # overlay says what is wrong with it; what it accepts is read here
+        ended = call(find("overlay", overlay), ["analyse"], data)
+        if ended.status != 0:
+            refuse(*ended.err.partition("\n")[::2])
+        return Dump(name, data.decode(errors="backslashreplace"), tuple(notes), None, None)
+    views = listings_of(data, name, options.asked)
+    if views is None:
+        form = [f"--{options.asked.form}"] if options.asked.form in NATIVE else []
+        try:
+            return imported(data, name, [*form, *options.words], notes, overlay)
+        except Refused as why:
+            if not any(it in why.reason for it in BY_GRAPHVIZ):
+                raise
+            try:
+                views = of_graphviz(data)
+            except (BadDump, LibraryMissing) as other:
+                raise Refused(why.number, why.line, f"{why.reason}\n{other}") from None
+    notes += notes_on(views, name)
+    return imported(json.dumps(views.value).encode(), name, ["--views", *options.words], notes, overlay)
+
+
+def imported(data: bytes, name: str, words: Sequence[str], notes: Sequence[str], overlay: Optional[Program]) -> Dump:
+    """The graph file that `overlay import` makes of a dump."""
+    ended = call(find("overlay", overlay), ["import", *words], data)
+    if ended.status != 0:
+        refuse(*ended.err.partition("\n")[::2])
+    counts = [int(said[1]) if said else 0 for said in (ONE_SIDED.search(ended.err), WITHOUT_ENTRY.search(ended.err))]
+    return Dump(name, ended.out, (*notes, *ended.err.splitlines()), *counts)

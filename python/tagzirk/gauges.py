@@ -1,0 +1,122 @@
+"""What a dump says, as metrics for Prometheus: `metrics`."""
+
+from __future__ import annotations
+
+import os
+import time
+from dataclasses import dataclass, field
+from typing import Dict, List, Optional, Sequence, Tuple
+
+from .dumps import Options, read_dump
+from .errors import TagzirkError, in_words
+from .graphs import shown
+from .programs import Program
+from .reports import analysed
+
+# Each metric with its help, in the order in which they are written. All are gauges.
+HELP = {
+    "tagzirk_dump_read": "1 if the dump was read and overlay-check confirmed the answer, and else 0",
+    "tagzirk_run_timestamp_seconds": "when this was written",
+    "tagzirk_dump_timestamp_seconds": "when the file of the dump was last changed",
+    "tagzirk_nodes": "hosts in the dump",
+    "tagzirk_links": "links in the dump",
+    "tagzirk_connectivity": "k: crashing so few hosts, the cut, splits the overlay, and fewer do not",
+    "tagzirk_all_linked": "1 if every two hosts are linked, so that no crash splits the overlay",
+    "tagzirk_one_sided_listings": "listings that the other end does not answer",
+    "tagzirk_listed_without_entry": "names that are listed and have no entry",
+    "tagzirk_cut_member": "1 for each host of the cut",
+}
+
+
+@dataclass(frozen=True)
+class Metrics:
+    """The values of metrics, and the hosts in the cut. `fault` says why the dump could not be read, or is empty. If it
+    is not, the metrics say only that it was not read, and when."""
+
+    values: Dict[str, float]
+    cut: Tuple[str, ...] = ()
+    fault: str = field(default="", compare=False)
+
+    @property
+    def text(self) -> str:
+        """The metrics in the text format of Prometheus.
+
+        >>> print(Metrics({"tagzirk_dump_read": 0.0}).text, end="")
+        # HELP tagzirk_dump_read 1 if the dump was read and overlay-check confirmed the answer, and else 0
+        # TYPE tagzirk_dump_read gauge
+        tagzirk_dump_read 0.0
+        """
+        lines: List[str] = []
+        for name, value in self.values.items():
+            lines += [f"# HELP {name} {HELP[name]}", f"# TYPE {name} gauge", f"{name} {value!r}"]
+        if self.cut:
+            name = "tagzirk_cut_member"
+            lines += [f"# HELP {name} {HELP[name]}", f"# TYPE {name} gauge"]
+            lines += [f'{name}{{host="{escaped(host)}"}} 1.0' for host in self.cut]
+        return "".join(f"{line}\n" for line in lines)
+
+    def write(self, file: str) -> None:
+        """Writes the metrics into a file, which has them all or is as it was: by prometheus_client, if it is there."""
+        try:
+            import prometheus_client
+        except ImportError:
+            self.write_plainly(file)
+            return
+        registry = prometheus_client.CollectorRegistry()
+        for name, value in self.values.items():
+            prometheus_client.Gauge(name, HELP[name], registry=registry).set(value)
+        if self.cut:
+            members = prometheus_client.Gauge(
+                "tagzirk_cut_member", HELP["tagzirk_cut_member"], ["host"], registry=registry
+            )
+            for host in self.cut:
+                members.labels(host).set(1)
+        prometheus_client.write_to_textfile(file, registry)
+
+    def write_plainly(self, file: str) -> None:
+        """The same without prometheus_client. The collector of text files passes over a name like that of the part."""
+        part = f"{file}.{os.getpid()}"
+        try:
+            with open(part, "w", encoding="utf-8") as to:
+                to.write(self.text)
+            os.replace(part, file)
+        finally:
+            if os.path.exists(part):
+                os.unlink(part)
+
+
+def escaped(label: str) -> str:
+    """The value of a label, as the text format has it."""
+    return label.replace("\\", "\\\\").replace('"', '\\"').replace("\n", "\\n")
+
+
+def metrics(
+    places: Sequence[str],
+    options: Options = Options(),
+    *,
+    overlay: Optional[Program] = None,
+    overlay_check: Optional[Program] = None,
+) -> Metrics:
+    """The metrics of a dump. One that can't be read, or whose answer is not confirmed, has the metric
+    `tagzirk_dump_read 0`, and none that could pass for a good one."""
+    values = {"tagzirk_dump_read": 0.0, "tagzirk_run_timestamp_seconds": float(int(time.time()))}
+    try:
+        if places[0] != "-":
+            values["tagzirk_dump_timestamp_seconds"] = float(int(os.stat(places[0]).st_mtime))
+        dump = read_dump(places, options, overlay=overlay)
+        graph = dump.graph
+        report = analysed(graph, overlay=overlay, overlay_check=overlay_check)
+    except (TagzirkError, OSError) as why:
+        return Metrics(values, fault=in_words(why))
+    values.update(
+        tagzirk_dump_read=1.0,
+        tagzirk_nodes=float(len(graph.ids)),
+        tagzirk_links=float(len(graph.links)),
+        tagzirk_connectivity=float(report.k),
+        tagzirk_all_linked=float(report.is_linked),
+    )
+    if dump.one_sided is not None and dump.without_entry is not None:
+        values.update(
+            tagzirk_one_sided_listings=float(dump.one_sided), tagzirk_listed_without_entry=float(dump.without_entry)
+        )
+    return Metrics({name: values[name] for name in HELP if name in values}, tuple(map(shown, report.cut)))

@@ -1,0 +1,354 @@
+"""Tests of the forms of dumps that `overlay import` does not read. They need no program."""
+
+import json
+import pathlib
+import shutil
+import unittest
+from unittest import mock
+
+from tagzirk.errors import BadDump, LibraryMissing
+from tagzirk.forms import Asked, host_of, listings_of, of_graphviz, of_hosts, text_of
+from tagzirk.values import views_of
+
+try:
+    import networkx
+except ImportError:
+    networkx = None
+try:
+    import yaml
+except ImportError:
+    yaml = None
+
+# A triangle and a host without links.
+TRIANGLE = {"a": {"b", "c"}, "b": {"a", "c"}, "c": {"a", "b"}, "d": set()}
+PATH = {"a": {"b"}, "b": {"a", "c"}, "c": {"b"}}
+
+
+def views(text, place="net", **asked):
+    """What hosts list by a text, or None if `overlay import` is to read it."""
+    found = listings_of(text if isinstance(text, bytes) else text.encode(), place, Asked(**asked))
+    return found and {name: set(peers) for name, peers in found.peers.items()}
+
+
+class Left(unittest.TestCase):
+    def test_what_overlay_import_reads_is_left_to_it(self):
+        for text in (
+            "",
+            " \n",
+            '{"a": ["b"], "b": []}',
+            '{"a": null, "b": [1]}',
+            "{}",
+            "a b\nb c\n",
+            "a, b\n",
+            "a\tb # seen",
+            "10.0.0.1:7946 10.0.0.2:7946",
+            "[::1]:7946 [::2]:7946",
+            "a b {'weight': 3}",
+            "graph { a -- b }",
+            "// DOT\ndigraph{a->b}",
+            "strict graph {a}",
+            "a b\nc d flaky\na c",
+            "graph-1 b",
+            "a b c",
+            '{"verdict":"split","k":2}',
+            "node 1\nnode 2\nlink 1 2\n",
+            '{"a": ["b"]',
+            '{"a":["b"],"a":["c"]}',
+        ):
+            self.assertIsNone(views(text), text)
+        for form in "views", "edges", "dot":
+            self.assertIsNone(views('[["a", "b"]]', form=form))
+
+
+class Values(unittest.TestCase):
+    def test_nodes_and_links(self):
+        nodes, links = [{"id": it} for it in "abcd"], [{"source": a, "target": b} for a, b in ("ab", "bc", "ca")]
+        data = [{"data": it} for it in nodes], [{"data": {"id": 1, **it}} for it in links]
+        for value in (
+            {"nodes": nodes, "links": links},
+            {"directed": False, "nodes": nodes, "edges": links},
+            {"type": "NetworkGraph", "protocol": "olsr", "metric": "etx", "nodes": nodes, "links": links},
+            {"type": "NetworkCollection", "collection": [{"type": "NetworkGraph", "nodes": nodes, "links": links}]},
+            {"elements": {"nodes": data[0], "edges": data[1]}},
+            {"graph": {"nodes": nodes, "edges": links}},
+            {"graph": {"nodes": {it: {} for it in "abcd"}, "edges": links}},
+            {"elements": [*data[0], *data[1]]},
+            {"nodes": list("abcd"), "links": links},
+            [*data[0], *data[1]],
+            {"nodes": nodes, "links": [{"source": {"id": it["source"]}, "target": it["target"]} for it in links]},
+            {
+                "nodes": [{"name": it} for it in "abcd"],
+                "links": [{"source": a, "target": b} for a, b in ((0, 1), (1, 2), (2, 0))],
+            },
+            {"nodes": nodes, "adjacency": [[{"id": it} for it in TRIANGLE[name]] for name in "abcd"]},
+        ):
+            self.assertEqual(views(json.dumps(value)), TRIANGLE, value)
+
+    def test_names_of_nodes(self):
+        value = {
+            "nodes": [{"id": 0, "label": "oslo"}, {"id": 1, "label": "rome"}],
+            "links": [{"source": 0, "target": 1}],
+        }
+        self.assertEqual(views(json.dumps(value)), {"0": {"1"}, "1": {"0"}})
+        self.assertEqual(views(json.dumps(value), by="label"), {"oslo": {"rome"}, "rome": {"oslo"}})
+        # an id is meant before a place
+        value = {"nodes": [{"id": 1}, {"id": 0}, {"id": 2}], "links": [{"source": 0, "target": 2}]}
+        self.assertEqual(views(json.dumps(value)), {"1": set(), "0": {"2"}, "2": {"0"}})
+
+    def test_directions_are_listings(self):
+        value = {"directed": True, "nodes": [{"id": "a"}, {"id": "b"}], "links": [{"source": "a", "target": "b"}]}
+        self.assertEqual(views(json.dumps(value)), {"a": {"b"}, "b": set()})
+
+    def test_hosts_with_peers(self):
+        wanted = {"a": {"b", "7"}, "b": {"a"}, "7": set()}
+        entries = {"a": {"peers": ["b", 7]}, "b": {"peers": [{"id": "a", "rtt": 3}], "up": True}, "7": {"peers": None}}
+        rows = [{"name": name, **entry} for name, entry in entries.items()]
+        for text in json.dumps(entries), json.dumps(rows), "\n".join(map(json.dumps, rows)):
+            self.assertEqual(views(text), wanted, text)
+        self.assertEqual(views('{"a": {"neighbors": {"b": {"rtt": 1}}}}'), {"a": {"b"}})
+        self.assertEqual(views('[{"key": "k1", "addr": "a", "peers": ["b"]}]', by="addr"), {"a": {"b"}})
+        self.assertEqual(views('{"a": ["b"]}\n{"b": ["a"]}\n'), {"a": {"b"}, "b": {"a"}})
+
+    def test_lists_of_links(self):
+        for text in (
+            '[["a","b"],["b","c"]]',
+            '[["a","b",3],["c","b",{"w":1}]]',
+            '[{"from":"a","to":"b"},{"from":"b","to":"c"}]',
+            '{"source":"a","target":"b"}\n\n{"source":"b","target":"c"}\n',
+            '["a","b"]\n["c","b"]\n',
+        ):
+            self.assertEqual(views(text), PATH, text)
+
+    def test_what_is_refused(self):
+        for text, told in (
+            ('["a","b"]', "'a' is neither a link nor a host with its peers"),
+            ('[["a"]]', "a link is a list of two names"),
+            ('{"peers":["a"]}', "does not say of which"),
+            ('{"a":{"port":1}}', "should have the list peers"),
+            ('{"a":7}', "is no list of peers"),
+            ('{"a":[true, {}]}', "True is no name"),
+            ('[{"name":"a"}]', "the host a should have the list"),
+            ('[{"x":1,"peers":[]}]', "peers"),
+            ('[{"name":"a","peers":[]},{"name":"a","peers":[]}]', "the host a stands there twice"),
+            ('{"a":{"peers":["b"]},"a":{"peers":[]}}', "the key a twice"),
+            ('["a","b"]\n["a"', "line 2 is no JSON"),
+            ('{"nodes":[{"id":"a"}],"links":[{"source":"a","target":"b"}]}', "the end b, which is no node"),
+            ('{"nodes":[{"id":"a"},{"id":"a"}],"links":[]}', "one name"),
+            ('{"nodes":[],"links":[{"a":1}]}', "source and target"),
+            ('{"type":"NetworkCollection","collection":[]}', "0 graphs"),
+            ('{"nodes":["a"],"adjacency":[]}', "for each node"),
+        ):
+            with self.assertRaisesRegex(BadDump, told, msg=text):
+                views(text)
+
+
+class Lines(unittest.TestCase):
+    def test_tables(self):
+        for text in (
+            "source,target\na,b\nb,c\n",
+            "\ufeffFrom;To;cost\na;b;1\nb;c;2\n",
+            "# seen at noon\nSRC\tDST\na\tb\nc\tb\n",
+            '"id","target","source"\n1,"a","b"\n2,"c","b"\n',
+            "source target\na b\nb c\n",
+            "node1, node2\na, b\nb, c\n",
+        ):
+            self.assertEqual(views(text), PATH, text)
+        self.assertEqual(views("host,peer\na,b\nb,a\nc,\n"), {"a": {"b"}, "b": {"a"}, "c": set()})
+        self.assertEqual(views('source,target\n"a, the first",b\n'), {"a, the first": {"b"}, "b": {"a, the first"}})
+        self.assertEqual(views("n,x,y\n1,a,b\n2,b,c\n", columns="x,Y"), PATH)
+        # a host of such a name is one, and a row that begins with # is a row
+        self.assertIsNone(views("source target\na source\n"))
+        self.assertEqual(views("source,target\n"), {})
+        self.assertEqual(views("# by hand\nsource,target\n#1,b\n"), {"#1": {"b"}, "b": {"#1"}})
+        for text, asked, told in (
+            ("a,b\n", {"form": "csv"}, "no known header"),
+            ("x,y\na,b\n", {"columns": "x,z"}, "--columns"),
+            ("source,target\na\n", {}, "line 2 has 1"),
+            ("source,target\na,\n", {}, "line 2 lacks a name"),
+        ):
+            with self.assertRaisesRegex(BadDump, told, msg=text):
+                views(text, **asked)
+
+    def test_weights(self):
+        for text in (
+            "a b 3.5\nb c 1\n",
+            "a\tb\t-2e3\nc\tb\t.5\n",
+            "a;b\nb;c\n",
+            "a; b; 7\nc; b; 8\n",
+            "a, b, 1\nb, c, 2 # late\n",
+        ):
+            self.assertEqual(views(text), PATH, text)
+        self.assertEqual(views("1 2 3\n2 3 9\n"), {"1": {"2"}, "2": {"1", "3"}, "3": {"2"}})
+        for text in "1 2 3\n2 3 1\n", "1 2 3\n2 1 3\n3 1 2\n":
+            with self.assertRaisesRegex(BadDump, "--form weighted or --form adjacency", msg=text):
+                views(text)
+        self.assertEqual(views("1 2 3\n2 3 1\n", form="weighted"), {"1": {"2"}, "2": {"1", "3"}, "3": {"2"}})
+        for text in "a;b;heavy\n", "a;\n":
+            with self.assertRaisesRegex(BadDump, "line 1 is not two names"):
+                views(text)
+
+    def test_arrows(self):
+        self.assertEqual(views("a -> b\nb->a\nb -> c\n"), {"a": {"b"}, "b": {"a", "c"}, "c": set()})
+        self.assertEqual(views("a -- b\nb -- c\n"), PATH)
+        self.assertEqual(views("a <-> b\nc <-> b\n"), PATH)
+        self.assertEqual(views("10.0.0.1:655 -> x--1\n"), {"10.0.0.1:655": {"x--1"}, "x--1": set()})
+        self.assertEqual(views("a <-> 1\n"), {"a": {"1"}, "1": {"a"}})
+        self.assertIsNone(views("a -> b c\n"))
+
+    def test_lists_of_neighbours(self):
+        self.assertEqual(views("a: b, c\nb: a\nc:\n"), {"a": {"b", "c"}, "b": {"a"}, "c": set()})
+        self.assertEqual(views("10.0.0.1:7946: 10.0.0.2:7946\n"), {"10.0.0.1:7946": {"10.0.0.2:7946"}})
+        self.assertEqual(views("a: 1 2\n"), {"a": {"1", "2"}})
+        # each link once, as networkx writes undirected graphs; and each at both ends
+        for text in "# by hand\na b c\nb c\nc\nd\n", "a b c\nb a c\nc a b\nd\n":
+            self.assertEqual(views(text), TRIANGLE, text)
+        self.assertEqual(views("a b c\nb c\nc a\n"), {"a": {"b", "c"}, "b": {"c"}, "c": {"a"}})
+        self.assertEqual(
+            views("a b\nb c\nc a\n", form="adjacency"), {"a": {"b", "c"}, "b": {"a", "c"}, "c": {"a", "b"}}
+        )
+        with self.assertRaisesRegex(BadDump, "line 2: a has a list already"):
+            views("a: b\na: c\n")
+
+
+class Texts(unittest.TestCase):
+    def test_utf_16(self):
+        for code in "utf-16", "utf-16-le", "utf-16-be":
+            data = "source,target\nb\u00f8rre,a\n".encode(code)
+            if code != "utf-16":
+                with self.assertRaisesRegex(BadDump, "UTF-16 without a mark"):
+                    text_of(data)
+                data = ("\ufeff" + "source,target\nb\u00f8rre,a\n").encode(code)
+            turned, told = text_of(data)
+            self.assertEqual(
+                (views(turned), told), ({"b\u00f8rre": {"a"}, "a": {"b\u00f8rre"}}, ["it was read as UTF-16"])
+            )
+
+    def test_what_is_no_text(self):
+        for data, told in (
+            (b"\x1f\x8b\x08", "gzip"),
+            (b"PK\x03\x04", "zip"),
+            (b"%PDF-1.4", "PDF"),
+            (b"\xff\xfea", "UTF-16"),
+        ):
+            with self.assertRaisesRegex(BadDump, told):
+                text_of(data)
+        with self.assertRaisesRegex(BadDump, "line 2 is not UTF-8"):
+            views(b"source,target\n\xe9,a\n")
+
+
+class Hosts(unittest.TestCase):
+    def test_one_file_a_host(self):
+        files = {
+            "oslo-1.json": b'["oslo-2", "10.0.0.1"]',
+            "oslo-2": b"oslo-1 # up\n\n",
+            "peers/10.0.0.1": b'{"peers":[{"name":"oslo-1"}]}',
+            "rome.txt": b"",
+            "bern.json": b'{"bern": ["rome"]}',
+            "gone.json": b"null",
+        }
+        found = of_hosts({pathlib.Path(it): data for it, data in files.items()}, Asked())
+        self.assertEqual(
+            found.value,
+            {
+                "oslo-1": ["oslo-2", "10.0.0.1"],
+                "oslo-2": ["oslo-1"],
+                "10.0.0.1": ["oslo-1"],
+                "rome": [],
+                "bern": ["rome"],
+                "gone": [],
+            },
+        )
+        self.assertEqual(host_of(pathlib.Path(".json")), ".json")
+
+    def test_the_field_that_names_a_host(self):
+        files = {"k1": b'{"peers":[{"key":"k2","address":"x2"}]}', "k2": b'{"peers":[{"key":"k1","address":"x1"}]}'}
+        places = {pathlib.Path(it): data for it, data in files.items()}
+        found = of_hosts(places, Asked())
+        self.assertEqual(
+            (found.value, found.kind), ({"k1": ["k2"], "k2": ["k1"]}, "2 files, one a host, with peers by key")
+        )
+        found = of_hosts(places, Asked(by="address"))
+        self.assertEqual((found.value, found.has_known), ({"k1": ["x2"], "k2": ["x1"]}, False))
+
+    def test_what_is_refused(self):
+        for files, told in (
+            ({"a": b"b c\n"}, "line 1 has several words"),
+            ({"a.json": b"[]", "b/a.txt": b""}, "second file is of"),
+            ({"a.json": b'{"a":["b"],"b":["a"]}'}, "several files"),
+            ({"a.json": b"[1"}, "no JSON"),
+        ):
+            with self.assertRaisesRegex(BadDump, told, msg=files):
+                of_hosts({pathlib.Path(it): data for it, data in files.items()}, Asked())
+
+
+@unittest.skipUnless(networkx, "networkx is not there")
+class Networkx(unittest.TestCase):
+    def test_what_networkx_writes(self):
+        graph = networkx.Graph([(a, b) for a, peers in TRIANGLE.items() for b in peers])
+        graph.add_node("d")
+        for text in (
+            "\n".join(networkx.generate_adjlist(graph)),
+            "\n".join(networkx.generate_graphml(graph)),
+            "\n".join(networkx.generate_gml(graph)),
+            "\n".join(networkx.generate_gexf(graph)),
+            json.dumps(networkx.node_link_data(graph)),
+            json.dumps(networkx.adjacency_data(graph)),
+            json.dumps(networkx.cytoscape_data(graph)),
+        ):
+            self.assertEqual(views(text), TRIANGLE, text)
+
+    def test_graphs_by_ids(self):
+        text = 'Creator "by hand"\nVersion 1\ngraph [\n node [ id 3 ]\n node [ id 5 ]\n edge [ source 3 target 5 ]\n]\n'
+        self.assertEqual(views(text), {"3": {"5"}, "5": {"3"}})
+
+    def test_what_networkx_refuses(self):
+        for text, told in ("<?xml version='1.0'?><svg/>", "no GraphML"), ("graph [ node ]", "no GML"):
+            with self.assertRaisesRegex(BadDump, told):
+                views(text)
+
+
+class Libraries(unittest.TestCase):
+    def test_what_is_told_of_a_missing_library(self):
+        for text, place, told in (
+            ("<graphml/>", "a", "python3-networkx"),
+            ("graph [\n]\n", "a", "python3-networkx"),
+            ("a: [b]\n", "a.yaml", "python3-yaml"),
+        ):
+            with mock.patch.dict("sys.modules", {"networkx": None, "yaml": None}):
+                with self.assertRaisesRegex(LibraryMissing, told):
+                    views(text, place)
+        with mock.patch("shutil.which", lambda _: None), self.assertRaisesRegex(LibraryMissing, "Debian: graphviz"):
+            of_graphviz(b"graph { a -- {b c} }")
+
+    @unittest.skipUnless(yaml, "yaml is not there")
+    def test_yaml(self):
+        for text, place in ("a: [b, c]\nb:\n  - a\nc:\n", "net.yaml"), ("---\na: [b, c]\nb: [a]\nc: []\n", "net"):
+            self.assertEqual(views(text, place), {"a": {"b", "c"}, "b": {"a"}, "c": set()})
+        with self.assertRaisesRegex(BadDump, "no YAML"):
+            views("a: [", "net.yml")
+
+    @unittest.skipUnless(shutil.which("dot"), "Graphviz is not there")
+    def test_subgraphs(self):
+        found = of_graphviz(b'graph { subgraph cluster_x { a; "d" } a -- {b c} b -- c }')
+        self.assertEqual({name: set(peers) for name, peers in found.peers.items()}, TRIANGLE)
+        found = of_graphviz(b"digraph { a -> {b c} -> a }")
+        self.assertEqual(found.value, {"a": ["b", "c"], "b": ["a"], "c": ["a"]})
+        for text in (
+            b"graph { oslo-1 -- {a b} }",
+            b"graph { 10.0.0.1 -- {a b} }",
+            b"graph { a -- {b",
+            b"graph { 5f3a -- {a b} }",
+        ):
+            with self.assertRaises(BadDump, msg=text):
+                of_graphviz(text)
+
+
+class OtherValues(unittest.TestCase):
+    def test_values_that_are_no_dump(self):
+        for value in "a", 7, None, True:
+            with self.assertRaises(BadDump):
+                views_of(value)
+
+
+if __name__ == "__main__":
+    unittest.main()

@@ -1,0 +1,58 @@
+"""The examples of README.md are run: each line `$ ..` of a block `console`, with what it prints."""
+
+import os
+import pathlib
+import re
+import shutil
+import subprocess
+import sys
+import tempfile
+import unittest
+
+from tagzirk.programs import CHECKOUT, find
+
+PAGE = CHECKOUT / "python" / "README.md"
+BLOCK = re.compile(r"^```console\n(.*?)^```$", re.DOTALL | re.MULTILINE)
+COMMAND = re.compile(r"^\$ (.*)\n((?:(?!\$ ).*\n)*)", re.MULTILINE)
+
+
+class Page(unittest.TestCase):
+    def test_the_examples(self):
+        blocks = BLOCK.findall(PAGE.read_text())
+        examples = [it for block in blocks for it in COMMAND.findall(block)]
+        self.assertEqual("".join(f"$ {command}\n{printed}" for command, printed in examples), "".join(blocks))
+        for command in "import", "mend", "each", "history", "metrics", "report":
+            self.assertTrue(any(f"tagzirk {command}" in it for it, _ in examples), command)
+        with tempfile.TemporaryDirectory() as room:
+            self.run_all(examples, pathlib.Path(room))
+
+    def run_all(self, examples, room):
+        """Runs the examples among the dumps of the repository, one after the other."""
+        dumps, programs = room / "dumps", room / "bin"
+        shutil.copytree(CHECKOUT / "examples" / "dumps", dumps)
+        programs.mkdir()
+        for name, program in ("overlay", find("overlay", None)), ("overlay-check", find("overlay_check", None)):
+            (programs / name).symlink_to(os.path.abspath(program))
+        (programs / "tagzirk").write_text(f'#!/bin/sh\nexec "{sys.executable}" -B -m tagzirk "$@"\n')
+        (programs / "tagzirk").chmod(0o755)
+        environment = {
+            **os.environ,
+            "PATH": f"{programs}:{os.environ['PATH']}",
+            "TZ": "UTC",
+            "PYTHONPATH": str(CHECKOUT / "python"),
+        }
+        for command, printed in examples:
+            ended = subprocess.run(
+                ["bash", "-c", command],
+                cwd=dumps,
+                env=environment,
+                stdin=subprocess.DEVNULL,
+                stdout=subprocess.PIPE,
+                stderr=subprocess.STDOUT,
+                timeout=60,
+            )
+            self.assertEqual(ended.stdout.decode(), printed, command)
+
+
+if __name__ == "__main__":
+    unittest.main()

@@ -1,0 +1,175 @@
+"""Tests of what is told of crashes, and of links to add: against the definitions, and what the command prints."""
+
+import itertools
+import json
+import random
+import unittest
+
+import tagzirk
+from tagzirk.graphs import named_graph
+
+from .test_commands import CLIQUES, Commands, edges_of, views_of
+
+
+def pieces_of(nodes, links, crashed):
+    """The sets of survivors that reach each other."""
+    left, pieces = set(nodes) - set(crashed), []
+    while left:
+        piece, more = set(), [next(iter(left))]
+        while more:
+            now = more.pop()
+            if now in left:
+                left.remove(now)
+                piece.add(now)
+                more += [b if a == now else a for a, b in links if now in (a, b)]
+        pieces.append(piece)
+    return pieces
+
+
+def number_cut_off(nodes, links, crashed):
+    sizes = [len(it) for it in pieces_of(nodes, links, crashed)]
+    return sum(sizes) - max(sizes, default=0)
+
+
+def fewest_that_cut_off(nodes, links, least):
+    """How few crashes cut off so many hosts, by trying all; None if none do."""
+    for size in range(len(nodes)):
+        if any(number_cut_off(nodes, links, them) >= least for them in itertools.combinations(nodes, size)):
+            return size
+    return None
+
+
+def some_graph(source, most):
+    """Some nodes and links between them."""
+    nodes = [f"h{at}" for at in range(source.randint(4, most))]
+    chance = source.choice((0.25, 0.4, 0.6))
+    return nodes, [it for it in itertools.combinations(nodes, 2) if source.random() < chance]
+
+
+class Mend(Commands):
+    def test_against_the_definition(self):
+        source = random.Random(5)
+        for _ in range(12):
+            nodes, links = some_graph(source, 9)
+            to = source.randint(1, min(4, len(nodes) - 1))
+            mended = tagzirk.mend(views_of(nodes, links), to)
+            all_links = links + list(mended.links)
+            self.assertEqual(len({frozenset(it) for it in all_links}), len(all_links))
+            self.assertGreaterEqual(mended.after.k, to)
+            self.assertEqual(mended.after.k >= to, (fewest_that_cut_off(nodes, all_links, 1) or len(nodes)) >= to)
+            self.assertEqual(
+                json.loads(mended.after.certificate)["links"], named_graph(views_of(nodes, all_links)).links
+            )
+            self.assertTrue(tagzirk.check(mended.after.certificate))
+            for link in mended.links:
+                self.assertLess(tagzirk.analyse(views_of(nodes, [it for it in all_links if it != link])).k, to)
+
+    def test_most_links(self):
+        ring = [(f"h{at:02}", f"h{(at + 1) % 12:02}") for at in range(12)]
+        mended = tagzirk.mend(ring, 3, most_links=3)
+        self.assertEqual((len(mended.links), mended.after.k), (6, 3))
+        star = [("hub", f"leaf{at}") for at in range(6)]
+        mended = tagzirk.mend(star, 2, most_links=3)
+        self.assertEqual(
+            (mended.after.k, {len(it) for it in named_graph([*star, *mended.links]).peers.values()} <= {2, 3, 6}),
+            (2, True),
+        )
+        for to, most, told in (3, 2, "k would be below 3"), (7, None, "at most 6"), (0, None, "can't be 0"):
+            with self.assertRaisesRegex(tagzirk.BadGraph, told):
+                tagzirk.mend(star, to, most)
+        with self.assertRaisesRegex(tagzirk.BadGraph, "found no way"):
+            tagzirk.mend([("a", "b"), ("b", "c"), ("c", "a"), ("d", "e"), ("e", "f"), ("f", "d")], 1, 2)
+
+    def test_what_is_printed(self):
+        path = self.file("net", "a b\nb c\nc d\n")
+        out, err, status = self.tagzirk("mend", path, "--to", 2, "--certificate", "--graph", self.room / "new.graph")
+        line, certificate = out.splitlines()
+        self.assertEqual((line, err, status), ("add\ta\td", "k is 1, and 2 with 1 more link\n", 0))
+        self.assertEqual(tagzirk.check(certificate).answer.k, 2)
+        self.assertEqual(
+            (self.room / "new.graph").read_text(),
+            named_graph([("a", "b"), ("b", "c"), ("c", "d"), ("d", "a")]).text_with_names,
+        )
+        self.assertEqual(
+            self.tagzirk("mend", self.room / "new.graph", "--to", 2), ("", "k is 2 already, so no link is needed\n", 0)
+        )
+
+
+class Each(Commands):
+    def test_against_the_definition(self):
+        source = random.Random(6)
+        for _ in range(10):
+            nodes, links = some_graph(source, 9)
+            crashes = tagzirk.each(views_of(nodes, links), workers=1)
+            self.assertEqual({it.name for it in crashes}, set(nodes))
+            for it in crashes:
+                left = [node for node in nodes if node != it.name]
+                kept = [link for link in links if it.name not in link]
+                sizes = sorted(map(len, pieces_of(nodes, links, [it.name])))
+                self.assertEqual(len(it.cut_off), sum(sizes[:-1]))
+                fewest = fewest_that_cut_off(left, kept, 1)
+                self.assertEqual(it.k, len(left) - 1 if fewest is None else fewest)
+                self.assertEqual(it.is_linked, fewest is None)
+            order = [(-len(it.cut_off), it.is_linked, it.k) for it in crashes]
+            self.assertEqual(order, sorted(order))
+
+    def test_racks(self):
+        path, racks = self.file("net", edges_of(CLIQUES)), self.file("racks", "# host rack\na R1\nb R1\nd,R2\n")
+        out, err, status = self.tagzirk("each", path, "--racks", racks, "--csv")
+        self.assertEqual(
+            (out, status), ("rack,hosts,k,all_linked,cut_off,names_cut_off\nR1,2,0,0,2,c;leaf\nR2,1,1,0,0,\n", 0)
+        )
+        self.assertEqual(err, "in no rack, and so never crashing here: c, e, f, leaf\n")
+        everybody = self.file("racks.json", json.dumps({"all": sorted("abcdef") + ["leaf"]}))
+        self.assertIn("all,7,,0,0,\n", self.tagzirk("each", path, "--racks", everybody, "--csv")[0])
+        for text, told in (
+            ("a R1\nx R1\n", "x, which is no host"),
+            ("a\n", "line 1 is no host"),
+            ("", "no rack"),
+            ("{", "no JSON"),
+        ):
+            _, err, status = self.tagzirk("each", path, "--racks", self.file("bad", text))
+            self.assertEqual((status, told in err), (1, True), err)
+
+    def test_what_is_printed(self):
+        out, _, status = self.tagzirk("each", self.file("net", edges_of(CLIQUES)))
+        self.assertEqual(status, 0)
+        self.assertEqual(
+            out.splitlines()[:4],
+            [
+                "k is 1 now: Crashing c separates leaf from a. Fewer crashes separate no two surviving nodes.",
+                "The fewest crashes that cut off more than one host are 2: a, b cut off 2 hosts: c, leaf.",
+                "",
+                "after the crash of host  k  cut off",
+            ],
+        )
+        self.assertEqual(out.splitlines()[4], "c                        0  1 host: leaf")
+        self.assertIn("a                        1  nobody", out)
+
+
+class Wide(Commands):
+    def test_against_the_definition(self):
+        source = random.Random(8)
+        for _ in range(14):
+            nodes, links = some_graph(source, 8)
+            found = tagzirk.widest(views_of(nodes, links), workers=1)
+            fewest = fewest_that_cut_off(nodes, links, 2)
+            if found is None:
+                self.assertIsNone(fewest, links)
+            else:
+                self.assertEqual(
+                    (len(found.crashed), len(found.cut_off), found.is_fewest),
+                    (fewest, number_cut_off(nodes, links, found.crashed), True),
+                    links,
+                )
+                self.assertGreaterEqual(len(found.cut_off), 2)
+
+    def test_with_anchors(self):
+        # 60 hosts in a ring, each linked to the two next ones: 4 crashes, of which no three cut off two
+        ring = [(at, (at + step) % 60) for at in range(60) for step in (1, 2)]
+        found = tagzirk.widest([*ring, (0, 100), (100, 1)])
+        self.assertEqual((found.is_fewest, len(found.crashed)), (True, 4))
+
+
+if __name__ == "__main__":
+    unittest.main()
