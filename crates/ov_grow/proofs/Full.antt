@@ -21,8 +21,8 @@ use Rattle.ov_net.specs.Net.{Net, LivesAs, IsGone}
 use Rattle.ov_net.specs.NetStep.{Received}
 use Rattle.ov_net.specs.Refusals.{BirthLast, ContactThen, EventJudged, HasPlaces, HasTimer, IsBorn, IsRefusal, LiveThen}
 use Rattle.ov_net.specs.Refusals.{MayBroadcast, PlacesLast}
-use Rattle.ov_net.specs.declared.event.Event.{Event}
-use Rattle.ov_net.specs.declared.event.Event.TheVariants as event
+use Rattle.ov_words.specs.declared.event.Event.{Event}
+use Rattle.ov_words.specs.declared.event.Event.TheVariants as event
 use Rattle.ov_net.specs.declared.fault.NetFault.{NetFault}
 use Rattle.ov_net.specs.declared.fault.NetFault.TheVariants.{UnknownNode, CrashedNode, NoSuchPacket, NotCrashed}
 use Rattle.ov_net.specs.declared.fault.NetFault.TheVariants.{TooManyEntries, TooManyNodes, TooManyPackets, UsedId}

@@ -8,7 +8,7 @@ use Rattle.ov_ids.proofs.Stepping.{step_passes}
 use Rattle.ov_net.specs.Journal.{Live}
 use Rattle.ov_net.specs.World.{Stands}
 use Rattle.ov_net.specs.declared.journal_entry_and_changes.Entry.{Entry}
-use Rattle.ov_net.specs.declared.event.Event.TheVariants as event
+use Rattle.ov_words.specs.declared.event.Event.TheVariants as event
 use Rattle.ov_snap.specs.CoreState.{CoreState, IsSound}
 use Rattle.ov_snap.specs.Run.{Happened}
 use Rattle.ov_snap.specs.Snapshots.{IsMoment}

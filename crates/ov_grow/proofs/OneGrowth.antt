@@ -6,7 +6,7 @@ use Rattle.std.specs.Prelude.{remove}
 use Rattle.std.proofs.lemmas.Option.{same_Some, none-some}
 use Rattle.ov_wire.specs.declared.message.Message.{Message}
 use Rattle.ov_net.specs.Theorems.{WorldStep}
-use Rattle.ov_net.specs.declared.event.Event.{Event}
+use Rattle.ov_words.specs.declared.event.Event.{Event}
 use Rattle.rand_pcg.specs.Lcg.{Lcg}
 use Rattle.ov_ids.proofs.Members.{same_ascending}
 use Rattle.ov_net.proofs.OneStep.OfWorld.{one_step}

@@ -1,7 +1,7 @@
 -- What one hand that holds the passes of all drivers knows of the log.
 use Rattle.std.proofs.Common.{◌≡◌, ℕ, ◌<◌, Bool, List, [], ◌∷◌, ◌++◌, sym, ap, ◌∙◌, subst}
 use Rattle.ov_ids.specs.ParamsState.{ParamsState}
-use Rattle.ov_net.specs.declared.event.Event.{Event}
+use Rattle.ov_words.specs.declared.event.Event.{Event}
 use Rattle.ov_net.specs.declared.journal_entry_and_changes.Entry.{Entry}
 use Rattle.ov_snap.specs.CoreState.{CoreState, opening_core}
 use Rattle.ov_snap.specs.Filing.{WasFiled}

@@ -1,7 +1,7 @@
 ghost use Rattle.std.specs.Prelude.{◌≡◌, ◌<◌, length, IfOk, IfErr, OnOk, OnErr};
 ghost use Rattle.ov_ids.specs.FaultOrder.{IsRefusedBy};
 ghost use Rattle.ov_net.specs.Refusals.{IsRefusal};
-ghost use Rattle.ov_net.specs.declared.event.Event.TheVariants as told;
+ghost use Rattle.ov_words.specs.declared.event.Event.TheVariants as told;
 ghost use Rattle.ov_snap.specs.Refusals.{FilingJudged};
 ghost use Rattle.ov_snap.specs.declared.core_fault.CoreFault.TheVariants.{OutOfMemory as out_of_memory};
 ghost use Rattle.ov_hall.specs.Histories.{IsHistory};

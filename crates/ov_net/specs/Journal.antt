@@ -5,7 +5,7 @@ use Rattle.std.specs.Prelude.{◌≡◌, ◌≢◌, ◌↔◌, ◌⊎◌, ℕ, �
 use Rattle.ov_ids.specs.Members.{Has}
 use Rattle.ov_ids.specs.declared.id.MsgId.{MsgId}
 use Rattle.ov_graph.specs.Links.{LinkGraph, IsGraph, Linked}
-use Rattle.ov_net.specs.declared.event.Event.TheVariants.{Broadcast}
+use Rattle.ov_words.specs.declared.event.Event.TheVariants.{Broadcast}
 use Rattle.ov_net.specs.declared.journal_entry_and_changes.Change.{Change}
 use Rattle.ov_net.specs.declared.journal_entry_and_changes.Change.TheVariants.{Born, Up, Down, Gone}
 use Rattle.ov_net.specs.declared.journal_entry_and_changes.Entry.{Entry}

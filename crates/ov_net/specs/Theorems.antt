@@ -5,7 +5,7 @@ use Rattle.ov_net.specs.Journal.{AreLinks}
 use Rattle.ov_net.specs.NetStep.{NetStep}
 use Rattle.ov_net.specs.World.{WorldState}
 use Rattle.ov_net.specs.declared.journal_entry_and_changes.Entry.{Entry}
-use Rattle.ov_net.specs.declared.event.Event.{Event}
+use Rattle.ov_words.specs.declared.event.Event.{Event}
 
 -- entries that come later do not change the graph after the first m entries
 abbrev pub LinksStay : Type 0

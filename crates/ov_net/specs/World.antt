@@ -12,7 +12,7 @@ use Rattle.ov_net.specs.Limits.{most_world_nodes, most_packets, most_entries}
 use Rattle.ov_net.specs.Net.{Net, LivesAs, HaveOwnIds}
 use Rattle.ov_net.specs.declared.journal_entry_and_changes.Change.{Change}
 use Rattle.ov_net.specs.declared.journal_entry_and_changes.Entry.{Entry}
-use Rattle.ov_net.specs.declared.event.Event.TheVariants.{Broadcast}
+use Rattle.ov_words.specs.declared.event.Event.TheVariants.{Broadcast}
 
 -- the nodes and packets as they are now, and the journal of all events so far
 pub record WorldState : Type 0 where

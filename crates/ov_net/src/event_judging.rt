@@ -2,16 +2,16 @@ ghost use Rattle.std.specs.Prelude.{IfOk, IfErr, OnOk, Some, length};
 ghost use Rattle.ov_net.specs.Code.Refusals.{fault_in, IsAbsent};
 ghost use Rattle.ov_net.specs.Net.{LivesAs, IsGone};
 ghost use Rattle.ov_net.specs.Refusals.{EventJudged, StepJudged, MayHappen, BirthLast, PlacesLast};
-ghost use Rattle.ov_net.specs.declared.event.Event.TheVariants.{Boot, Deliver, Lose, Crash};
-ghost use Rattle.ov_net.specs.declared.event.Event.TheVariants.{CrashReport, Shuffle, Broadcast, Timer};
+ghost use Rattle.ov_words.specs.declared.event.Event.TheVariants.{Boot, Deliver, Lose, Crash};
+ghost use Rattle.ov_words.specs.declared.event.Event.TheVariants.{CrashReport, Shuffle, Broadcast, Timer};
 
-use crate::event::Event;
 use crate::fault::NetFault;
 use crate::member::Member;
 use crate::world::{MOST_ENTRIES, MOST_PACKETS, MOST_WORLD_NODES, STEP_PACKETS, World};
 use ov_ids::{MsgId, NodeId};
 use ov_peer::{MOST_BROADCASTS, Peer};
 use ov_wire::MOST_PAYLOAD;
+use ov_words::Event;
 
 impl World {
     /// The first applicable refusal (10 to 20) of an event, but out of memory. Nothing changes. If none applies, the

@@ -5,10 +5,9 @@ ghost use Rattle.ov_wire.specs.Messages.{most_payload};
 ghost use Rattle.ov_net.specs.Code.Effects.{AreEffects, HaveRoom, SendFew};
 ghost use Rattle.ov_net.specs.Net.{LivesAs, IsGone};
 ghost use Rattle.ov_net.specs.Refusals.{MayHappen, IsBorn, MayBroadcast, HasTimer};
-ghost use Rattle.ov_net.specs.declared.event.Event.TheVariants.{Boot, Deliver, Lose, Repeat, Crash};
-ghost use Rattle.ov_net.specs.declared.event.Event.TheVariants.{CrashReport, Shuffle, Broadcast, Timer};
+ghost use Rattle.ov_words.specs.declared.event.Event.TheVariants.{Boot, Deliver, Lose, Repeat, Crash};
+ghost use Rattle.ov_words.specs.declared.event.Event.TheVariants.{CrashReport, Shuffle, Broadcast, Timer};
 
-use crate::event::Event;
 use crate::journal_entry_and_changes::Change;
 use crate::member::Member;
 use crate::node_planning::{effects_of_birth, effects_of_input};
@@ -17,7 +16,7 @@ use crate::planned_effects::{Effects, NodeChange};
 use crate::world::World;
 use ov_ids::{MsgId, NodeId, OutOfMemory, Seq};
 use ov_peer::{Input, Peer};
-use ov_words::Words;
+use ov_words::{Event, Words};
 
 impl World {
     /// The effects of an event to which no refusal applies. The world is not changed.

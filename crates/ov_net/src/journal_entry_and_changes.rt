@@ -1,9 +1,8 @@
 ghost use Rattle.std.specs.Prelude.{◌≡◌, IfOk};
 
-use crate::event::Event;
 use ov_ids::{NodeId, OutOfMemory, Seq};
 use ov_peer::Delivery;
-use ov_words::Words;
+use ov_words::{Event, Words};
 use std::alloc::Global;
 
 /// A change in an entry of the journal. Active views are those of HyParView (Leitão, Pereira, Rodrigues, DSN 2007).

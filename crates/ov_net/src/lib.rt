@@ -3,7 +3,6 @@
 #![tactic(auto)]
 
 mod deterministic_world_theorems;
-mod event;
 mod event_judging;
 mod event_planning;
 mod fault;
@@ -18,10 +17,10 @@ mod planned_effects;
 mod world;
 
 pub use deterministic_world_theorems::{links_stay, one_graph, one_step};
-pub use event::Event;
 pub use fault::NetFault;
 pub use journal_entry_and_changes::{Change, Entry};
 pub use live_peer::LivePeer;
 pub use member::Member;
+pub use ov_words::Event;
 pub use packet::Packet;
 pub use world::{MOST_ENTRIES, MOST_PACKETS, MOST_WORLD_NODES, STEP_PACKETS, World};

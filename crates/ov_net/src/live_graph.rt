@@ -6,12 +6,12 @@ ghost use Rattle.ov_net.specs.Code.LinkChanges.{AreChanged, Fit, FitsOne, Gains,
 ghost use Rattle.ov_net.specs.Code.LinkChanges.{newborn_of};
 ghost use Rattle.ov_net.specs.declared.journal_entry_and_changes.Change.TheVariants as one;
 
-use crate::event::Event;
 use crate::journal_entry_and_changes::Change;
 use crate::member::Member;
 use crate::nodes::Nodes;
 use ov_graph::{Graph, is_member};
 use ov_ids::{NodeId, OutOfMemory};
+use ov_words::Event;
 
 /// Adds the node that is born at an event, if one is. Out of memory leaves the graph as it was.
 pub(crate) fn add_newborn(graph: &mut Graph, event: &Event) -> Result<(), OutOfMemory>

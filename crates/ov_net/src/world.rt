@@ -12,7 +12,6 @@ ghost use Rattle.ov_net.specs.NetStep.{NetStep};
 ghost use Rattle.ov_net.specs.Refusals.{MayHappen, IsBorn, IsRefusal};
 ghost use Rattle.ov_net.specs.World.{Stands, opening_world};
 
-use crate::event::Event;
 use crate::fault::NetFault;
 use crate::journal_entry_and_changes::{Entry, Told};
 use crate::live_graph::{add_newborn, change_graph, remove_newborn};
@@ -24,7 +23,7 @@ use ov_graph::Graph;
 use ov_ids::{NodeId, OutOfMemory, Params};
 use ov_lists::BlockList;
 use ov_peer::Peer;
-use ov_words::Words;
+use ov_words::{Event, Words};
 use std::alloc::Global;
 use std::marker::Model;
 

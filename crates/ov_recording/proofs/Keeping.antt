@@ -6,7 +6,7 @@ use Rattle.rand_core.specs.Stream.{Stream}
 use Rattle.ov_ids.specs.Limits.{number_limit}
 use Rattle.ov_ids.specs.ParamsState.{ParamsState}
 use Rattle.ov_words.specs.Stream.{AreOutputs, words_per_event}
-use Rattle.ov_net.specs.declared.event.Event.{Event}
+use Rattle.ov_words.specs.declared.event.Event.{Event}
 use Rattle.ov_lines.specs.Lines.{kept_lines}
 use Rattle.std.specs.Str.Lines.{lines}
 use Rattle.ov_scenario.specs.Draws.{seeded}

@@ -7,7 +7,7 @@ use Rattle.ov_ids.proofs.Stepping.{step_none, step_passes}
 use Rattle.ov_net.specs.Journal.{AreLinks, Live}
 use Rattle.ov_net.specs.Refusals as net
 use Rattle.ov_net.specs.World.{WorldState}
-use Rattle.ov_net.specs.declared.event.Event.{Event}
+use Rattle.ov_words.specs.declared.event.Event.{Event}
 use Rattle.ov_net.specs.declared.fault.NetFault.{NetFault}
 use Rattle.ov_net.specs.declared.fault.NetFault.TheVariants as net_fault
 use Rattle.ov_net.specs.declared.journal_entry_and_changes.Entry.{Entry}

@@ -13,7 +13,7 @@ use Rattle.ov_even.proofs.EvenTest.Answering.{one_answer}
 use Rattle.ov_net.specs.Journal.{AreLinks}
 use Rattle.ov_net.specs.Theorems.{WorldStep}
 use Rattle.ov_net.specs.World.{WorldState}
-use Rattle.ov_net.specs.declared.event.Event.{Event}
+use Rattle.ov_words.specs.declared.event.Event.{Event}
 use Rattle.ov_net.specs.declared.journal_entry_and_changes.Entry.{Entry}
 use Rattle.ov_net.proofs.Links.OneGraph.{links_one}
 use Rattle.ov_net.proofs.OneStep.OfWorld.{one_step}

@@ -6,7 +6,7 @@ use Rattle.rand_core.specs.Stream.{Stream}
 use Rattle.ov_ids.specs.Members.{Has}
 use Rattle.ov_ids.specs.ParamsState.{ParamsState}
 use Rattle.ov_ids.proofs.Members.{has_append_cases, has_append_left}
-use Rattle.ov_net.specs.declared.event.Event.{Event}
+use Rattle.ov_words.specs.declared.event.Event.{Event}
 use Rattle.ov_scenario.specs.RunLines.{drivers_for}
 use Rattle.ov_scenario.specs.Scenarios.{AreFaulty, AreParamsOf, HasKind, IsSeedOf, IsWrong, before_of}
 use Rattle.ov_scenario.specs.Statements.{Stated, ToldLine}

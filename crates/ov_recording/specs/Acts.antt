@@ -1,7 +1,7 @@
 -- The acts of a script: the event that each one is, and the line that says it.
 use Rattle.std.specs.Prelude.{ℕ, List, [], ◌∷◌, codes, decimal, Some, None}
-use Rattle.ov_net.specs.declared.event.Event.{Event}
-use Rattle.ov_net.specs.declared.event.Event.TheVariants as event
+use Rattle.ov_words.specs.declared.event.Event.{Event}
+use Rattle.ov_words.specs.declared.event.Event.TheVariants as event
 use Rattle.ov_recording.specs.WrittenLines.{line_of, numerals}
 use Rattle.ov_recording.specs.declared.recordable_event.Act.{Act}
 use Rattle.ov_recording.specs.declared.recordable_event.Act.TheVariants as act

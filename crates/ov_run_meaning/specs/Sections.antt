@@ -5,7 +5,7 @@ use Rattle.ov_ids.specs.FaultOrder.{IsRefusedBy}
 use Rattle.ov_ids.specs.ParamsState.{ParamsState}
 use Rattle.ov_even.specs.Answer.{IsAnswer}
 use Rattle.ov_net.specs.Refusals.{IsRefusal}
-use Rattle.ov_net.specs.declared.event.Event.{Event}
+use Rattle.ov_words.specs.declared.event.Event.{Event}
 use Rattle.ov_net.specs.declared.fault.NetFault.{NetFault}
 use Rattle.ov_net.specs.declared.journal_entry_and_changes.Entry.{Entry}
 use Rattle.ov_snap.specs.CoreState.{CoreState}

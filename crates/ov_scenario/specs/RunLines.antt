@@ -3,8 +3,8 @@ use Rattle.std.specs.Prelude.{◌≡◌, ℕ, max, Bool, true, false, List, [], 
 use Rattle.std.specs.Prelude.{replicate, if◌then◌else◌}
 use Rattle.std.specs.List.{filter}
 use Rattle.ov_lines.specs.Lines.{kept_lines}
-use Rattle.ov_net.specs.declared.event.Event.{Event}
-use Rattle.ov_net.specs.declared.event.Event.TheVariants as event
+use Rattle.ov_words.specs.declared.event.Event.{Event}
+use Rattle.ov_words.specs.declared.event.Event.TheVariants as event
 use Rattle.ov_scenario.specs.Sections.{is_together, is_end}
 use Rattle.ov_scenario.specs.Statements.{statement_of, workers_or_one}
 use Rattle.ov_words.specs.Stream.{words_per_event}

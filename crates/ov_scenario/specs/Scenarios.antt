@@ -5,7 +5,7 @@ use Rattle.std.specs.Prelude.{if◌then◌else◌, Option, Some, None}
 use Rattle.rand_core.specs.Stream.{Stream}
 use Rattle.ov_ids.specs.ParamsState.{ParamsState, AreWithinLimits}
 use Rattle.ov_ids.specs.Members.{Has}
-use Rattle.ov_net.specs.declared.event.Event.{Event}
+use Rattle.ov_words.specs.declared.event.Event.{Event}
 use Rattle.ov_scenario.specs.Draws.{AreDraws, seeded}
 use Rattle.ov_lines.specs.Lines.{kept_lines, long_bits}
 use Rattle.ov_lines.specs.declared.unexpected_word.Unread.{Unread}

@@ -2,8 +2,8 @@
 use Rattle.std.specs.Prelude.{ℕ, ◌==◌, List, [], ◌∷◌, ◌++◌, length, map, codes}
 use Rattle.std.specs.Prelude.{Option}
 use Rattle.std.specs.Prelude.{Some, None, option_map, if◌then◌else◌}
-use Rattle.ov_net.specs.declared.event.Event.{Event}
-use Rattle.ov_net.specs.declared.event.Event.TheVariants as event
+use Rattle.ov_words.specs.declared.event.Event.{Event}
+use Rattle.ov_words.specs.declared.event.Event.TheVariants as event
 use Rattle.ov_ids.specs.Options.{◌>>=◌}
 use Rattle.ov_lines.specs.Lines.{words_of, behind_word, without_space, same, row, number_within, one, two, three}
 use Rattle.ov_lines.specs.Lines.{each_number, short_bits, one_list, long_bits, workers_first}

@@ -1,5 +1,4 @@
-use ov_net::Event;
-use ov_words::Words;
+use ov_words::{Event, Words};
 use std::marker::Model;
 
 /// What a line of a section does.

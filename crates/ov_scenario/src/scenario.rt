@@ -1,8 +1,7 @@
 use crate::line_of_section::SectionLine;
 use crate::lines_to_run::LinesToRun;
 use ov_ids::{NodeId, Params, Seq, Workers};
-use ov_net::Event;
-use ov_words::Words;
+use ov_words::{Event, Words};
 
 /// A line of a scenario that is run.
 #[derive(Debug, Drop)]

@@ -5,7 +5,7 @@ use crate::event_words_reading::GivenWords;
 use crate::scenario::{Look, Subject};
 use ov_ids::Workers;
 use ov_lines::Unread;
-use ov_net::Event;
+use ov_words::Event;
 use std::marker::Model;
 
 /// What one line says by itself, whatever comes before it and after it.

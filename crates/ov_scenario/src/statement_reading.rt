@@ -16,7 +16,7 @@ use crate::scenario::{Look, Subject};
 use crate::statement::{Stated, Statement};
 use ov_ids::{MsgId, NodeId, OutOfMemory, Seq};
 use ov_lines::{END, ID, Kind, LineCursor, Unread, is_word};
-use ov_net::Event;
+use ov_words::Event;
 use std::alloc::{AllocError, Global};
 
 /// The name of a line of parameters.

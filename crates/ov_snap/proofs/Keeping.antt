@@ -13,8 +13,8 @@ use Rattle.ov_cert.specs.Valid.{IsValidForGroup}
 use Rattle.ov_cert.proofs.Validity.Exact.{valid_means}
 use Rattle.ov_net.specs.Journal.{AreLinks, AreSameSince}
 use Rattle.ov_net.specs.declared.journal_entry_and_changes.Entry.{Entry}
-use Rattle.ov_net.specs.declared.event.Event.{Event}
-use Rattle.ov_net.specs.declared.event.Event.TheVariants as event
+use Rattle.ov_words.specs.declared.event.Event.{Event}
+use Rattle.ov_words.specs.declared.event.Event.TheVariants as event
 use Rattle.ov_net.specs.NetStep.{NetStep}
 use Rattle.ov_net.specs.Refusals.{StepJudged}
 use Rattle.ov_net.specs.declared.fault.NetFault.{NetFault}

@@ -6,8 +6,8 @@ use Rattle.ov_words.specs.Stream.{words_per_event}
 use Rattle.ov_net.specs.NetStep.{NetStep}
 use Rattle.ov_net.specs.Refusals.{StepJudged}
 use Rattle.ov_net.specs.declared.journal_entry_and_changes.Entry.{Entry}
-use Rattle.ov_net.specs.declared.event.Event.{Event}
-use Rattle.ov_net.specs.declared.event.Event.TheVariants as event
+use Rattle.ov_words.specs.declared.event.Event.{Event}
+use Rattle.ov_words.specs.declared.event.Event.TheVariants as event
 use Rattle.ov_desk.specs.Turns.{ClaimsNext, LooksNext, SettlesNext}
 use Rattle.ov_snap.specs.CoreState.{CoreState, opening_core}
 use Rattle.ov_snap.specs.DeskSteps.{WasOpened, WasOpenedForGroup, ClaimedAt, LookedAt, SettledAt, DeskWasFiled}

@@ -3,8 +3,8 @@ use Rattle.std.specs.Prelude.{◌≡◌, ◌≢◌, ◌⊎◌, ℕ, ◌+◌, ◌
 use Rattle.ov_ids.specs.Members.{Has, Ordered}
 use Rattle.ov_net.specs.Journal.{AreLinks}
 use Rattle.ov_net.specs.declared.journal_entry_and_changes.Entry.{Entry}
-use Rattle.ov_net.specs.declared.event.Event.{Event}
-use Rattle.ov_net.specs.declared.event.Event.TheVariants as event
+use Rattle.ov_words.specs.declared.event.Event.{Event}
+use Rattle.ov_words.specs.declared.event.Event.TheVariants as event
 use Rattle.ov_snap.specs.declared.kept_snapshots.Snapshot.{Snapshot}
 
 -- the entry is of a snapshot

@@ -4,7 +4,7 @@ ghost use Rattle.ov_graph.specs.Links.{IsGroup};
 ghost use Rattle.ov_cert.specs.Valid.{IsValidForGroup};
 ghost use Rattle.ov_net.specs.Journal.{AreLinks};
 ghost use Rattle.ov_net.specs.Refusals.{IsRefusal};
-ghost use Rattle.ov_net.specs.declared.event.Event.TheVariants as told;
+ghost use Rattle.ov_words.specs.declared.event.Event.TheVariants as told;
 ghost use Rattle.ov_snap.specs.CoreState.{HasReport, HasReportOfAll, IsSound, opening_core};
 ghost use Rattle.ov_snap.specs.ReportState.{IsTrueReport, ReportState};
 ghost use Rattle.ov_snap.specs.Filing.{WasFiled};

@@ -21,7 +21,7 @@ use Rattle.ov_net.specs.World.{WorldState, TellsViews, opening_world}
 use Rattle.ov_net.specs.declared.journal_entry_and_changes.Change.{Change}
 use Rattle.ov_net.specs.declared.journal_entry_and_changes.Change.TheVariants.{Born, Up, Gone}
 use Rattle.ov_net.specs.declared.journal_entry_and_changes.Entry.{Entry}
-use Rattle.ov_net.specs.declared.event.Event.{Event}
+use Rattle.ov_words.specs.declared.event.Event.{Event}
 use Rattle.ov_net.specs.declared.member.Member.{Member}
 use Rattle.ov_net.specs.declared.member.Member.TheVariants as member
 use Rattle.ov_net.proofs.Journal.After.{AllOf, holds_rests, holds_told, lives_rests, moves_hold, others_silent}

@@ -15,8 +15,8 @@ use Rattle.ov_net.specs.Net.{HaveOwnIds, Net, LivesAs}
 use Rattle.ov_net.specs.NetStep.{NetStep}
 use Rattle.ov_net.specs.World.{WorldState, Traced, WasBroadcast, opening_world}
 use Rattle.ov_net.specs.declared.journal_entry_and_changes.Entry.{Entry}
-use Rattle.ov_net.specs.declared.event.Event.{Event}
-use Rattle.ov_net.specs.declared.event.Event.TheVariants.{Broadcast}
+use Rattle.ov_words.specs.declared.event.Event.{Event}
+use Rattle.ov_words.specs.declared.event.Event.TheVariants.{Broadcast}
 use Rattle.ov_net.proofs.Messages.Passing.{Passes, lives_one, passed}
 use Rattle.ov_net.proofs.Steps.Places.{at_prefix, at_end, at_cases, has_at, at_has}
 

@@ -26,9 +26,9 @@ use Rattle.ov_net.specs.declared.planned_effects.Effects.{Effects}
 use Rattle.ov_net.specs.declared.planned_effects.NodeChange.{NodeChange}
 use Rattle.ov_net.specs.declared.planned_effects.NodeChange.TheVariants as change
 use Rattle.ov_net.specs.declared.journal_entry_and_changes.Change.TheVariants as entry
-use Rattle.ov_net.specs.declared.event.Event.{Event}
-use Rattle.ov_net.specs.declared.event.Event.TheVariants.{Boot, Deliver, Lose, Repeat, Crash, CrashReport, Shuffle}
-use Rattle.ov_net.specs.declared.event.Event.TheVariants.{Broadcast, Timer, Snapshot}
+use Rattle.ov_words.specs.declared.event.Event.{Event}
+use Rattle.ov_words.specs.declared.event.Event.TheVariants.{Boot, Deliver, Lose, Repeat, Crash, CrashReport, Shuffle}
+use Rattle.ov_words.specs.declared.event.Event.TheVariants.{Broadcast, Timer, Snapshot}
 use Rattle.ov_net.specs.declared.fault.NetFault.{NetFault}
 use Rattle.ov_net.specs.declared.fault.NetFault.TheVariants.{UnknownNode, UsedId, CrashedNode, TooManyNodes}
 use Rattle.ov_net.specs.declared.fault.NetFault.TheVariants.{NoSuchPacket, TooManyPackets, TooManyEntries, NotCrashed}

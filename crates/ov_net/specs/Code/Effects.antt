@@ -16,7 +16,7 @@ use Rattle.ov_net.specs.declared.planned_effects.Effects.{Effects}
 use Rattle.ov_net.specs.declared.planned_effects.NodeChange.{NodeChange}
 use Rattle.ov_net.specs.declared.planned_effects.NodeChange.TheVariants as change
 use Rattle.ov_net.specs.declared.journal_entry_and_changes.Change.TheVariants.{Born}
-use Rattle.ov_net.specs.declared.event.Event.{Event}
+use Rattle.ov_words.specs.declared.event.Event.{Event}
 use Rattle.ov_net.specs.declared.member.Member.{Member}
 use Rattle.ov_net.specs.declared.member.Member.TheVariants.{Live, Gone}
 

@@ -4,7 +4,7 @@ use Rattle.std.proofs.Common.{IsErrAnd, refl, sym, subst}
 use Rattle.std.proofs.KnownBytes.{Appends-nil}
 use Rattle.std.specs.Io.KnownBytes.{Appends, Keeps}
 use Rattle.ov_io.specs.Device.{SinkState}
-use Rattle.ov_net.specs.declared.event.Event.{Event}
+use Rattle.ov_words.specs.declared.event.Event.{Event}
 use Rattle.ov_net.specs.declared.journal_entry_and_changes.Entry.{Entry}
 use Rattle.ov_snap.specs.CoreState.{CoreState}
 use Rattle.ov_snap.specs.Run.{Happened}

@@ -5,7 +5,7 @@ use Rattle.std.specs.Prelude.{option_map}
 use Rattle.std.proofs.lemmas.Slice.Eq.{bytes_eq-Decides}
 use Rattle.ov_ids.specs.Options.{◌>>=◌}
 use Rattle.ov_lines.specs.Lines.{behind_word, number_within, row, same, short_bits}
-use Rattle.ov_net.specs.declared.event.Event.TheVariants as event
+use Rattle.ov_words.specs.declared.event.Event.TheVariants as event
 use Rattle.ov_scenario.specs.Sections.{is_end}
 use Rattle.ov_scenario.specs.Statements.{analysis_of, crash_report_of, line_rows, stated, subject_at, timer_of}
 use Rattle.ov_scenario.specs.Statements.{workers_named}

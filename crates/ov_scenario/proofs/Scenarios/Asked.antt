@@ -3,7 +3,7 @@ use Rattle.std.proofs.Common.{◌≡◌, ◌∙◌, ℕ, true, false, if◌then�
 use Rattle.std.proofs.Common.{Option, Some, None, refl, ap, sym, subst}
 use Rattle.std.specs.List.{filter}
 use Rattle.rand_core.specs.Stream.{Stream}
-use Rattle.ov_net.specs.declared.event.Event.{Event}
+use Rattle.ov_words.specs.declared.event.Event.{Event}
 use Rattle.ov_words.specs.Stream.{words_per_event}
 use Rattle.ov_scenario.specs.Draws.{AreDraws, seeded}
 use Rattle.ov_scenario.specs.RunLines.{IsLineOf, outside_blocks, runs, those_that_run}

@@ -2,7 +2,7 @@
 use Rattle.std.proofs.Common.{◌≡◌, ◌∙◌, ℕ, true, false, if◌then◌else◌, List, [], ◌∷◌, ◌++◌}
 use Rattle.std.proofs.Common.{Option, Some, None, refl, ap, sym, subst}
 use Rattle.rand_core.specs.Stream.{Stream}
-use Rattle.ov_net.specs.declared.event.Event.{Event}
+use Rattle.ov_words.specs.declared.event.Event.{Event}
 use Rattle.ov_scenario.specs.RunLines.{outside_blocks}
 use Rattle.ov_scenario.specs.Sections.{SectionLine, is_end, section_line}
 use Rattle.ov_scenario.specs.Statements.{ToldLine, statement_of, told}

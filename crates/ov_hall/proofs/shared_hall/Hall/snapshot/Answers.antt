@@ -1,5 +1,5 @@
 use Rattle.std.proofs.Common.{refl, subst, IfOk}
-use Rattle.ov_net.specs.declared.event.Event.TheVariants as event
+use Rattle.ov_words.specs.declared.event.Event.TheVariants as event
 use Rattle.ov_snap.specs.DriverSteps.{HasStepped}
 use Rattle.ov_hall.proofs.shared_hall.Hall.snapshot.Goals as goal
 

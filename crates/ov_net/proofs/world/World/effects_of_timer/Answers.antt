@@ -1,6 +1,6 @@
 use Rattle.std.proofs.lemmas.Result.{IfOk-weaker}
 use Rattle.ov_peer.specs.declared.input_and_output.Input.TheVariants as input
-use Rattle.ov_net.specs.declared.event.Event.TheVariants.{Timer}
+use Rattle.ov_words.specs.declared.event.Event.TheVariants.{Timer}
 use Rattle.ov_net.proofs.Steps.EventEffects.{live_effects}
 use Rattle.ov_net.proofs.world.World.effects_of_timer.Goals as goal
 

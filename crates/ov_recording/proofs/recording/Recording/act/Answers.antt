@@ -1,6 +1,6 @@
 -- The core is that of the script with the line of the act.
 use Rattle.std.proofs.Common.{List, ℕ, subst}
-use Rattle.ov_net.specs.declared.event.Event.{Event}
+use Rattle.ov_words.specs.declared.event.Event.{Event}
 use Rattle.ov_scenario.specs.declared.scenario.Line.TheVariants as line
 use Rattle.ov_snap.specs.Run.{Happened}
 use Rattle.ov_recording.specs.Acts.{event_of}
