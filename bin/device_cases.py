@@ -189,10 +189,12 @@ def told_of_writes(writes):
     if len(writes) > 2 and all(it.count(b"\n") == 1 for it in writes):
         return "line by line"
     most = [len(it) for it in writes]
-    return "in blocks" if all(60_000 < it <= 65_536 for it in most[:-1]) and most[-1] <= 65_536 else f"writes of {most}"
+    if all(60_000 < it <= 65_536 for it in most[:-1]) and most[-1] <= 65_536:
+        return "in blocks"
+    return f"{len(most)} writes, the first of {most[:3]} bytes"
 
 
-@case("devices", "output in blocks", "large output into a socket that keeps writes apart",
+@case("blocks", "output in blocks", "large output into a socket that keeps writes apart",
       "blocks of 64 KB, and at the end the rest; with `--explain` line by line (FORMATS.md)")
 def blocks(lab):
     file = lab.large("scenario")

@@ -2,10 +2,11 @@
 """try_programs.py [CRATE/NAME.edit ..]: plants bugs in the two programs, and says which of their kept inputs differ.
 
 Each edit of overlay/ and overlay_check/ beside this script, or each one named, is applied to a clone of the commit at
-hand. The program is built without proofs, and bin/check-examples, bin/check-corpus, and the workers and the devices of
-bin/check-devices run it beside the other program, which has no bug. A row for each edit says how many lines each of
-these complains of, up to the first that complains. TAGZIRK_OVERLAY and TAGZIRK_OVERLAY_CHECK name the programs without
-a bug, which may be unproved. A row takes one to five minutes. The status is 1 if a bug is not noticed.
+hand. The program is built without proofs, and bin/check-examples, bin/check-corpus, and four groups of
+bin/check-devices, `workers`, `sharing`, `blocks` and `devices`, run it beside the other program, which has no bug. A
+row for each edit says how many lines each of these complains of, up to the first that complains. TAGZIRK_OVERLAY and
+TAGZIRK_OVERLAY_CHECK name the programs without a bug, which may be unproved. A row takes one to five minutes. The
+status is 1 if a bug is not noticed.
 """
 
 import os
@@ -19,7 +20,8 @@ ROOT = HERE.parents[1]
 PROGRAMS = {"overlay": "TAGZIRK_OVERLAY", "overlay_check": "TAGZIRK_OVERLAY_CHECK"}
 OPTIONS = {"overlay": "--overlay", "overlay_check": "--overlay-check"}
 CHECKS = (
-    ("check-examples",), ("check-corpus",), ("check-devices", "workers", "sharing"), ("check-devices", "devices"))
+    ("check-examples",), ("check-corpus",), ("check-devices", "workers", "sharing", "blocks"),
+    ("check-devices", "devices"))
 
 
 def parts_of(edit):
