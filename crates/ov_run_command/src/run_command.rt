@@ -4,11 +4,10 @@ ghost use Rattle.ov_run_meaning.specs.Run.{IsRunOf};
 ghost use Rattle.ov_run_meaning.specs.Strict.{strictness_of};
 
 use crate::refusals_and_progress::RunNews;
-use crate::run_with_buffered_output::run_into_blocks;
+use crate::run_with_buffered_output::run_in_output_blocks;
 use ov_arguments::RunRequest;
 use ov_commands::{
     STANDARD_INPUT, bytes_of, opened, print_fault, print_reason, print_unread_tip, run_reason,
-    without_memory,
 };
 use ov_io::Sink;
 use ov_lines::FileKind;
@@ -17,9 +16,6 @@ use ov_run_meaning::{RunFault, Strictness};
 use std::io::{IsTerminal, Read, Write};
 use std::sync::Wait;
 use std::thread::Threads;
-
-/// How many bytes are kept back before they are written, if what is printed is written in blocks.
-const BLOCK: usize = 64 * 1024;
 
 /// Runs the scenario of a file, or of standard input. If it is to be explained, prints why lines are refused. What is
 /// printed is written line by line then, and on a terminal, so that it stands beside these reasons; else in blocks.
@@ -35,25 +31,21 @@ pub fn run_asked<T: Threads + Wait + Sync>(
         let _ = eprintln!(rt; "reading a scenario from standard input");
     }
     if run.explain || rt.stdout().is_terminal() {
-        return run_into(rt, threads, file, rt.stdout(), run);
+        return run_line_by_line(rt, threads, file, run);
     }
-    match Sink::new(rt.stdout()).in_blocks(rt.alloc(), BLOCK) {
-        Ok(sink) => run_into_blocks(rt, threads, file, sink, run),
-        Err(_) => Err(without_memory(rt)),
-    }
+    run_in_output_blocks(rt, threads, file, run)
 }
 
-/// Runs the scenario of a file, or of standard input, and prints into this writer.
-fn run_into<T: Threads + Wait + Sync, W: Write + Drop>(
+/// Runs the scenario of a file, or of standard input, and prints on standard output as lines run.
+fn run_line_by_line<T: Threads + Wait + Sync>(
     rt: &HostRuntime,
     threads: &T,
     file: Option<String>,
-    writer: W,
     run: RunRequest,
 ) -> Result<u8, RunFault>
     ensures status { IfOk result (λ status. status ≡ 0) }
 {
-    let mut sink = Sink::new(writer);
+    let mut sink = Sink::new(rt.stdout());
     match file.as_deref() {
         None => Ok(run_from(rt, threads, rt.stdin(), &mut sink, None, run)?),
         Some(path) => Ok(run_from(rt, threads, opened(rt, path)?, &mut sink, Some(path), run)?),

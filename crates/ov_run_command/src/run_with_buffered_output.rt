@@ -8,7 +8,7 @@ ghost use Rattle.ov_run_meaning.specs.Strict.{strictness_of};
 use crate::refusals_and_progress::RunNews;
 use crate::run_command::tell_run;
 use ov_arguments::RunRequest;
-use ov_commands::{STANDARD_INPUT, bytes_of, opened};
+use ov_commands::{STANDARD_INPUT, bytes_of, opened, without_memory};
 use ov_io::Sink;
 use ov_run::run_in_blocks;
 use ov_run_meaning::{RunFault, Strictness};
@@ -16,19 +16,22 @@ use std::io::{BufWriter, Read, Write};
 use std::sync::Wait;
 use std::thread::Threads;
 
-/// Runs the scenario of a file, or of standard input, and prints through this buffer. At the end nothing is kept back
-/// in it, unless a write failed.
-pub(crate) fn run_into_blocks<T: Threads + Wait + Sync, W: Write + Drop>(
+/// How many bytes are kept back before they are written.
+const BLOCK: usize = 64 * 1024;
+
+/// Runs the scenario of a file, or of standard input, and prints on standard output in blocks. At the end nothing is
+/// kept back, unless a write failed.
+pub(crate) fn run_in_output_blocks<T: Threads + Wait + Sync>(
     rt: &HostRuntime,
     threads: &T,
     file: Option<String>,
-    sink: Sink<BufWriter<W>>,
     run: RunRequest,
 ) -> Result<u8, RunFault>
-    requires faults { sink.faults < most_faults }
-    requires empty { writer_buffer sink.writer ≡ [] }
     ensures status { IfOk result (λ status. status ≡ 0) }
 {
+    let Ok(sink) = Sink::new(rt.stdout()).in_blocks(rt.alloc(), BLOCK) else {
+        return Err(without_memory(rt));
+    };
     let (_sink, answer) = match file.as_deref() {
         None => run_blocks_from(rt, threads, rt.stdin(), sink, None, run),
         Some(path) => run_blocks_from(rt, threads, opened(rt, path)?, sink, Some(path), run),
