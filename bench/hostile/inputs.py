@@ -18,7 +18,8 @@ MOST_SECTIONS = 64
 def missed_moments(size=999_000):
     """As many snapshots as a journal holds, and then analyses and looks that name a moment without one."""
     written = 0
-    for line in itertools.chain(["boot 1"], ["snapshot"] * (MOST_ENTRIES - 1), itertools.cycle(["analyse 0", "certificate 0"])):
+    snapshots = ["snapshot"] * (MOST_ENTRIES - 1)
+    for line in itertools.chain(["boot 1"], snapshots, itertools.cycle(["analyse 0", "certificate 0"])):
         if written + len(line) + 1 > size:
             return
         written += len(line) + 1
@@ -26,7 +27,7 @@ def missed_moments(size=999_000):
 
 
 def many_groups(size=823_000):
-    """A snapshot of as many nodes as a world may bear, and an analysis of each pair of them, as far as the size goes."""
+    """A snapshot of as many nodes as a world may bear, and an analysis of each pair of them, up to the size."""
     written = 0
 
     def lines():

@@ -1,9 +1,10 @@
 #!/usr/bin/env python3
-"""measure.py [--runs N] PROGRAM [PROGRAM ..]: what each build of `overlay` takes for each input of inputs.py, in one sitting.
+"""measure.py [--runs N] PROGRAM [PROGRAM ..]: what each build of `overlay` takes for each input of inputs.py, in one
+sitting.
 
-Each input is given to each program in turn, N times, or three, as a whole process that writes into files. Of each the lowest
-processor time and the highest peak of memory are printed: other work on the machine makes a run last longer, but hardly
-costs it processor time. A run that lasts longer than LONGEST seconds is ended, and told so.
+Each input is given to each program in turn, N times, or three, as a whole process that writes into files. Of each the
+lowest processor time and the highest peak of memory are printed: other work on the machine makes a run last longer, but
+hardly costs it processor time. A run that lasts longer than LONGEST seconds is ended, and told so.
 """
 
 import os
