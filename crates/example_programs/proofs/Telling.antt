@@ -4,7 +4,7 @@ use Rattle.ov_cert.specs.Valid.{k_of}
 use Rattle.ov_net.specs.declared.journal_entry_and_changes.Entry.{Entry}
 use Rattle.ov_snap.specs.ReportState.{ReportState, IsTrueReport}
 use Rattle.ov_hall.specs.Histories.{IsExact}
-use Rattle.ov_hall.specs.declared.shared_hall.Gathered.{Gathered}
+use Rattle.ov_hall.specs.declared.core_shared_by_drivers.Gathered.{Gathered}
 use Rattle.example_programs.specs.Outcome.{IsFewestAt, IsOutcome}
 
 -- a true report tells the fewest crashes

@@ -9,7 +9,7 @@ use Rattle.ov_net.specs.declared.journal_entry_and_changes.Entry.{Entry}
 use Rattle.ov_snap.specs.CoreState.{CoreState, HasReport}
 use Rattle.ov_snap.specs.ReportState.{ReportState}
 use Rattle.ov_snap.specs.Parts.{Each}
-use Rattle.ov_hall.specs.declared.shared_hall.Gathered.{Gathered}
+use Rattle.ov_hall.specs.declared.core_shared_by_drivers.Gathered.{Gathered}
 
 -- k is the fewest nodes whose crash parts two members of q, by the links that both ends held at moment m; or one less
 -- than their number, if every two were linked

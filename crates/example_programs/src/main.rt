@@ -1,5 +1,5 @@
-//! Three small programs in one, which show how the libraries are used: the first judges the certificate file on standard
-//! input, the second analyses a network of routers, and the third has two drivers step a simulated world.
+//! Three small programs in one, which show how the libraries are used: the first judges the certificate file on
+//! standard input, the second analyses a network of routers, and the third has two drivers step a simulated world.
 #![tactic(auto)]
 
 mod analysing;

@@ -4,9 +4,9 @@
 
 mod analysis_with_names;
 mod answer_making;
-mod component_finding;
 mod component_list;
 mod component_texts;
+mod components_after_crash;
 mod counts_for_sentences;
 mod flood_fill;
 mod graph_file_analysis;

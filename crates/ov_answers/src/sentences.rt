@@ -3,7 +3,7 @@
 ghost use Rattle.std.specs.Prelude.{◌≡◌, ◌++◌, string_bytes, OnOk};
 ghost use Rattle.ov_answers.specs.Code.Sentences.{fewer_text, more_text};
 
-use crate::component_finding::components_without;
+use crate::components_after_crash::components_without;
 use crate::counts_for_sentences::{least_linked, members_beside, survivors_of};
 use ov_cert::{Cert, Split};
 use ov_graph::Graph;

@@ -10,7 +10,7 @@ use Rattle.ov_certfile.specs.Demands.{demands, first_unmet, unless, missing, mis
 use Rattle.ov_certfile.specs.Code.Reading.{IsHeaded}
 use Rattle.ov_certfile.specs.declared.file_keys.Key.TheVariants as key
 use Rattle.ov_certfile.specs.declared.version.Version.{Version}
-use Rattle.ov_certfile.specs.declared.verdict.Verdict.{Verdict}
+use Rattle.ov_certfile.specs.declared.linked_or_split.Verdict.{Verdict}
 
 there : {X : Type 0} (form : Data → Option X) (o : Option Data) (x : X) → option_and_then form o ≡ Some x
     → is_some o ≡ true

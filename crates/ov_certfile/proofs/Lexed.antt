@@ -1,5 +1,6 @@
 -- The lexemes at the front of a text, and the tokens that a cursor takes.
-use Rattle.std.proofs.Common.{◌≡◌, ◌∙◌, ℕ, ◌+◌, ◌*◌, ◌/◌, ◌%◌, ◌^◌, ◌<◌, ◌≤◌, Bool, true, ◌||◌, ◌==◌, List, [], ◌∷◌, ◌++◌}
+use Rattle.std.proofs.Common.{◌≡◌, ◌∙◌, ℕ, ◌+◌, ◌*◌, ◌/◌, ◌%◌, ◌^◌, ◌<◌, ◌≤◌, Bool, true, ◌||◌, ◌==◌, List, [], ◌∷◌}
+use Rattle.std.proofs.Common.{◌++◌}
 use Rattle.std.proofs.Common.{length, take, drop, nat_eq, take-append-drop}
 use Rattle.std.proofs.Common.{decimal, refl, sym, ap, ap₂, subst, arith, append_assoc, ⊎_elim}
 use Rattle.std.proofs.lemmas.Bool.{or_cases, eqb-true}
@@ -8,7 +9,8 @@ use Rattle.std.specs.Cmp.Lexicographic.{pointwise, same_text}
 use Rattle.json.specs.Token.{Token}
 use Rattle.json.specs.Word.{is_space, ends_word}
 use Rattle.json.specs.Lex.{token, comma, colon, class, operator, operator_lexeme, string_token, between, in_string, lex}
-use Rattle.json.specs.Lex.{lex_byte, fresh, after_value, after_comma, after_key, may_begin, may_close, if_allowed, punctuate}
+use Rattle.json.specs.Lex.{lex_byte, fresh, after_value, after_comma, after_key, may_begin, may_close, if_allowed}
+use Rattle.json.specs.Lex.{punctuate}
 use Rattle.json.specs.Lex as lexer
 use Rattle.json.specs.Print.{escape}
 use Rattle.json.proofs.OnLiterals.{json_on_literals}
@@ -19,8 +21,8 @@ use Rattle.ov_certfile.specs.Kinds.{name_of, verdict_text}
 use Rattle.ov_certfile.specs.Code.Tokens.{place_in, tokens_at}
 use Rattle.ov_certfile.specs.declared.file_keys.Key.{Key}
 use Rattle.ov_certfile.specs.declared.file_keys.Key.TheVariants as key
-use Rattle.ov_certfile.specs.declared.verdict.Verdict.{Verdict}
-use Rattle.ov_certfile.specs.declared.verdict.Verdict.TheVariants as verdict
+use Rattle.ov_certfile.specs.declared.linked_or_split.Verdict.{Verdict}
+use Rattle.ov_certfile.specs.declared.linked_or_split.Verdict.TheVariants as verdict
 use Rattle.ov_certfile.specs.declared.token_cursor.Place.{Place}
 use Rattle.ov_certfile.specs.declared.token_cursor.Place.TheVariants.{Fresh, AfterValue, AfterComma}
 

@@ -7,8 +7,8 @@ use Rattle.ov_certfile.specs.Kinds.{name_of, verdict_text}
 use Rattle.ov_certfile.specs.Code.Writing.{WritesMembers}
 use Rattle.ov_certfile.specs.declared.file_keys.Key.{Key}
 use Rattle.ov_certfile.specs.declared.file_keys.Key.TheVariants as key
-use Rattle.ov_certfile.specs.declared.verdict.Verdict.{Verdict}
-use Rattle.ov_certfile.specs.declared.verdict.Verdict.TheVariants as verdict
+use Rattle.ov_certfile.specs.declared.linked_or_split.Verdict.{Verdict}
+use Rattle.ov_certfile.specs.declared.linked_or_split.Verdict.TheVariants as verdict
 
 -- no name of a key has a character that is written otherwise in a text
 name_quoted : (k : Key) → codes "\"" ++ (name_of k ++ codes "\":") ≡ compact_text (string (name_of k)) ++ codes ":"

@@ -61,7 +61,8 @@ IsGroupOf One g q = q ≡ g.nodes
 IsGroupOf Two g q = Unit {0}
 
 -- the value of this version says the file
-pub in_version : (version : Version) (c : Cert) (g : LinkGraph) (q : List ℕ) (m : ℕ) → GraphReadsBack g → CertReadsBack c
+pub in_version : (version : Version) (c : Cert) (g : LinkGraph) (q : List ℕ) (m : ℕ)
+    → GraphReadsBack g → CertReadsBack c
     → GroupReadsBack version q → IsGroupOf version g q → IsFew version g → moment_in (whole_data m) ≡ Some m
     → Says (data_in version c g q m) (record { moment = m; graph = g; group = q; cert = c })
 unfolding data_in serde_json_on_literals

@@ -19,7 +19,7 @@ use Rattle.ov_certfile.specs.Code.Tokens.{TakesMembers}
 use Rattle.ov_certfile.specs.Code.Content.{TakesContent, IsGraphWithin, NamedReadsBack, version_with, named_then}
 use Rattle.ov_certfile.specs.Code.Content.{graph_in, group_in, filed_in}
 use Rattle.ov_certfile.specs.declared.file_keys.Key.TheVariants as key
-use Rattle.ov_certfile.specs.declared.verdict.Verdict.TheVariants.{Linked, Split as VerdictSplit}
+use Rattle.ov_certfile.specs.declared.linked_or_split.Verdict.TheVariants.{Linked, Split as VerdictSplit}
 use Rattle.ov_certfile.specs.declared.reading.Filed.{Filed}
 use Rattle.ov_certfile.specs.declared.token_reading.Content.{Content}
 use Rattle.ov_certfile.proofs.Taking.{then_taken, end_members}
@@ -36,7 +36,8 @@ named_group (Some group) nodes ms = refl
 pub linked_taken : (group : Option (List ℕ)) (k moment : ℕ) (links : List (ℕ × ℕ)) (nodes : List ℕ)
     (old t u new : List Token)
     → TakesMembers (λ ms. named_then group (member (name_of key.K) (whole_data k)
-    (member (name_of key.Links) (list_data link_data links) (member (name_of key.Moment) (whole_data moment) ms)))) old t
+    (member (name_of key.Links) (list_data link_data links)
+    (member (name_of key.Moment) (whole_data moment) ms)))) old t
     → TakesMembers (member (name_of key.Nodes) (ids_data nodes)) t u
     → u ≡ members_tokens (members_outline (end_members Linked (version_with group))) ++ new
     → old ≡ members_tokens (members_outline (cert_members (version_with group) (cert.Linked k)
@@ -96,7 +97,8 @@ says_content text c f mid begun taken graph is =
     let named = group_back c.group c.nodes taken.named in
     let nodes_and_links : GraphReadsBack g =
     record { is_graph = graph.is_graph; within = graph.within; nodes = taken.nodes; links = taken.links } in
-    let back : FileReadsBack version c.cert g q = record { graph = nodes_and_links; cert = taken.cert; named = named } in
+    let back : FileReadsBack version c.cert g q =
+    record { graph = nodes_and_links; cert = taken.cert; named = named } in
     let lexed = begun ∙ ap (λ ts. Token.begin_object ∷ ts) (taken.members ∙ append-nil _) in
     let reads = tokens_read text version c.cert g q c.moment back taken.moment lexed in
     let says = in_version version c.cert g q c.moment nodes_and_links taken.cert named (is_group c.group c.nodes g refl)

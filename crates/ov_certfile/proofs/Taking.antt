@@ -11,7 +11,7 @@ use Rattle.ov_certfile.specs.DataOf.{list_data, whole_data, link_data}
 use Rattle.ov_certfile.specs.Forms.{list_in}
 use Rattle.ov_certfile.specs.Kinds.{name_of, verdict_text, version_number}
 use Rattle.ov_certfile.specs.declared.file_keys.Key.TheVariants as key
-use Rattle.ov_certfile.specs.declared.verdict.Verdict.{Verdict}
+use Rattle.ov_certfile.specs.declared.linked_or_split.Verdict.{Verdict}
 use Rattle.ov_certfile.specs.declared.version.Version.{Version}
 use Rattle.ov_certfile.specs.Code.Tokens.{TakesValue, TakesMembers}
 use Rattle.ov_certfile.proofs.Listed.{EachReadsBack, list_back}
@@ -86,7 +86,8 @@ member_taken k d old mid new e f = record {
 -- members, and then others
 pub then_taken : (add more : Members → Members) (old mid new : List Token) → TakesMembers add old mid
     → TakesMembers more mid new → TakesMembers (λ ms. add (more ms)) old new
-then_taken add more old mid new a b = record { followed = λ ms rest e. a.followed (more ms) rest (b.followed ms rest e) }
+then_taken add more old mid new a b =
+    record { followed = λ ms rest e. a.followed (more ms) rest (b.followed ms rest e) }
 
 -- no members
 pub none_taken : (old new : List Token) → new ≡ old → TakesMembers (λ ms. ms) old new

@@ -20,7 +20,7 @@ use Rattle.ov_certfile.specs.declared.fault.FileFault.TheVariants.{NotJson, Miss
 use Rattle.ov_certfile.specs.declared.fault.FileFault.TheVariants.{BadVersion, Graph, OutOfMemory}
 use Rattle.ov_certfile.specs.declared.version.Version.{Version}
 use Rattle.ov_certfile.specs.declared.version.Version.TheVariants.{One, Two}
-use Rattle.ov_certfile.specs.declared.verdict.Verdict.{Verdict}
+use Rattle.ov_certfile.specs.declared.linked_or_split.Verdict.{Verdict}
 use Rattle.ov_certfile.specs.declared.reading.Filed.{Filed}
 use Rattle.ov_certfile.specs.declared.reading.Listed.{Listed}
 

@@ -12,7 +12,7 @@ use Rattle.ov_certfile.specs.Common.{are_same}
 use Rattle.ov_certfile.specs.Kinds.{version_number, verdict_text, most_nodes_of}
 use Rattle.ov_certfile.specs.declared.version.Version.{Version}
 use Rattle.ov_certfile.specs.declared.version.Version.TheVariants.{One, Two}
-use Rattle.ov_certfile.specs.declared.verdict.Verdict.TheVariants.{Linked, Split as VerdictSplit}
+use Rattle.ov_certfile.specs.declared.linked_or_split.Verdict.TheVariants.{Linked, Split as VerdictSplit}
 
 -- a whole number as JSON
 abbrev pub whole_data : ℕ → Data

@@ -12,8 +12,8 @@ use Rattle.ov_certfile.specs.declared.file_keys.Key.{Key}
 use Rattle.ov_certfile.specs.declared.file_keys.Key.TheVariants as key
 use Rattle.ov_certfile.specs.declared.version.Version.{Version}
 use Rattle.ov_certfile.specs.declared.version.Version.TheVariants.{One, Two}
-use Rattle.ov_certfile.specs.declared.verdict.Verdict.{Verdict}
-use Rattle.ov_certfile.specs.declared.verdict.Verdict.TheVariants.{Linked, Split}
+use Rattle.ov_certfile.specs.declared.linked_or_split.Verdict.{Verdict}
+use Rattle.ov_certfile.specs.declared.linked_or_split.Verdict.TheVariants.{Linked, Split}
 
 -- the number of a version
 abbrev pub version_number : Version → ℕ

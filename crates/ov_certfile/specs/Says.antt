@@ -16,7 +16,7 @@ use Rattle.ov_certfile.specs.declared.fault.FileFault.{FileFault}
 use Rattle.ov_certfile.specs.declared.fault.FileFault.TheVariants.{Graph}
 use Rattle.ov_certfile.specs.declared.version.Version.{Version}
 use Rattle.ov_certfile.specs.declared.version.Version.TheVariants.{One, Two}
-use Rattle.ov_certfile.specs.declared.verdict.Verdict.TheVariants.{Linked, Split as VerdictSplit}
+use Rattle.ov_certfile.specs.declared.linked_or_split.Verdict.TheVariants.{Linked, Split as VerdictSplit}
 use Rattle.ov_certfile.specs.declared.reading.Filed.{Filed}
 
 -- the nodes and links in the value are those of g, whether or not g is a graph

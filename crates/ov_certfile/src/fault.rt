@@ -5,7 +5,7 @@ ghost use Rattle.ov_certfile.specs.declared.fault.FileFault.TheVariants.{OutOfMe
 use crate::file_keys::Key;
 use crate::no_json::NoJson;
 use crate::value_fault::{Misfit, Wanted};
-use crate::verdict::Verdict;
+use crate::linked_or_split::Verdict;
 use crate::version::Version;
 use ov_graph::GraphFault;
 use std::alloc::{AllocError, AllocFailed};

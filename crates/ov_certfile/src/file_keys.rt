@@ -1,7 +1,7 @@
 ghost use Rattle.std.specs.Prelude.{◌≡◌};
 ghost use Rattle.ov_certfile.specs.Kinds.{name_of, keys_of};
 
-use crate::verdict::Verdict;
+use crate::linked_or_split::Verdict;
 use crate::version::Version;
 
 /// A key of a file, or of an entry in it.

@@ -17,7 +17,7 @@ use crate::field_reading_and_writing::{read_at, whole_at};
 use crate::file_keys::Key;
 use crate::no_json::NoJson;
 use crate::token_reading::in_form;
-use crate::verdict::Verdict;
+use crate::linked_or_split::Verdict;
 use crate::version::Version;
 use crate::version_and_verdict_reading::heading_of;
 use ov_cert::{Cert, Split};

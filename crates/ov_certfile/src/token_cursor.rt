@@ -8,7 +8,7 @@ ghost use Rattle.ov_certfile.specs.Code.Tokens.{place_in};
 
 use crate::file_keys::Key;
 use crate::token_texts::{after_mark, after_space, after_text, ends_word, number_in};
-use crate::verdict::Verdict;
+use crate::linked_or_split::Verdict;
 use ov_ids::OutOfMemory;
 use std::alloc::{AllocError, AllocFailed};
 use std::marker::Model;

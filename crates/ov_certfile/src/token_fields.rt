@@ -95,7 +95,8 @@ pub(crate) fn take_count(cursor: &mut TokenCursor<'_>, key: Key) -> Result<u32, 
 
 /// Takes the member of a moment.
 pub(crate) fn take_moment(cursor: &mut TokenCursor<'_>) -> Result<u32, Stop>
-    ensures taken { IfOk result (λ n. TakesMembers (member (name_of key_name.Moment) (whole_data n)) cursor.old cursor.new) }
+    ensures taken { IfOk result
+        (λ n. TakesMembers (member (name_of key_name.Moment) (whole_data n)) cursor.old cursor.new) }
     ensures moment { IfOk result (λ n. n ≤ last_moment) }
 {
     let moment = take_count(cursor, Key::Moment)?;

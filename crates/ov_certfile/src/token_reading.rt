@@ -17,7 +17,7 @@ use crate::file_keys::Key;
 use crate::reading::Filed;
 use crate::token_cursor::{Stop, TokenCursor};
 use crate::token_fields::{take_count, take_member, take_moment};
-use crate::verdict::Verdict;
+use crate::linked_or_split::Verdict;
 use crate::version::Version;
 use ov_cert::{Cert, FanPaths, PairPaths, Split};
 use ov_graph::{Graph, GraphFault};

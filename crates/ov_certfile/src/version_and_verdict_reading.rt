@@ -8,7 +8,7 @@ use crate::fault::{BadValue, FileFault};
 use crate::file_keys::{Key, keys_of};
 use crate::missing_and_unknown_keys::{first_missing, first_other};
 use crate::value_fault::{Misfit, Wanted};
-use crate::verdict::Verdict;
+use crate::linked_or_split::Verdict;
 use crate::version::Version;
 use serde_json::Value;
 

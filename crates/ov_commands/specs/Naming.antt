@@ -7,7 +7,7 @@ use Rattle.ov_graphfile.specs.declared.fault.GraphFileFault.TheVariants as graph
 use Rattle.ov_graphfile.specs.NamesState.{NamesState}
 use Rattle.ov_graphfile.specs.NameLines.{AreNamesOf}
 use Rattle.ov_graphfile.specs.Groups.{IsGroupNamed, IsGroupFault, parts_of}
-use Rattle.ov_graphfile.specs.declared.group_fault.GroupFault.{GroupFault}
+use Rattle.ov_graphfile.specs.declared.group_names_fault.GroupFault.{GroupFault}
 use Rattle.ov_io.specs.Device.{SinkState}
 use Rattle.ov_answers.specs.Telling.{IsToldOf}
 use Rattle.ov_answers.specs.declared.request.Told.{Told}

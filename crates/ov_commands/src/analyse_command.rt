@@ -8,7 +8,7 @@ use crate::command_fault::CommandFault;
 use crate::fault_printing::{print_fault, print_reason};
 use crate::fault_reasons::analysis_reason;
 use crate::input_reading::{STANDARD_INPUT, bytes_asked, bytes_of, opened};
-use crate::named_analysis::analyse_in_words;
+use crate::answers_in_names_or_words::analyse_in_words;
 use crate::which_command_tips::print_unread_tip;
 use ov_answers::{Answered, analyse_bytes};
 use ov_arguments::AnalysisRequest;

@@ -5,6 +5,7 @@
 
 mod analyse_command;
 mod analysis_progress;
+mod answers_in_names_or_words;
 mod certificate_entry_listing;
 mod certificate_graph_printing;
 mod command_fault;
@@ -14,7 +15,6 @@ mod fault_reasons;
 mod file_conversion_commands;
 mod import_command;
 mod input_reading;
-mod named_analysis;
 mod paced_clock;
 mod pacing;
 mod picture_printing;

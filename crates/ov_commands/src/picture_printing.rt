@@ -178,8 +178,8 @@ fn same_graph(
     }
 }
 
-/// Ends since the file with names, of these bytes and this name, is no graph file. Prints which line is at fault; and if
-/// it can't be read, which command reads such a file.
+/// Ends since the file with names, of these bytes and this name, is no graph file. Prints which line is at fault; and
+/// if it can't be read, which command reads such a file.
 fn no_graph_file(
     rt: &HostRuntime,
     bytes: &[u8],

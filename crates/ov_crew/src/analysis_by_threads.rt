@@ -10,7 +10,7 @@ ghost use Rattle.ov_crew.specs.Code.Crews.{IsNewAt, IsRange, HasWorked, outcomes
 
 use crate::hook_after_claim::Gate;
 use crate::parallel_paths_by_ids::name_by_crew;
-use crate::thread_count::Hiring;
+use crate::threads_by_amount_of_work::Hiring;
 use crate::worker::work_range;
 use ov_board::{Board, Seat};
 use ov_cert::{Checked, are_all_linked};

@@ -7,7 +7,7 @@ mod cut_worker;
 mod hook_after_claim;
 mod parallel_paths_by_ids;
 mod pathless_analysis_by_threads;
-mod thread_count;
+mod threads_by_amount_of_work;
 mod worker;
 
 pub use analysis_by_threads::{analyse, analyse_group, analyse_group_watched};

@@ -4,7 +4,7 @@ ghost use Rattle.ov_even.specs.Naming.{AreFound, named_of};
 ghost use Rattle.ov_even.specs.declared.paths_by_ids.NamedPaths.{NamedPaths as named_paths};
 ghost use Rattle.ov_crew.specs.Code.Parts.{AreParts};
 
-use crate::thread_count::Hiring;
+use crate::threads_by_amount_of_work::Hiring;
 use ov_even::{FoundPaths, NamedPaths, name_paths};
 use ov_graph::Graph;
 use ov_ids::{NodeId, OutOfMemory};

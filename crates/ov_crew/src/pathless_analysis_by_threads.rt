@@ -10,7 +10,7 @@ ghost use Rattle.ov_crew.specs.Code.Searched.{HasSearched, AreGathered};
 
 use crate::cut_worker::{NumberedCut, keep_lower, search_range};
 use crate::hook_after_claim::Gate;
-use crate::thread_count::Hiring;
+use crate::threads_by_amount_of_work::Hiring;
 use ov_board::{Board, Seat};
 use ov_cert::Cert;
 use ov_even::{

@@ -5,9 +5,9 @@
 mod dump_and_graph_types;
 mod dump_determines_graph;
 mod dump_importing;
-mod dump_judging;
 mod edge_line;
 mod edges_reading;
+mod entry_and_listing_soundness;
 mod fault;
 mod graph_making;
 mod listing_graphs;

@@ -1,9 +1,9 @@
 //! The pieces of Even's test. For each piece its paths are found, or its nearest minimum cut.
 #![tactic(auto)]
 
-mod bit_counts;
 mod bit_row_nodes;
-mod group_member_places;
+mod common_bits_of_rows;
+mod group_by_places_in_graph;
 mod member_beyond_cut;
 mod piece;
 mod piece_net;
@@ -13,7 +13,7 @@ mod piece_result_theorems;
 mod piece_solver;
 mod short_paths;
 
-pub use bit_counts::shared_bits;
+pub use common_bits_of_rows::shared_bits;
 pub use piece::Piece;
 pub use piece_paths_by_ids::asked_paths;
 pub use piece_result::{Found, Parting, Settled};

@@ -7,7 +7,7 @@ ghost use Rattle.ov_fans.specs.Cuts.{IsCut, IsFar};
 ghost use Rattle.ov_fans.specs.Code.Kept.{IsLowestOutside};
 
 use crate::bit_row_nodes::bits_below;
-use crate::group_member_places::SettlerGroup;
+use crate::group_by_places_in_graph::SettlerGroup;
 use crate::piece::Piece;
 use ov_graph::Graph;
 use ov_graph::row::{WORDS, first_from, without};

@@ -5,7 +5,7 @@ ghost use Rattle.ov_fans.specs.Code.Kept.{IsAimFor};
 ghost use Rattle.ov_fans.specs.Code.Nets.{net_of, pair_net, fan_net};
 
 use crate::bit_row_nodes::bits_below;
-use crate::group_member_places::SettlerGroup;
+use crate::group_by_places_in_graph::SettlerGroup;
 use crate::piece::Piece;
 use ov_graph::row::Row;
 

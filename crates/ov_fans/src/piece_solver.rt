@@ -8,7 +8,7 @@ ghost use Rattle.ov_fans.specs.Theorems.{IsNoCut};
 ghost use Rattle.ov_fans.specs.Code.Nets.{net_of};
 
 use crate::bit_row_nodes::nodes_of_row;
-use crate::group_member_places::SettlerGroup;
+use crate::group_by_places_in_graph::SettlerGroup;
 use crate::member_beyond_cut::far_of;
 use crate::piece::Piece;
 use crate::piece_net::{aim_for, is_linked_pair};

@@ -7,9 +7,9 @@ ghost use Rattle.ov_graph.specs.Even.{members_below};
 ghost use Rattle.ov_fans.specs.Pieces.{member_at, IsPiece, IsGood};
 ghost use Rattle.ov_fans.specs.Counts.{IsNumberOf};
 
-use crate::bit_counts::shared_bits;
+use crate::common_bits_of_rows::shared_bits;
 use crate::bit_row_nodes::bits_below;
-use crate::group_member_places::SettlerGroup;
+use crate::group_by_places_in_graph::SettlerGroup;
 use crate::piece::Piece;
 
 /// Whether short paths alone make the piece good: for a pair, paths of two links over common neighbours; for a fan,

@@ -8,7 +8,7 @@ ghost use Rattle.ov_split.specs.Places.{net_by_place};
 ghost use Rattle.ov_flow.specs.Code.Walked.{table_of, IsWritten};
 ghost use Rattle.ov_flow.specs.Code.Held.{IsReady};
 
-use crate::flat_path_reading::{count_paths, push_by_ids, source_in, split_path};
+use crate::paths_out_of_flat_list::{count_paths, push_by_ids, source_in, split_path};
 use ov_graph::Graph;
 use ov_ids::{NodeId, OutOfMemory};
 use ov_lists::{Paths, PathsBuilder};

@@ -2,7 +2,6 @@
 #![tactic(auto)]
 
 mod augmenting_paths;
-mod flat_path_reading;
 mod flat_paths;
 mod flow;
 mod layered_walks;
@@ -10,6 +9,7 @@ mod layers;
 mod one_link_paths;
 mod path_search;
 mod path_table;
+mod paths_out_of_flat_list;
 mod search_result;
 mod search_tree;
 mod two_link_paths;

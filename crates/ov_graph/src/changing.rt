@@ -13,7 +13,7 @@ ghost use Rattle.ov_graph.specs.declared.row.TheConstants.{EMPTY};
 use crate::adjacency_rows::{mark, unmark};
 use crate::places::{place_for, place_in};
 use crate::row::{EMPTY, Row, WORDS, words_for};
-use crate::row_bit_insertion::{closed, opened};
+use crate::row_place_shifting::{closed, opened};
 use ov_ids::{NodeId, OutOfMemory};
 
 /// Adds a node without links. Out of memory leaves nodes and rows as they were.

@@ -17,7 +17,7 @@ use crate::first_fault::first_fault;
 use crate::link_iterators::{Links, Neighbours};
 use crate::places::{are_nodes, place_in, place_of};
 use crate::row::{Row, WORDS, has, words_for};
-use crate::same::{are_equal, have_same_rows};
+use crate::id_and_row_equality::{are_equal, have_same_rows};
 use ov_ids::{NodeId, OutOfMemory, is_ascending};
 use std::alloc::{AllocError, Global};
 use std::marker::Model;

@@ -7,11 +7,11 @@ mod even_test_and_unique_number;
 mod fault;
 mod first_fault;
 mod graph;
+mod id_and_row_equality;
 mod link_iterators;
 mod places;
 pub mod row;
-mod row_bit_insertion;
-mod same;
+mod row_place_shifting;
 
 pub use even_test_and_unique_number::{even_suffices, one_number};
 pub use fault::{GraphFault, LinkFlaw};

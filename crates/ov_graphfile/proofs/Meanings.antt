@@ -15,7 +15,7 @@ use Rattle.ov_graphfile.specs.NamesState.{NamesState, IsNamed}
 use Rattle.ov_graphfile.specs.Groups.{part_at, HasNumeralName, Means, MeansAt, IsShared, IsGroupNamed}
 use Rattle.ov_graphfile.specs.Groups.{IsGroupFault}
 use Rattle.ov_graphfile.specs.Code.Owners.{IsNumeralAt, IsFirstNamed, AreMarked}
-use Rattle.ov_graphfile.specs.declared.group_fault.GroupFault.TheVariants.{NamedTwice}
+use Rattle.ov_graphfile.specs.declared.group_names_fault.GroupFault.TheVariants.{NamedTwice}
 use Rattle.ov_graphfile.proofs.Tables.{some_one}
 
 -- ---- one part

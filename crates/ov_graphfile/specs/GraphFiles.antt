@@ -16,7 +16,7 @@ use Rattle.ov_graphfile.specs.declared.graph_line.GraphLine.{GraphLine}
 use Rattle.ov_graphfile.specs.declared.graph_line.GraphLine.TheVariants.{Node, Link}
 use Rattle.ov_graphfile.specs.declared.graph_line.LineKind.{LineKind}
 use Rattle.ov_graphfile.specs.declared.graph_line.LineKind.TheVariants as kind
-use Rattle.ov_graphfile.specs.declared.first_faulty_lines.UnreadLines.{UnreadLines}
+use Rattle.ov_graphfile.specs.declared.unread_lines_with_count.UnreadLines.{UnreadLines}
 
 -- ---- lines
 

@@ -5,8 +5,9 @@ use Rattle.std.specs.List.{slice_split}
 use Rattle.ov_ids.specs.Members.{Has, Ascends}
 use Rattle.ov_lines.specs.Lines.{is_comma, words_of, one, short_bits}
 use Rattle.ov_graphfile.specs.NamesState.{NamesState, IsNamed}
-use Rattle.ov_graphfile.specs.declared.group_fault.GroupFault.{GroupFault}
-use Rattle.ov_graphfile.specs.declared.group_fault.GroupFault.TheVariants.{NoSuchName, SharedName, NamedTwice, OutOfMemory}
+use Rattle.ov_graphfile.specs.declared.group_names_fault.GroupFault.{GroupFault}
+use Rattle.ov_graphfile.specs.declared.group_names_fault.GroupFault.TheVariants.{NoSuchName, SharedName, NamedTwice}
+use Rattle.ov_graphfile.specs.declared.group_names_fault.GroupFault.TheVariants.{OutOfMemory}
 
 -- the parts of a text: what stands between its commas
 abbrev pub parts_of : List ℕ → List (List ℕ)

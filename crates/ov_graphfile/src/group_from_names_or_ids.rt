@@ -7,7 +7,7 @@ ghost use Rattle.ov_lines.specs.Lines.{is_comma, one, short_bits, words_of};
 ghost use Rattle.ov_graphfile.specs.Groups.{parts_of, part_at, HasNumeralName, IsGroupNamed, IsGroupFault};
 ghost use Rattle.ov_graphfile.specs.Code.Owners.{IsOwner, IsNumeralAt, IsFirstNamed, AreMarked};
 
-use crate::group_fault::GroupFault;
+use crate::group_names_fault::GroupFault;
 use crate::name_table::Names;
 use ov_graph::Graph;
 use ov_graph::row::{EMPTY, WORDS, first_from, has, put};

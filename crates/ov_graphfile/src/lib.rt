@@ -3,11 +3,10 @@
 #![tactic(auto)]
 
 mod fault;
-mod first_faulty_lines;
 mod graph_line;
 mod graph_reading;
-mod group_fault;
 mod group_from_names_or_ids;
+mod group_names_fault;
 mod line_finding;
 mod line_writing;
 mod name_comment;
@@ -15,15 +14,16 @@ mod name_reading;
 mod name_table;
 mod text_writing;
 mod unique_name_theorem;
+mod unread_lines_with_count;
 
 pub use fault::{GraphFileFault, UnreadLine};
-pub use first_faulty_lines::{UnreadLines, unread_lines};
 pub use graph_line::LINE_NAMES;
 pub use graph_reading::read_graph;
-pub use group_fault::GroupFault;
 pub use group_from_names_or_ids::ids_of_group;
+pub use group_names_fault::GroupFault;
 pub use line_finding::{line_of_link, line_of_node};
 pub use name_reading::read_names;
 pub use name_table::Names;
 pub use text_writing::{graph_text, named_graph_text};
 pub use unique_name_theorem::one_name;
+pub use unread_lines_with_count::{UnreadLines, unread_lines};

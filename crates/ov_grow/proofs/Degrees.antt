@@ -32,7 +32,8 @@ pub least_more :
     → ((b : ℕ) × Has g.nodes b × HasDegree g b n)
     × ((j m : ℕ) → j < i + 1 → HasDegree g (get_or g.nodes j 0) m → n ≤ m)
 least_more g least d n i a graph is within read of_a reached there below =
-    let at = sym (get_or_from_slice_get g.nodes i a 0 (slice_get_read g.nodes (length g.nodes) i a refl within read)) in (
+    let at = sym (get_or_from_slice_get g.nodes i a 0
+    (slice_get_read g.nodes (length g.nodes) i a refl within read)) in (
       elim (cases_lt d least) [
         | inl less ↦ (a, there, subst (HasDegree g a) (omega (arith, less, is)) of_a)
         | inr more ↦ (reached.0, reached.1, subst (HasDegree g reached.0) (omega (arith, more, is)) reached.2)

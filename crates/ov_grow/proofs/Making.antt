@@ -25,7 +25,7 @@ use Rattle.ov_grow.specs.Broadcasts.{BroadcastBy, Broadcasts, BroadcastsBegin, F
 use Rattle.ov_grow.specs.Broadcasts.{FiresIfItRuns}
 use Rattle.ov_grow.specs.Phases.{EndsPhase, IsAnalysedAt, ReportCrashes, ReportTimes, Settle, settling}
 use Rattle.ov_grow.specs.Code.Standing.{AllLive, HaveMade, MayMake, StillLive}
-use Rattle.ov_grow.specs.declared.phase_outcome.Phase.{Phase}
+use Rattle.ov_grow.specs.declared.phase_moment_and_deliveries.Phase.{Phase}
 use Rattle.ov_grow.specs.declared.packet_turn_rules.TurnRules.{TurnRules}
 use Rattle.ov_grow.proofs.Keeping.{Keeps, keeps_same, keeps_trans, lives_still, shuffle_keeps, snapshot_keeps}
 use Rattle.ov_grow.proofs.Keeping.{report_keeps, timer_keeps, turns_keep}

@@ -31,7 +31,7 @@ use Rattle.ov_grow.specs.Phases.{IsCrashedNeighbour, ReportCrashes, ReportTimes,
 use Rattle.ov_grow.specs.Phases.{deliveries_in, healing, joining, settling}
 use Rattle.ov_grow.specs.Phases.{turns_between}
 use Rattle.ov_grow.specs.Growing.{OneGrowth, beginning}
-use Rattle.ov_grow.specs.declared.phase_outcome.Phase.{Phase}
+use Rattle.ov_grow.specs.declared.phase_moment_and_deliveries.Phase.{Phase}
 use Rattle.ov_grow.specs.declared.packet_turn_rules.TurnRules.{TurnRules}
 use Rattle.ov_grow.proofs.OneGrowth.{one_act, one_choice, one_live, one_order, one_run_out, one_turns, one_write}
 

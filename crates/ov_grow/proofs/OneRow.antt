@@ -12,7 +12,7 @@ use Rattle.ov_net.specs.declared.journal_entry_and_changes.Entry.{Entry}
 use Rattle.ov_net.proofs.Links.OneGraph.{links_one}
 use Rattle.ov_snap.specs.CoreState.{CoreState}
 use Rattle.ov_snap.specs.ReportState.{ReportState, IsTrueReport}
-use Rattle.ov_grow.specs.declared.phase_outcome.Phase.{Phase as GrownPhase}
+use Rattle.ov_grow.specs.declared.phase_moment_and_deliveries.Phase.{Phase as GrownPhase}
 use Rattle.ov_grow.proofs.OnePhase.{one_growth}
 use Rattle.ov_sweep_rows.specs.declared.delivered_share.DeliveredShare.{DeliveredShare}
 use Rattle.ov_sweep_rows.specs.declared.row.PhaseRow.{PhaseRow}

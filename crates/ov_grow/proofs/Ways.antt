@@ -18,7 +18,7 @@ use Rattle.ov_grow.specs.Phases.{AreFirst, AreToCrash, Births, CrashNodes, EndsP
 use Rattle.ov_grow.specs.Phases.{ReportCrashes, Settle, deliveries_in, healing, joining, settling, turns_between}
 use Rattle.ov_grow.specs.Code.Standing.{Goes, growth_of}
 use Rattle.ov_grow.specs.declared.growing.Growing.{Growing}
-use Rattle.ov_grow.specs.declared.phase_outcome.Phase.{Phase}
+use Rattle.ov_grow.specs.declared.phase_moment_and_deliveries.Phase.{Phase}
 use Rattle.ov_grow.specs.declared.packet_turn_rules.TurnRules.{TurnRules}
 use Rattle.ov_grow.proofs.Going.{chosen, kept_trans, tried}
 use Rattle.ov_grow.proofs.Turning.{AsLong, Longer, as_long_by, does_longer, entries, longer_by}

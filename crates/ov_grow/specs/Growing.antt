@@ -10,7 +10,7 @@ use Rattle.ov_grow.specs.Growth.{Growth}
 use Rattle.ov_grow.specs.Phases.{Join, Settle, CrashNodes, Heal}
 use Rattle.ov_grow.specs.declared.fault.GrowFault.{GrowFault}
 use Rattle.ov_grow.specs.declared.fault.GrowFault.TheVariants.{OutOfMemory}
-use Rattle.ov_grow.specs.declared.phase_outcome.Phase.{Phase}
+use Rattle.ov_grow.specs.declared.phase_moment_and_deliveries.Phase.{Phase}
 
 -- where growing begins: with the command as a comment, the parameters and the seed, and a world in which nothing
 -- happened

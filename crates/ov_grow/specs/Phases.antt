@@ -19,7 +19,7 @@ use Rattle.ov_grow.specs.Growth.{Growth, Does, Writes, Chooses, SomebodyLives}
 use Rattle.ov_grow.specs.Turns.{TurnsUpTo, RunOut}
 use Rattle.ov_grow.specs.Rounds.{AreLiveInOrder, DoesEach, Rounds}
 use Rattle.ov_grow.specs.Broadcasts.{Broadcasts}
-use Rattle.ov_grow.specs.declared.phase_outcome.Phase.{Phase}
+use Rattle.ov_grow.specs.declared.phase_moment_and_deliveries.Phase.{Phase}
 use Rattle.ov_grow.specs.declared.packet_turn_rules.TurnRules.{TurnRules}
 
 -- how many of these entries tell that a node delivered a message

@@ -10,7 +10,7 @@ ghost use Rattle.ov_grow.specs.Code.Standing.{Goes, HaveMade, HaveNone, IsAnswer
 use crate::fault::GrowFault;
 use crate::growing::Growing;
 use crate::packet_turn_rules::TurnRules;
-use crate::phase_outcome::Phase;
+use crate::phase_moment_and_deliveries::Phase;
 use ov_grow_options::GrowOptions;
 use ov_ids::NodeId;
 use ov_recording::Act;

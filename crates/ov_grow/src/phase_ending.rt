@@ -11,7 +11,7 @@ ghost use Rattle.ov_grow.specs.declared.fault.GrowFault.TheVariants.{OutOfMemory
 use crate::fault::GrowFault;
 use crate::growing::Growing;
 use crate::packet_turn_rules::TurnRules;
-use crate::phase_outcome::Phase;
+use crate::phase_moment_and_deliveries::Phase;
 use ov_recording::Act;
 
 impl Growing {

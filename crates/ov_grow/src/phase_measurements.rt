@@ -4,7 +4,7 @@ ghost use Rattle.ov_graph.specs.Links.{HasNode};
 ghost use Rattle.ov_ids.specs.Members.{Has};
 ghost use Rattle.ov_grow.specs.Rows.{AreNumbersOf, HasDegree, IsLeastDegree};
 
-use crate::phase_outcome::Phase;
+use crate::phase_moment_and_deliveries::Phase;
 use ov_cert::Cert;
 use ov_graph::Graph;
 use ov_ids::NodeId;

@@ -10,7 +10,7 @@ ghost use Rattle.ov_grow.specs.Code.Standing.{Goes, HaveMade, IsAnswered, IsNoWa
 use crate::fault::GrowFault;
 use crate::growing::Growing;
 use crate::packet_turn_rules::TurnRules;
-use crate::phase_outcome::Phase;
+use crate::phase_moment_and_deliveries::Phase;
 use ov_cert::Cert;
 use ov_grow_options::{Crash, GrowOptions, Share};
 use ov_ids::{NodeId, OutOfMemory};

@@ -7,7 +7,7 @@ ghost use Rattle.ov_grow.specs.Rows.{IsRowOf, IsToldOf};
 use crate::fault::GrowFault;
 use crate::overlay_growing::grow;
 use crate::phase_measurements::phase_row;
-use crate::phase_outcome::Phase;
+use crate::phase_moment_and_deliveries::Phase;
 use ov_grow_options::GrowOptions;
 use ov_snap::Core;
 use ov_sweep_rows::{PhaseRow, Row};

@@ -1,7 +1,8 @@
 ghost use Rattle.std.specs.Prelude.{◌≡◌, ◌<◌, ◌+◌, IfErr};
 ghost use Rattle.ov_io.specs.Device.{most_faults};
 ghost use Rattle.ov_grow_commands.specs.Growing.{WasPrinted};
-ghost use Rattle.ov_grow_commands.specs.declared.grow_command_fault.GrowthFault.TheVariants.{Growing, Write as write_failed};
+ghost use Rattle.ov_grow_commands.specs.declared.grow_command_fault.GrowthFault.TheVariants.{Growing};
+ghost use Rattle.ov_grow_commands.specs.declared.grow_command_fault.GrowthFault.TheVariants.{Write as write_failed};
 
 use crate::grow_command_fault::GrowthFault;
 use ov_arguments::GrowRequest;

@@ -1,7 +1,7 @@
 ghost use Rattle.std.specs.Prelude.{◌≡◌};
 ghost use Rattle.ov_grow_commands.specs.GrowFaults.{growth_number};
-ghost use Rattle.ov_grow_commands.specs.declared.grow_command_fault.GrowthFault.TheVariants.{Growing, OutOfMemory as out_of_memory};
-ghost use Rattle.ov_grow_commands.specs.declared.grow_command_fault.GrowthFault.TheVariants.{Write as write_failed};
+ghost use Rattle.ov_grow_commands.specs.declared.grow_command_fault.GrowthFault.TheVariants.{OutOfMemory as no_memory};
+ghost use Rattle.ov_grow_commands.specs.declared.grow_command_fault.GrowthFault.TheVariants.{Growing, Write as write_failed};
 
 use ov_grow::GrowFault;
 use ov_ids::OutOfMemory;
@@ -73,7 +73,7 @@ impl From<WriteFault> for GrowthFault {
 }
 
 impl From<OutOfMemory> for GrowthFault {
-    ghost from_gives = { λ _ e. e ≡ out_of_memory };
+    ghost from_gives = { λ _ e. e ≡ no_memory };
 
     fn from(_fault: OutOfMemory) -> GrowthFault {
         GrowthFault::OutOfMemory
@@ -81,7 +81,7 @@ impl From<OutOfMemory> for GrowthFault {
 }
 
 impl From<AllocError> for GrowthFault {
-    ghost from_gives = { λ _ e. e ≡ out_of_memory };
+    ghost from_gives = { λ _ e. e ≡ no_memory };
 
     fn from(_error: AllocError) -> GrowthFault {
         GrowthFault::OutOfMemory
@@ -89,7 +89,7 @@ impl From<AllocError> for GrowthFault {
 }
 
 impl<T: Drop> From<AllocFailed<T>> for GrowthFault {
-    ghost from_gives = { λ _ e. e ≡ out_of_memory };
+    ghost from_gives = { λ _ e. e ≡ no_memory };
 
     fn from(_error: AllocFailed<T>) -> GrowthFault {
         GrowthFault::OutOfMemory

@@ -3,8 +3,8 @@ use Rattle.std.proofs.Common.{◌≡◌, ◌≢◌, ℕ, zero, suc, ◌+◌, ◌
 use Rattle.std.proofs.Common.{◌∙◌, subst, ⊎_elim, arith}
 use Rattle.std.proofs.lemmas.List.{append-nil}
 use Rattle.ov_ids.specs.ParamsState.{ParamsState}
-use Rattle.ov_snap.specs.declared.driver_log.Mark.{Mark}
-use Rattle.ov_snap.specs.declared.driver_log.Ticket.{Ticket}
+use Rattle.ov_snap.specs.declared.ghost_log_of_drivers.Mark.{Mark}
+use Rattle.ov_snap.specs.declared.ghost_log_of_drivers.Ticket.{Ticket}
 use Rattle.ov_snap.specs.Parts.{hit}
 use Rattle.ov_snap.specs.Logs.{AreBelow, Begins, of_driver}
 use Rattle.ov_hall.specs.Passes.{AllBegin, AreOfHall, first_seen, having_seen, numbers_from, seen_alike, standing_for}

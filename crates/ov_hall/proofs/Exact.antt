@@ -7,7 +7,7 @@ use Rattle.ov_snap.proofs.Keeping.{sound_begun, sound_filed, sound_happened}
 use Rattle.ov_snap.specs.Parts.{Each}
 use Rattle.ov_snap.specs.Logs.{AreBelow, AreSteps, core_after, entry_drivers, report_drivers}
 use Rattle.ov_hall.specs.Theorems.{EveryLogIsExact}
-use Rattle.ov_snap.specs.declared.driver_log.Mark.{Mark}
+use Rattle.ov_snap.specs.declared.ghost_log_of_drivers.Mark.{Mark}
 
 sound_step : (filed : Bool) (b u : CoreState) → IsSound b → Steps filed b u → IsSound u
 sound_step true b u sound s = sound_filed b s.0 u sound s.1

@@ -11,8 +11,8 @@ use Rattle.ov_snap.specs.Logs.{Begins, core_made, mark}
 use Rattle.ov_hall.specs.Passes.{AllBegin, having_seen}
 use Rattle.ov_snap.specs.DriverSteps.{HasFiled, HasLooked, HasStepped, ticket}
 use Rattle.ov_hall.specs.Code.Rules.{first_of}
-use Rattle.ov_snap.specs.declared.driver_log.Mark.{Mark}
-use Rattle.ov_snap.specs.declared.driver_log.Ticket.{Ticket}
+use Rattle.ov_snap.specs.declared.ghost_log_of_drivers.Mark.{Mark}
+use Rattle.ov_snap.specs.declared.ghost_log_of_drivers.Ticket.{Ticket}
 
 -- the seat of a pass: ts before the call, us after it; p is the pass that was handed in, and the log was old
 pub record IsPassCall (d : ℕ) (ts us : List Ticket) (p : Ticket) (old new : List Mark) : Type 0 where

@@ -5,7 +5,7 @@ use Rattle.ov_net.specs.declared.journal_entry_and_changes.Entry.{Entry}
 use Rattle.ov_snap.specs.CoreState.{CoreState, KeepsReports, opening_core}
 use Rattle.ov_snap.specs.Logs.{AreSteps, core_after, core_made, entry_drivers, report_drivers}
 use Rattle.ov_hall.specs.Theorems.{WhatIsSeenStays}
-use Rattle.ov_snap.specs.declared.driver_log.Mark.{Mark}
+use Rattle.ov_snap.specs.declared.ghost_log_of_drivers.Mark.{Mark}
 use Rattle.ov_snap.proofs.DriverLogs.{Steps, core_append, steps_behind}
 
 maker_first : (filed : Bool) (d : ℕ) (all xs ys : List ℕ) → all ≡ xs ++ ys

@@ -7,8 +7,8 @@ use Rattle.ov_snap.specs.CoreState.{CoreState, opening_core}
 use Rattle.ov_snap.specs.Filing.{WasFiled}
 use Rattle.ov_snap.specs.ReportState.{ReportState}
 use Rattle.ov_snap.specs.Run.{Happened}
-use Rattle.ov_snap.specs.declared.driver_log.Mark.{Mark}
-use Rattle.ov_snap.specs.declared.driver_log.Ticket.{Ticket}
+use Rattle.ov_snap.specs.declared.ghost_log_of_drivers.Mark.{Mark}
+use Rattle.ov_snap.specs.declared.ghost_log_of_drivers.Ticket.{Ticket}
 use Rattle.ov_snap.specs.Logs.{AreBelow, core_made, mark}
 use Rattle.ov_hall.specs.Passes.{AllBegin, first_seen, having_seen, seen_alike}
 use Rattle.ov_hall.proofs.Alike.{sole_after, sole_before, sole_first, sole_seen}

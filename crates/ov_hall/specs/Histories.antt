@@ -6,7 +6,7 @@ use Rattle.ov_snap.specs.CoreState.{CoreState}
 use Rattle.ov_snap.specs.Logs.{IsLog, core_made, entry_drivers, report_drivers}
 use Rattle.ov_snap.specs.Parts.{Each}
 use Rattle.ov_snap.specs.ReportState.{IsTrueReport, ReportState}
-use Rattle.ov_snap.specs.declared.driver_log.Mark.{Mark}
+use Rattle.ov_snap.specs.declared.ghost_log_of_drivers.Mark.{Mark}
 
 -- What is exact of a core and its two lists of drivers. What each filed report says is true. Each entry of the journal
 -- has a driver, and each report has one, in order; all of them are drivers of the hall

@@ -9,8 +9,8 @@ use Rattle.ov_snap.specs.CoreState.{opening_core}
 use Rattle.ov_snap.specs.Parts.{Each, hit, total}
 use Rattle.ov_snap.specs.DriverSteps.{ticket}
 use Rattle.ov_snap.specs.Logs.{AreSteps, Begins}
-use Rattle.ov_snap.specs.declared.driver_log.Mark.{Mark}
-use Rattle.ov_snap.specs.declared.driver_log.Ticket.{Ticket}
+use Rattle.ov_snap.specs.declared.ghost_log_of_drivers.Mark.{Mark}
+use Rattle.ov_snap.specs.declared.ghost_log_of_drivers.Ticket.{Ticket}
 
 -- which hall it is, and of how many drivers
 pub record HallId : Type 0 where

@@ -5,7 +5,7 @@ use Rattle.ov_net.specs.declared.journal_entry_and_changes.Entry.{Entry}
 use Rattle.ov_snap.specs.CoreState.{KeepsReports}
 use Rattle.ov_hall.specs.Histories.{IsExact}
 use Rattle.ov_snap.specs.Logs.{IsLog, core_made, entry_drivers, report_drivers}
-use Rattle.ov_snap.specs.declared.driver_log.Mark.{Mark}
+use Rattle.ov_snap.specs.declared.ghost_log_of_drivers.Mark.{Mark}
 
 -- for every log, so for what each pass has seen: the core that it makes is exact, with the drivers that the log names
 abbrev pub EveryLogIsExact : Type 0

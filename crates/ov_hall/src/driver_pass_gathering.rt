@@ -7,7 +7,7 @@ ghost use Rattle.ov_hall.specs.Passes.{AllBegin, AreDrivers};
 use crate::driver_passes::Pass;
 use crate::ghost_log_rule::HallName;
 use crate::hall_at_rest::Whole;
-use crate::shared_hall::{Gathered, Hall};
+use crate::core_shared_by_drivers::{Gathered, Hall};
 use thiserror::Error;
 
 /// Why a hall is not gathered.

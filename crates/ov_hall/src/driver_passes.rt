@@ -15,7 +15,7 @@ pub struct Stand<N: HallName> {
 
 impl<N: HallName> Model for Stand<N> {
     ghost use Rattle.std.specs.Prelude.{◌≡◌, List, []};
-    ghost use Rattle.ov_snap.specs.declared.driver_log.Ticket.{Ticket};
+    ghost use Rattle.ov_snap.specs.declared.ghost_log_of_drivers.Ticket.{Ticket};
     ghost use Rattle.ov_hall.specs.Passes.{AreOfHall};
     ghost use Rattle.ov_hall.specs.Code.Codes.{tickets_code};
     ghost use Rattle.ov_hall.specs.Code.Rules.{standing};
@@ -100,7 +100,7 @@ pub struct Pass<N: HallName> {
 
 impl<N: HallName> Model for Pass<N> {
     ghost use Rattle.std.specs.Prelude.{◌≡◌, [], ◌∷◌};
-    ghost use Rattle.ov_snap.specs.declared.driver_log.Ticket.{Ticket};
+    ghost use Rattle.ov_snap.specs.declared.ghost_log_of_drivers.Ticket.{Ticket};
     ghost use Rattle.ov_snap.specs.DriverSteps.{ticket};
     ghost use Rattle.ov_hall.specs.Code.Codes.{ticket_code};
     ghost use Rattle.ov_hall.specs.Code.Rules.{first_of};

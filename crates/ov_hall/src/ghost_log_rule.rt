@@ -46,7 +46,7 @@ impl HallName for Brand {
 /// A log that a step writes.
 pub trait Log {
     ghost use Rattle.std.specs.Prelude.{List};
-    ghost use Rattle.ov_snap.specs.declared.driver_log.Mark.{Mark};
+    ghost use Rattle.ov_snap.specs.declared.ghost_log_of_drivers.Mark.{Mark};
 
     ghost log: { List Mark };
 }

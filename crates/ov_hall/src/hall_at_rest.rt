@@ -15,7 +15,7 @@ use crate::ghost_log_rule::{HallName, Law, Leave};
 use crate::ghost_views::View;
 use crate::hall_opening::Opening;
 use crate::locked_state::State;
-use crate::shared_hall::{Gathered, Hall};
+use crate::core_shared_by_drivers::{Gathered, Hall};
 use atomic_table::Table;
 use ov_ids::Params;
 use ov_net::{Entry, Event, NetFault};
@@ -39,7 +39,7 @@ impl<N: HallName> Model for Whole<N> {
     ghost use Rattle.std.specs.Prelude.{◌≡◌, ◌<◌, List};
     ghost use Rattle.ov_hall.specs.Code.Codes.{log_code};
     ghost use Rattle.ov_hall.specs.Passes.{first_seen, seen_alike};
-    ghost use Rattle.ov_snap.specs.declared.driver_log.Mark.{Mark};
+    ghost use Rattle.ov_snap.specs.declared.ghost_log_of_drivers.Mark.{Mark};
 
     ghost Value = { List Mark };
 

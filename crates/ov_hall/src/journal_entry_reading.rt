@@ -5,7 +5,7 @@ ghost use Rattle.ov_hall.specs.Passes.{IsEntryOf};
 
 use crate::driver_passes::Pass;
 use crate::ghost_log_rule::HallName;
-use crate::shared_hall::Hall;
+use crate::core_shared_by_drivers::Hall;
 use ov_ids::OutOfMemory;
 use ov_net::Entry;
 use ov_snap::Core;

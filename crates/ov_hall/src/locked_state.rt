@@ -29,7 +29,7 @@ pub struct State<N: HallName> {
 
 impl<N: HallName> Model for State<N> {
     ghost use Rattle.std.specs.Prelude.{◌≡◌, List, []};
-    ghost use Rattle.ov_snap.specs.declared.driver_log.Mark.{Mark};
+    ghost use Rattle.ov_snap.specs.declared.ghost_log_of_drivers.Mark.{Mark};
     ghost use Rattle.ov_hall.specs.Histories.{IsHistory};
     ghost use Rattle.ov_hall.specs.Code.Codes.{log_code};
     ghost use Rattle.ov_hall.specs.Code.Rules.{keeper, log_in};

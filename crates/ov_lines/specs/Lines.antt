@@ -1,6 +1,7 @@
 -- The lines of a file that count, the words of a line, and the numbers that words spell. These words are pieces of the
 -- line, and not random words. The form of the files is chosen here.
-use Rattle.std.specs.Prelude.{ℕ, ◌+◌, ◌-◌, ◌^◌, Bool, true, not, IsTrue, nat_lt, nat_le, nat_eq, ◌&&◌, List, [], ◌∷◌, ◌++◌}
+use Rattle.std.specs.Prelude.{ℕ, ◌+◌, ◌-◌, ◌^◌, Bool, true, not, IsTrue, nat_lt, nat_le, nat_eq, ◌&&◌, List, [], ◌∷◌}
+use Rattle.std.specs.Prelude.{◌++◌}
 use Rattle.std.specs.Prelude.{length, take, drop, codes, Option, Some, None, unwrap_or, if◌then◌else◌}
 use Rattle.std.specs.List.{filter, position, position_or_len, before_first, after_first, slice_split, starts_with}
 use Rattle.std.specs.Cmp.Lexicographic.{pointwise}

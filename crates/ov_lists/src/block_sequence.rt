@@ -132,8 +132,8 @@ pub fn begin<T>(full: &mut Vec<Block<T>>, last: &mut Block<T>, spare: &mut Vec<B
     }
 }
 
-/// For how many blocks to reserve memory, if the list is to have `blocks` in all but for the last one: `wanted`, or more
-/// than any memory holds if the items of so many blocks could not be counted in a `usize`.
+/// For how many blocks to reserve memory, if the list is to have `blocks` in all but for the last one: `wanted`, or
+/// more than any memory holds if the items of so many blocks could not be counted in a `usize`.
 pub fn countable(blocks: usize, wanted: usize) -> usize
     requires { blocks < 2 ^ 64 - 1 }
     ensures asked { wanted ≤ result }

@@ -27,7 +27,8 @@ use Rattle.ov_recording.specs.Code.Writing.{IsShort}
 use Rattle.ov_recording.specs.declared.recordable_event.Act.{Act}
 use Rattle.ov_recording.proofs.OneLine.{comment_clean, comment_skipped, ends_line, kept_last, kept_skipped}
 use Rattle.ov_recording.proofs.Statements.{act_said, analysis_said}
-use Rattle.ov_recording.proofs.Telling.{analysis_right, drivers_more, event_right, faultless_more, left_more, params_more}
+use Rattle.ov_recording.proofs.Telling.{analysis_right, drivers_more, event_right, faultless_more, left_more}
+use Rattle.ov_recording.proofs.Telling.{params_more}
 use Rattle.ov_recording.proofs.Telling.{plain_more, run_more, seed_more}
 
 -- ---- the lines that are not skipped

@@ -2,14 +2,14 @@
 //! the same.
 #![tactic(auto)]
 
+mod core_with_script;
 mod line_writing;
 mod recordable_event;
-mod recording;
 mod replay_theorem;
 mod report_making;
 mod script;
 
+pub use core_with_script::{Recorded, Recording};
 pub use recordable_event::Act;
-pub use recording::{Recorded, Recording};
 pub use replay_theorem::every_run_refuses_nothing;
 pub use script::{LINE_ROOM, Script};

@@ -9,7 +9,7 @@ ghost use Rattle.ov_scenario.specs.Scenarios.{IsScenario};
 ghost use Rattle.ov_snap.specs.CoreState.{opening_core};
 ghost use Rattle.ov_run_meaning.specs.declared.strictness.Strictness.TheVariants.{Lenient};
 
-use crate::hall_of_run::RunHall;
+use crate::hall_outside_sections::RunHall;
 use crate::line_running::run_lines;
 use crate::run_watcher::{RunWatcher, Unwatched};
 use ov_hall::{HallName, Opening};

@@ -2,7 +2,7 @@
 #![tactic(auto)]
 
 mod engine;
-mod hall_of_run;
+mod hall_outside_sections;
 mod line_outcome;
 mod line_running;
 mod recent_reports;

@@ -11,7 +11,7 @@ ghost use Rattle.ov_run.specs.Code.Jobs.{HasDrivers};
 ghost use Rattle.ov_scenario.specs.RunLines.{drivers_for};
 ghost use Rattle.ov_scenario.specs.declared.scenario.Line.TheVariants as kind;
 
-use crate::hall_of_run::RunHall;
+use crate::hall_outside_sections::RunHall;
 use crate::line_outcome::{BlockTold, Came, ToldLine, write_rest};
 use crate::recent_reports::RecentReports;
 use crate::report_filing::file_analysis;

@@ -10,7 +10,7 @@ ghost use Rattle.ov_run_meaning.specs.Printed.{report_line};
 ghost use Rattle.ov_run_meaning.specs.Subjects.{members_of, IsReportOf, AnalysisJudged, WasAnalysed};
 ghost use Rattle.ov_snap.specs.declared.core_fault.CoreFault.TheVariants.{OutOfMemory as out_of_memory};
 
-use crate::hall_of_run::RunHall;
+use crate::hall_outside_sections::RunHall;
 use crate::recent_reports::RecentReports;
 use ov_crew::{OpenGate, analyse_group_watched};
 use ov_even::Unwatched;

@@ -3,7 +3,7 @@ ghost use Rattle.std.specs.Prelude.{◌≡◌, ◌≤◌, ◌<◌, ◌+◌, [], 
 ghost use Rattle.ov_run_meaning.specs.Sections.{RunTogether, accepted_in, refused_in};
 ghost use Rattle.ov_run.specs.Code.Jobs.{HaveRun, jobs_of, joined};
 
-use crate::hall_of_run::RunHall;
+use crate::hall_outside_sections::RunHall;
 use crate::line_outcome::{ToldLine, count_accepted};
 use crate::section_jobs_by_thread::{Shift, in_one_list, run_shift, run_shifts, shifts_of};
 use crate::section_running::{Job, Ran, Section};
@@ -74,9 +74,9 @@ fn jobs_of<'a, N: HallName>(
     Ok(jobs)
 }
 
-/// Does each job. If two of them have lines, those with lines are done at once, each in a thread of its own, in which the
-/// jobs without lines that follow it are done too; otherwise all are done here, and no thread is started. Returns the
-/// results in order.
+/// Does each job. If two of them have lines, those with lines are done at once, each in a thread of its own, in which
+/// the jobs without lines that follow it are done too; otherwise all are done here, and no thread is started. Returns
+/// the results in order.
 fn run_jobs<'a, N: HallName + Send + Sync, T: Threads + Wait + Sync>(
     rt: &T,
     alloc: Global,

@@ -3,7 +3,7 @@
 #![tactic(auto)]
 
 mod line_progress;
-mod refusal_watcher;
+mod refusal_reason_printing;
 mod refusals_and_progress;
 mod run_command;
 mod run_with_buffered_output;

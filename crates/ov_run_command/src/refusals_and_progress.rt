@@ -1,5 +1,5 @@
 use crate::line_progress::LineProgress;
-use crate::refusal_watcher::Explaining;
+use crate::refusal_reason_printing::Explaining;
 use ov_arguments::RunRequest;
 use ov_run::{RanLine, RunWatcher};
 use ov_run_meaning::Refusal;

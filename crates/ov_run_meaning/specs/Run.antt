@@ -21,8 +21,8 @@ pub record IsRunOf {W : Type 0} (strictness : Strictness) (reader : Option (List
   pub status : IfOk result (λ status. status ≡ 0)
   -- without fault, the writer took what the scenario prints after what it held, and nothing else
   pub prints : OnOk result (PrintsScenario reader (contents sink_before.writer) (contents sink_after.writer))
-  -- however it ends, the sink is as before, or the writer took a prefix of what the scenario prints up to some point; of
-  -- a strict run each line before it was accepted
+  -- however it ends, the sink is as before, or the writer took a prefix of what the scenario prints up to some point;
+  -- of a strict run each line before it was accepted
   pub begun : (sink_after ≡ sink_before)
       ⊎ Begins strictness reader (contents sink_before.writer) (contents sink_after.writer)
   -- after Write the sink counts one more fault, otherwise the same number as before

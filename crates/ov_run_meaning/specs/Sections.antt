@@ -17,8 +17,8 @@ use Rattle.ov_snap.specs.declared.kept_snapshots.Snapshot.{Snapshot}
 use Rattle.ov_snap.specs.Logs.{Begins, IsLog, core_made, of_driver}
 use Rattle.ov_snap.specs.Parts.{total}
 use Rattle.ov_snap.specs.DriverSteps.{HasBegun, HasFiled, HasLooked, HasStepped, ticket}
-use Rattle.ov_snap.specs.declared.driver_log.Mark.{Mark}
-use Rattle.ov_snap.specs.declared.driver_log.Ticket.{Ticket}
+use Rattle.ov_snap.specs.declared.ghost_log_of_drivers.Mark.{Mark}
+use Rattle.ov_snap.specs.declared.ghost_log_of_drivers.Ticket.{Ticket}
 use Rattle.ov_run_meaning.specs.declared.line_run_outcome.Outcome.{Outcome}
 use Rattle.ov_run_meaning.specs.declared.line_run_outcome.Outcome.TheVariants.{Accepted, Refused}
 use Rattle.ov_run_meaning.specs.declared.refusal.Refusal.{Refusal}

@@ -190,8 +190,8 @@ AreFirstFaulty bytes most faulty = (all : List FaultyLine) × AreFaultyLines byt
 abbrev pub AreFaultless : List Stated → Type 0
 AreFaultless lines = AreFaulty [] lines []
 
--- of these lines, which follow those before, this is the first that is at fault, with its fault: it is the first line, or
--- the first line has no fault and is passed over
+-- of these lines, which follow those before, this is the first that is at fault, with its fault: it is the first line,
+-- or the first line has no fault and is passed over
 unfoldable pub IsFirstAfter : List Stated → List Stated → FaultyLine → Type 0
 IsFirstAfter before [] first = ⊥
 IsFirstAfter before (line ∷ after) first =

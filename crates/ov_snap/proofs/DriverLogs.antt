@@ -7,7 +7,7 @@ use Rattle.ov_snap.specs.Filing.{WasFiled}
 use Rattle.ov_snap.specs.Logs.{AreSteps, core_after}
 use Rattle.ov_snap.specs.ReportState.{ReportState}
 use Rattle.ov_snap.specs.Run.{Happened}
-use Rattle.ov_snap.specs.declared.driver_log.Mark.{Mark}
+use Rattle.ov_snap.specs.declared.ghost_log_of_drivers.Mark.{Mark}
 
 -- a step, for a mark whose kind is said
 abbrev pub Steps : Bool → CoreState → CoreState → Type 0

@@ -13,8 +13,8 @@ use Rattle.ov_snap.specs.Logs.{Begins, core_made, mark}
 use Rattle.ov_snap.specs.Refusals.{BeginJudged, GroupBeginJudged}
 use Rattle.ov_snap.specs.ReportState.{ReportState}
 use Rattle.ov_snap.specs.Run.{Happened, zero_words}
-use Rattle.ov_snap.specs.declared.driver_log.Mark.{Mark}
-use Rattle.ov_snap.specs.declared.driver_log.Ticket.{Ticket}
+use Rattle.ov_snap.specs.declared.ghost_log_of_drivers.Mark.{Mark}
+use Rattle.ov_snap.specs.declared.ghost_log_of_drivers.Ticket.{Ticket}
 use Rattle.ov_snap.specs.declared.kept_snapshots.Snapshot.{Snapshot}
 
 -- the driver d, and what it has seen

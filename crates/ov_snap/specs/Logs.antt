@@ -10,7 +10,7 @@ use Rattle.ov_snap.specs.Filing.{WasFiled}
 use Rattle.ov_snap.specs.ReportState.{IsTrueReport, ReportState}
 use Rattle.ov_snap.specs.Run.{Happened}
 use Rattle.ov_snap.specs.Parts.{Each, hit, total}
-use Rattle.ov_snap.specs.declared.driver_log.Mark.{Mark}
+use Rattle.ov_snap.specs.declared.ghost_log_of_drivers.Mark.{Mark}
 
 -- the mark of driver d, who filed a report or made an event happen, and left this core
 abbrev pub mark : ℕ → Bool → CoreState → Mark

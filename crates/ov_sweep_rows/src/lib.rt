@@ -4,6 +4,7 @@
 
 mod columns;
 mod confidence_interval;
+mod csv_field_reading;
 mod delivered_share;
 mod phase_summary;
 mod picture;
@@ -13,7 +14,6 @@ mod plot_dots;
 mod plot_panel;
 mod row;
 mod row_fault;
-mod row_fields;
 mod row_reading;
 mod row_writing;
 mod runs_by_setting;

@@ -5,7 +5,7 @@ ghost use Rattle.ov_sweep_rows.specs.Code.Fields.{text_at, SayOptions, SayParams
 ghost use Rattle.ov_sweep_rows.specs.Code.Fields.{SpellsDelivered, SpellsOrder, SpellsPace};
 
 use crate::columns::COLUMNS;
-use crate::row_fields::{RowFields, short_number};
+use crate::csv_field_reading::{RowFields, short_number};
 use crate::{DeliveredShare, FieldForm, PhaseRow, Row, RowFault};
 use csv::{ByteRecord, ReaderBuilder};
 use ov_grow_options::{Chance, Count, Crash, GrowOptions, NodeCount, Order, Pace, Share};

@@ -1,6 +1,6 @@
 -- Passes that come back in order are of the same drivers.
 use Rattle.std.proofs.Common.{◌≡◌, ℕ, suc, ◌<◌, List, [], ◌∷◌, length, map, slice_index_or, arith, refl}
-use Rattle.ov_snap.specs.declared.driver_log.Ticket.{Ticket}
+use Rattle.ov_snap.specs.declared.ghost_log_of_drivers.Ticket.{Ticket}
 
 pub same_drivers : (ps qs : List Ticket) → length qs ≡ length ps
     → ((k : ℕ) (p q : Ticket) → k < length ps → (slice_index_or qs k q).driver ≡ (slice_index_or ps k p).driver)

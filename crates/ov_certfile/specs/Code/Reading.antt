@@ -18,7 +18,7 @@ use Rattle.ov_certfile.specs.declared.fault.FileFault.TheVariants.{NotJson, Miss
 use Rattle.ov_certfile.specs.declared.fault.FileFault.TheVariants.{BadVersion, Graph, OutOfMemory}
 use Rattle.ov_certfile.specs.declared.version.Version.{Version}
 use Rattle.ov_certfile.specs.declared.version.Version.TheVariants.{One, Two}
-use Rattle.ov_certfile.specs.declared.verdict.Verdict.{Verdict}
+use Rattle.ov_certfile.specs.declared.linked_or_split.Verdict.{Verdict}
 use Rattle.ov_certfile.specs.declared.reading.Listed.{Listed}
 
 -- the fault is that the value lacks the form, and P holds; or it is out of memory

@@ -5,7 +5,7 @@ use Rattle.std.proofs.lemmas.List.{length-map, length-take, map-append, take-app
 use Rattle.ov_graphfile.specs.GraphFiles.{AreFirstOf, graph_line, graph_lines, most_counted, unread_lines}
 use Rattle.ov_graphfile.specs.declared.fault.UnreadLine.{UnreadLine}
 use Rattle.ov_graphfile.specs.declared.graph_line.GraphLine.{GraphLine}
-use Rattle.ov_graphfile.specs.declared.first_faulty_lines.UnreadLines.{UnreadLines}
+use Rattle.ov_graphfile.specs.declared.unread_lines_with_count.UnreadLines.{UnreadLines}
 use Rattle.ov_graphfile.proofs.GraphFiles.Numbers.{left_where, holding, other, none_left}
 use Rattle.ov_lines.specs.Lines.{kept_lines}
 

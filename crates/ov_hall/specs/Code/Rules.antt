@@ -6,8 +6,8 @@ use Rattle.ov_ids.specs.ParamsState.{ParamsState, params_of}
 use Rattle.ov_snap.specs.Logs.{of_driver}
 use Rattle.ov_hall.specs.Passes.{AllBegin, having_seen, seen_alike, standing_for}
 use Rattle.ov_snap.specs.DriverSteps.{ticket}
-use Rattle.ov_snap.specs.declared.driver_log.Mark.{Mark}
-use Rattle.ov_snap.specs.declared.driver_log.Ticket.{Ticket}
+use Rattle.ov_snap.specs.declared.ghost_log_of_drivers.Mark.{Mark}
+use Rattle.ov_snap.specs.declared.ghost_log_of_drivers.Ticket.{Ticket}
 use Rattle.ov_hall.specs.declared.ghost_views.View.{View}
 
 -- the name of no table

@@ -7,8 +7,8 @@ use Rattle.ov_snap.specs.Logs.{AreBelow, Begins, IsLog, core_made, of_driver}
 use Rattle.ov_snap.specs.Parts.{hit}
 use Rattle.ov_hall.specs.Passes.{AllBegin, numbers_from, seen_alike}
 use Rattle.ov_snap.specs.DriverSteps.{ticket}
-use Rattle.ov_snap.specs.declared.driver_log.Mark.{Mark}
-use Rattle.ov_snap.specs.declared.driver_log.Ticket.{Ticket}
+use Rattle.ov_snap.specs.declared.ghost_log_of_drivers.Mark.{Mark}
+use Rattle.ov_snap.specs.declared.ghost_log_of_drivers.Ticket.{Ticket}
 use Rattle.ov_hall.proofs.Alike.{same_rest}
 use Rattle.ov_hall.proofs.Counting.{hits}
 use Rattle.ov_run_meaning.specs.Sections.{RunSections, RunTogether, ToldLine}

@@ -4,7 +4,7 @@ use Rattle.std.proofs.Common.{append_assoc, flat_map, map, sym, subst, arith}
 use Rattle.std.proofs.Common.{MatchOption, Option, None, Some, unwrap_or}
 use Rattle.std.proofs.lemmas.List.{append-nil}
 use Rattle.ov_ids.specs.ParamsState.{ParamsState}
-use Rattle.ov_snap.specs.declared.driver_log.Ticket.{Ticket}
+use Rattle.ov_snap.specs.declared.ghost_log_of_drivers.Ticket.{Ticket}
 use Rattle.ov_run.specs.Code.Jobs.{HasRun, HaveAllRun, HaveRun, Job, Ran, jobs_of}
 use Rattle.ov_scenario.specs.Sections.{SectionLine}
 

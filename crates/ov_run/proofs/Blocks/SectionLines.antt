@@ -11,8 +11,8 @@ use Rattle.ov_snap.specs.declared.core_fault.CoreFault.TheVariants.{OutOfMemory}
 use Rattle.ov_snap.specs.declared.kept_snapshots.Snapshot.{Snapshot}
 use Rattle.ov_snap.specs.Logs.{core_made, mark}
 use Rattle.ov_snap.specs.DriverSteps.{HasBegun, HasFiled, HasLooked}
-use Rattle.ov_snap.specs.declared.driver_log.Mark.{Mark}
-use Rattle.ov_snap.specs.declared.driver_log.Ticket.{Ticket}
+use Rattle.ov_snap.specs.declared.ghost_log_of_drivers.Mark.{Mark}
+use Rattle.ov_snap.specs.declared.ghost_log_of_drivers.Ticket.{Ticket}
 use Rattle.ov_run_meaning.specs.Sections.{HasAnalysed, IsAccepted, IsRefused, IsRefusedAnalysis, IsReportOn, RunsLine}
 use Rattle.ov_run_meaning.specs.Sections.{RunsSection, ToldLine, is_event, told_of}
 use Rattle.ov_run_meaning.specs.declared.line_run_outcome.Outcome.{Outcome}

@@ -71,7 +71,8 @@ module _ {W : Type 0} (strictness : Strictness) (bytes : List ℕ) (contents : W
   }
 
   -- at a refused line
-  at_a_refusal : Begins strictness (Some bytes) (contents sink.writer) (contents sink'.writer) → sink'.faults ≡ sink.faults + 0
+  at_a_refusal : Begins strictness (Some bytes) (contents sink.writer) (contents sink'.writer)
+      → sink'.faults ≡ sink.faults + 0
       → (n : ℕ) (refusal : Refusal) → strictness ≡ Strict
       → StopsScenario (Some bytes) n refusal (contents sink.writer) (contents sink'.writer)
       → IsRunOf strictness (Some bytes) contents sink sink' (Err (Refused n refusal))

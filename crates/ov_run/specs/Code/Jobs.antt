@@ -1,7 +1,7 @@
 -- The jobs of the drivers in a block, and what came of each.
 use Rattle.std.specs.Prelude.{ℕ, ◌≤◌, List, [], ◌∷◌, flat_map, length}
 use Rattle.ov_ids.specs.ParamsState.{ParamsState}
-use Rattle.ov_snap.specs.declared.driver_log.Ticket.{Ticket}
+use Rattle.ov_snap.specs.declared.ghost_log_of_drivers.Ticket.{Ticket}
 use Rattle.ov_run_meaning.specs.Sections.{RunsSection, ToldLine}
 use Rattle.ov_scenario.specs.Sections.{SectionLine}
 use Rattle.ov_scenario.specs.declared.scenario.Line.{Line}

@@ -5,7 +5,7 @@ use Rattle.ov_snap.specs.Run.{TakesAll}
 use Rattle.ov_snap.specs.declared.core_steps.CoreStep.{CoreStep}
 use Rattle.ov_snap.specs.declared.core_steps.CoreStep.TheVariants.{Net, File}
 use Rattle.ov_snap.specs.Logs.{AreSteps, core_after, core_made}
-use Rattle.ov_snap.specs.declared.driver_log.Mark.{Mark}
+use Rattle.ov_snap.specs.declared.ghost_log_of_drivers.Mark.{Mark}
 use Rattle.ov_snap.proofs.DriverLogs.{Steps}
 use Rattle.ov_snap.proofs.DriverLogs.{core_append, steps_behind}
 use Rattle.ov_run_meaning.specs.Sections.{RunTogether, ToldLine}

@@ -4,4 +4,5 @@ use Rattle.ov_shuffle.proofs.on_reply.Goals as goal
 
 pub integrate-requires : goal.integrate-requires
 integrate-requires c =
-    words_integrate c.args.views.now c.args.ids.now c.as_slice.result.now c.args.draws.now (omega (arith, c.requires.words, c.requires.ids))
+    words_integrate c.args.views.now c.args.ids.now c.as_slice.result.now c.args.draws.now
+    (omega (arith, c.requires.words, c.requires.ids))

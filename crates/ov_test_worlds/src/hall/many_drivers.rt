@@ -1,6 +1,6 @@
 //! As many drivers as a hall can have.
 ghost use Rattle.std.specs.Prelude.{◌≡◌, IfOk, map};
-ghost use Rattle.ov_snap.specs.declared.driver_log.Ticket.{Ticket};
+ghost use Rattle.ov_snap.specs.declared.ghost_log_of_drivers.Ticket.{Ticket};
 
 use ov_hall::{Hall, HallName, Opening, Pass, Whole};
 use ov_ids::{NodeId, OutOfMemory, Params};

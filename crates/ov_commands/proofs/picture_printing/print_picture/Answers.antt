@@ -11,8 +11,8 @@ use Rattle.ov_commands.proofs.picture_printing.print_picture.Goals as goal
 pub returns-in-Err-clause-printed : goal.returns-in-Err-clause-printed
 returns-in-Err-clause-printed g c =
     undrawn c.args.bytes.now (option_map (λ file. file.now) c.args.names) (chosen_entry c.args.request.now.entry)
-    c.args.request.now.dot g.W.Write.contents c.args.sink.now.writer c.in_ok-filed.filed c.in-Err.fault c.not_drawn.result
-    c.in_ok-filed.ensures.held
+    c.args.request.now.dot g.W.Write.contents c.args.sink.now.writer c.in_ok-filed.filed c.in-Err.fault
+    c.not_drawn.result c.in_ok-filed.ensures.held
     (subst (λ e. IsRefusedBy drawing.OutOfMemory (PictureJudged c.in_ok-filed.filed.cert e) c.in-Err.fault)
     c.chosen.ensures c.in-Err.ensures.judged)
     c.not_drawn.ensures.memory c.not_drawn.ensures.entry
@@ -21,7 +21,8 @@ pub returns-clause-printed : goal.returns-clause-printed
 returns-clause-printed g c =
     let f = c.in_ok-filed.filed in
     unnamed c.args.bytes.now (option_map (λ file. file.now) c.args.names) (chosen_entry c.args.request.now.entry)
-    c.args.request.now.dot g.W.Write.contents c.args.sink.now.writer f c.in-Err-picture_text.fault c.in_ok-filed.ensures.held
+    c.args.request.now.dot g.W.Write.contents c.args.sink.now.writer f c.in-Err-picture_text.fault
+    c.in_ok-filed.ensures.held
     (subst (λ e. shown_paths f.cert e ≢ None) c.chosen.ensures
     (has_entry f.cert c.chosen.result c.in-Ok.ensures.judged))
     c.in-Err-picture_text.ensures.named

@@ -5,7 +5,7 @@ use Rattle.std.proofs.lemmas.List.{length-map, get_or_default}
 use Rattle.ov_graph.specs.Links.{LinkGraph}
 use Rattle.ov_graph.specs.Paths.{node_at}
 use Rattle.ov_graphfile.specs.Groups.{Means, IsNobodys, IsShared, IsGroupFault}
-use Rattle.ov_graphfile.specs.declared.group_fault.GroupFault.TheVariants.{NamedTwice}
+use Rattle.ov_graphfile.specs.declared.group_names_fault.GroupFault.TheVariants.{NamedTwice}
 use Rattle.ov_graphfile.proofs.Meanings.{none_marked, marked_more, named_twice}
 use Rattle.ov_graphfile.proofs.group_from_names_or_ids.marked_members.Goals as goal
 

@@ -1,4 +1,5 @@
--- with the lines at fault that are left, those so far are all lines at fault; the first of them are kept, and all counted
+-- with the lines at fault that are left, those so far are all lines at fault; the first of them are kept, and all
+-- counted
 use Rattle.std.proofs.Common.{length}
 use Rattle.ov_scenario.specs.Scenarios.{stated_lines}
 use Rattle.ov_scenario.proofs.Scenarios.Counted.{CountedSoFar}

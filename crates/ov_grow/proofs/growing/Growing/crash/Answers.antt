@@ -3,7 +3,7 @@ use Rattle.std.proofs.lemmas.Result.{IfErr-weaker, IfOk-weaker}
 use Rattle.ov_grow.specs.Phases.{CrashNodes, EndsPhase}
 use Rattle.ov_grow.specs.Code.Standing.{Goes, HaveMade, IsNoWay, MayCrash, StillLive, growth_of}
 use Rattle.ov_grow.specs.declared.fault.GrowFault.TheVariants.{OutOfMemory}
-use Rattle.ov_grow.specs.declared.phase_outcome.Phase.{Phase}
+use Rattle.ov_grow.specs.declared.phase_moment_and_deliveries.Phase.{Phase}
 use Rattle.ov_grow.proofs.Analysing.{answered_kept}
 use Rattle.ov_grow.proofs.Going.{passes_on}
 use Rattle.ov_grow.proofs.NoPhase.{no_way_crash, no_way_crashed}

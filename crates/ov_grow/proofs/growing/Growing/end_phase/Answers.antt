@@ -1,7 +1,7 @@
 use Rattle.std.proofs.Common.{arith}
 use Rattle.ov_grow.specs.Phases.{EndsPhase}
 use Rattle.ov_grow.specs.Code.Standing.{IsNoWay, growth_of}
-use Rattle.ov_grow.specs.declared.phase_outcome.Phase.{Phase}
+use Rattle.ov_grow.specs.declared.phase_moment_and_deliveries.Phase.{Phase}
 use Rattle.ov_grow.proofs.Analysing.{answered_kept}
 use Rattle.ov_grow.proofs.Going.{passes_on}
 use Rattle.ov_grow.proofs.NoPhase.{no_way_analysed, no_way_ending}

@@ -1,7 +1,7 @@
 use Rattle.std.proofs.lemmas.Result.{IfErr-weaker, IfOk-weaker}
 use Rattle.ov_grow.specs.Phases.{EndsPhase, Settle}
 use Rattle.ov_grow.specs.Code.Standing.{Goes, HaveMade, IsNoWay, growth_of}
-use Rattle.ov_grow.specs.declared.phase_outcome.Phase.{Phase}
+use Rattle.ov_grow.specs.declared.phase_moment_and_deliveries.Phase.{Phase}
 use Rattle.ov_grow.proofs.Going.{passes_on}
 use Rattle.ov_grow.proofs.NoPhase.{no_way_settle, no_way_settled}
 use Rattle.ov_grow.proofs.Ways.{settle_goes}

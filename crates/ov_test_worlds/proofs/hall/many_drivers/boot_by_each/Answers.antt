@@ -1,6 +1,6 @@
 -- Each thread gave the pass of its driver back.
 use Rattle.std.proofs.Common.{◌≡◌, arith, slice_index_or, subst, sym}
-use Rattle.ov_snap.specs.declared.driver_log.Ticket.{Ticket}
+use Rattle.ov_snap.specs.declared.ghost_log_of_drivers.Ticket.{Ticket}
 use Rattle.ov_test_worlds.proofs.Drivers.{same_drivers}
 use Rattle.ov_test_worlds.proofs.hall.many_drivers.boot_by_each.Goals as goal
 

@@ -70,7 +70,8 @@ drop_one-down-requires c =
     subst Q (sym c.self.view_is) (sym c.is_close.ensures.close ∙ c.if-is_close.false) in
     let full : c.self.inside.params.active ≤ length c.self.inside.active = omega arith in
     rw c.remove.ensures.value
-    (drops_first v c.args.id c.args.draws.now far (le-ltb (length c.self.inside.active) c.self.inside.params.active full)
+    (drops_first v c.args.id c.args.draws.now far
+    (le-ltb (length c.self.inside.active) c.self.inside.params.active full)
     (subst P (sym c.self.view_is) c.requires))
 
 pub invariant_of-self-2 : goal.invariant_of-self-2
