@@ -1,3 +1,15 @@
+pub mod SameSteps
+pub mod Replaying
+pub mod MakingCores
+pub mod Reporting
+pub mod Splitting
+pub mod OneLine
+mod Behind
+pub mod Statements
+pub mod TellingLines
+mod KeepingText
+mod Opening
+mod Appending
 pub mod Ordering
 pub mod Turning
 pub mod Rounding

@@ -17,7 +17,7 @@ use Rattle.ov_plum.specs.PlumState.{most_broadcasts}
 use Rattle.ov_net.specs.Journal as journal
 use Rattle.ov_net.specs.World.{Stands}
 use Rattle.ov_grow_options.specs.declared.options.GrowOptions.{GrowOptions}
-use Rattle.ov_recording.specs.declared.recordable_event.Act.TheVariants as act
+use Rattle.ov_grow.specs.declared.recordable_event.Act.TheVariants as act
 use Rattle.ov_grow.specs.Growth.{Growth, Does, IsLive, SomebodyLives}
 use Rattle.ov_grow.specs.Turns.{RunOut}
 use Rattle.ov_grow.specs.Rounds.{DoesEach, Round, Rounds}

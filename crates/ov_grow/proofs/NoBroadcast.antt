@@ -4,7 +4,7 @@ use Rattle.std.proofs.Common.{inl, inr}
 use Rattle.std.proofs.lemmas.Option.{slice_get_read}
 use Rattle.rand_pcg.specs.Lcg.{Lcg}
 use Rattle.ov_ids.specs.declared.id.MsgId.{MsgId}
-use Rattle.ov_recording.specs.declared.recordable_event.Act.TheVariants as act
+use Rattle.ov_grow.specs.declared.recordable_event.Act.TheVariants as act
 use Rattle.ov_grow.specs.Choices.{one_of}
 use Rattle.ov_grow.specs.Choices.{later as later_choices}
 use Rattle.ov_grow.specs.Growth.{Growth, AreLive, Does}

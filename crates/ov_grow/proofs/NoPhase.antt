@@ -17,10 +17,10 @@ use Rattle.ov_snap.specs.declared.core_fault.CoreFault.TheVariants.{AlreadyFiled
 use Rattle.ov_snap.specs.declared.core_fault.CoreFault.TheVariants as core_fault
 use Rattle.ov_snap.proofs.Moments.{moment_new, moment_within}
 use Rattle.ov_run_meaning.specs.Subjects.{AnalysisJudged, IsReported}
-use Rattle.ov_recording.specs.Recordings.{all_of}
+use Rattle.ov_grow.specs.Recordings.{all_of}
 use Rattle.ov_grow_options.specs.declared.options.GrowOptions.{GrowOptions}
-use Rattle.ov_recording.specs.WrittenLines.{comment_line}
-use Rattle.ov_recording.specs.declared.recordable_event.Act.TheVariants as act
+use Rattle.ov_grow.specs.WrittenLines.{comment_line}
+use Rattle.ov_grow.specs.declared.recordable_event.Act.TheVariants as act
 use Rattle.ov_grow.specs.Growth.{Growth, Does, SomebodyLives, Writes}
 use Rattle.ov_grow.specs.Turns.{RunOut}
 use Rattle.ov_grow.specs.Rounds.{DoesEach, Rounds}

@@ -17,9 +17,9 @@ use Rattle.ov_net.specs.declared.journal_entry_and_changes.Entry.{Entry}
 use Rattle.ov_grow_options.specs.declared.options.Crash.{Crash}
 use Rattle.ov_grow_options.specs.declared.options.Crash.TheVariants.{Share, Cut}
 use Rattle.ov_grow_options.specs.declared.options.GrowOptions.{GrowOptions}
-use Rattle.ov_recording.specs.declared.recordable_event.Act.{Act}
-use Rattle.ov_recording.specs.declared.recordable_event.Act.TheVariants as act
-use Rattle.ov_recording.specs.WrittenLines.{analysis_line, comment_line}
+use Rattle.ov_grow.specs.declared.recordable_event.Act.{Act}
+use Rattle.ov_grow.specs.declared.recordable_event.Act.TheVariants as act
+use Rattle.ov_grow.specs.WrittenLines.{analysis_line, comment_line}
 use Rattle.ov_grow.specs.Choices.{IsRandomOrder}
 use Rattle.ov_grow.specs.Growth.{Growth, AreLive, Chooses, Does, Writes}
 use Rattle.ov_grow.specs.Turns.{RunOut, TurnsUpTo}

@@ -6,8 +6,8 @@ use Rattle.rand_pcg.specs.Lcg.{Lcg}
 use Rattle.ov_ids.specs.declared.id.MsgId.{MsgId}
 use Rattle.ov_snap.specs.CoreState.{KeepsReports}
 use Rattle.ov_grow_options.specs.declared.options.GrowOptions.{GrowOptions}
-use Rattle.ov_recording.specs.WrittenLines.{comment_line}
-use Rattle.ov_recording.specs.declared.recordable_event.Act.TheVariants as act
+use Rattle.ov_grow.specs.WrittenLines.{comment_line}
+use Rattle.ov_grow.specs.declared.recordable_event.Act.TheVariants as act
 use Rattle.ov_grow.specs.Choices.{after_chance, comes_true, one_of}
 use Rattle.ov_grow.specs.Choices.{later as later_choices}
 use Rattle.ov_grow.specs.Growth.{Growth, AreLive, Chooses, Does, Writes}

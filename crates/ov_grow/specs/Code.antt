@@ -1,3 +1,7 @@
--- What private contracts and proofs use.
+-- What views, invariants of types, private contracts and proofs use. A reader of the public contracts need not rely
+-- on it.
+pub mod KeptRecording
+pub mod Kept
+pub mod Writing
 pub mod Standing
 pub mod Shares

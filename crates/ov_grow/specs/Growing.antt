@@ -1,7 +1,7 @@
 -- How an overlay is grown, and that its options alone decide what is written. Chosen here.
 use Rattle.std.specs.Prelude.{◌≡◌, ◌⊎◌, ℕ, List}
 use Rattle.ov_net.specs.World.{WorldState, opening_world}
-use Rattle.ov_recording.specs.Scripts.{opening}
+use Rattle.ov_grow.specs.Scripts.{opening}
 use Rattle.ov_grow_options.specs.CommandLine.{command_line}
 use Rattle.ov_grow_options.specs.declared.options.GrowOptions.{GrowOptions}
 use Rattle.ov_grow.specs.Choices.{choices_of}

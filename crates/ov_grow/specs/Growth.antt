@@ -12,9 +12,9 @@ use Rattle.ov_scenario.specs.Scenarios.{IsScenario}
 use Rattle.ov_scenario.specs.declared.scenario.Line.{Line}
 use Rattle.ov_scenario.specs.declared.scenario.Line.TheVariants as line
 use Rattle.ov_scenario.specs.declared.scenario.Scenario.{Scenario}
-use Rattle.ov_recording.specs.Acts.{act_line, event_of}
-use Rattle.ov_recording.specs.WrittenLines.{ended}
-use Rattle.ov_recording.specs.declared.recordable_event.Act.{Act}
+use Rattle.ov_grow.specs.Acts.{act_line, event_of}
+use Rattle.ov_grow.specs.WrittenLines.{ended}
+use Rattle.ov_grow.specs.declared.recordable_event.Act.{Act}
 use Rattle.ov_grow.specs.Choices.{one_of, comes_true, after_chance, later}
 
 -- the scenario that was written so far, the world that it makes, and the choices that are left

@@ -1,3 +1,10 @@
+pub mod Replay
+pub mod Alike
+pub mod Recordings
+pub mod Theorems
+pub mod Acts
+pub mod WrittenLines
+pub mod Scripts
 pub mod Faults
 pub mod Choices
 pub mod Growth

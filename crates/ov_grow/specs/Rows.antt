@@ -8,7 +8,7 @@ use Rattle.ov_snap.specs.ReportState.{ReportState, IsTrueReport}
 use Rattle.ov_grow_options.specs.declared.options.GrowOptions.{GrowOptions}
 use Rattle.ov_grow.specs.Growing.{Grows}
 use Rattle.ov_grow.specs.declared.phase_moment_and_deliveries.Phase.{Phase as GrownPhase}
-use Rattle.ov_recording.specs.Replay.{Replays}
+use Rattle.ov_grow.specs.Replay.{Replays}
 use Rattle.ov_sweep_rows.specs.Rows.{place_of}
 use Rattle.ov_sweep_rows.specs.declared.delivered_share.DeliveredShare.{DeliveredShare}
 use Rattle.ov_sweep_rows.specs.declared.row.Phase.{Phase}

@@ -11,7 +11,7 @@ use crate::fault::GrowFault;
 use crate::growing::Growing;
 use crate::packet_turn_rules::TurnRules;
 use ov_ids::{MsgId, NodeId};
-use ov_recording::Act;
+use crate::recordable_event::Act;
 
 impl Growing {
     /// So many broadcasts, until no packet is on its way and no timer of their messages runs. Some node must live.

@@ -2,8 +2,8 @@ ghost use Rattle.std.specs.Prelude.{◌≡◌, ◌≢◌, ◌<◌, ◌≤◌, �
 ghost use Rattle.std.specs.FinMap.{empty};
 ghost use Rattle.ov_net.specs.Limits.{most_packets};
 ghost use Rattle.ov_net.specs.Net.{IsGone};
-ghost use Rattle.ov_recording.specs.Replay.{Replays};
-ghost use Rattle.ov_recording.specs.WrittenLines.{comment_line};
+ghost use Rattle.ov_grow.specs.Replay.{Replays};
+ghost use Rattle.ov_grow.specs.WrittenLines.{comment_line};
 ghost use Rattle.ov_grow.specs.Growth.{AreLive, Does, IsLive, Writes};
 ghost use Rattle.ov_grow.specs.Growing.{beginning};
 ghost use Rattle.ov_grow.specs.Code.Standing.{Goes, IsNoWay, IsRefusedAct, growth_of};
@@ -14,7 +14,8 @@ use crate::fault::GrowFault;
 use ov_grow_options::GrowOptions;
 use ov_ids::{NodeId, OutOfMemory};
 use ov_net::World;
-use ov_recording::{Act, Recorded, Recording};
+use crate::core_with_script::{Recorded, Recording};
+use crate::recordable_event::Act;
 use std::alloc::Global;
 
 /// An overlay that grows: the recording of its steps so far, and the choices that are left.

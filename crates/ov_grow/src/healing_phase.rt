@@ -13,7 +13,7 @@ use crate::packet_turn_rules::TurnRules;
 use crate::phase_moment_and_deliveries::Phase;
 use ov_grow_options::GrowOptions;
 use ov_ids::NodeId;
-use ov_recording::Act;
+use crate::recordable_event::Act;
 
 impl Growing {
     /// The overlay heals. Some node must live.

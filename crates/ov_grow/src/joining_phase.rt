@@ -10,7 +10,7 @@ use crate::growing::Growing;
 use crate::packet_turn_rules::TurnRules;
 use ov_grow_options::{GrowOptions, Pace};
 use ov_ids::NodeId;
-use ov_recording::Act;
+use crate::recordable_event::Act;
 
 /// The most turns between two births, if no other number is asked for. (Chosen here.)
 const MOST_TURNS: u32 = 1000;

@@ -1,13 +1,15 @@
-//! Overlays are grown: nodes join, settle, crash and heal, and each step is recorded as a line of a scenario; and
-//! sweeps, in which many overlays are grown, and each is told as a row of numbers.
+//! Overlays are grown: nodes join, settle, crash and heal. Each step is recorded as a line of a scenario that, run,
+//! does the same; and a sweep grows many overlays, and tells each as a row of numbers.
 #![tactic(auto)]
 
 mod broadcasts;
 mod choices;
+mod core_with_script;
 mod fault;
 mod growing;
 mod healing_phase;
 mod joining_phase;
+mod line_writing;
 mod options_determine_growth;
 mod overlay_batch_growing;
 mod overlay_growing;
@@ -16,17 +18,25 @@ mod packet_turns;
 mod phase_ending;
 mod phase_measurements;
 mod phase_moment_and_deliveries;
+mod recordable_event;
+mod replay_theorem;
+mod report_making;
+mod script;
 mod settling_and_crash_phases;
 mod shuffle_rounds;
 mod sweep_fault;
 mod sweep_row_making;
 mod sweeping;
 
+pub use core_with_script::{Recorded, Recording};
 pub use fault::GrowFault;
 pub use options_determine_growth::{one_growth, one_row};
 pub use overlay_batch_growing::{GrownBatch, RefusedRun, grow_batch};
 pub use overlay_growing::{Grown, grow};
 pub use phase_moment_and_deliveries::Phase;
+pub use recordable_event::Act;
+pub use replay_theorem::every_run_refuses_nothing;
+pub use script::{LINE_ROOM, Script};
 pub use sweep_fault::SweepFault;
 pub use sweep_row_making::row_of;
 pub use sweeping::{RowTaker, sweep};

@@ -10,7 +10,7 @@ use crate::packet_turn_rules::TurnRules;
 use ov_grow_options::Order;
 use ov_ids::{NodeId, OutOfMemory};
 use ov_net::Packet;
-use ov_recording::Act;
+use crate::recordable_event::Act;
 use std::alloc::Global;
 
 impl Growing {

@@ -1,7 +1,7 @@
 ghost use Rattle.std.specs.Prelude.{◌≡◌, ◌≤◌, ◌⊎◌, ℕ, drop, length, IfErr, IfOk, OnOk};
 ghost use Rattle.ov_net.specs.Limits.{most_entries};
-ghost use Rattle.ov_recording.specs.WrittenLines.{analysis_line};
-ghost use Rattle.ov_recording.specs.declared.recordable_event.Act.TheVariants as act;
+ghost use Rattle.ov_grow.specs.WrittenLines.{analysis_line};
+ghost use Rattle.ov_grow.specs.declared.recordable_event.Act.TheVariants as act;
 ghost use Rattle.ov_grow.specs.Faults.{IsFull};
 ghost use Rattle.ov_grow.specs.Growth.{Does, SomebodyLives, Writes};
 ghost use Rattle.ov_grow.specs.Phases.{EndsPhase, IsAnalysedAt, deliveries_in};
@@ -12,7 +12,7 @@ use crate::fault::GrowFault;
 use crate::growing::Growing;
 use crate::packet_turn_rules::TurnRules;
 use crate::phase_moment_and_deliveries::Phase;
-use ov_recording::Act;
+use crate::recordable_event::Act;
 
 impl Growing {
     /// A phase ends: a snapshot is taken and analysed, and then there are so many broadcasts. Some node must live.

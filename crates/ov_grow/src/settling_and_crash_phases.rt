@@ -1,5 +1,5 @@
 ghost use Rattle.std.specs.Prelude.{◌+◌, IfErr, IfOk, OnOk};
-ghost use Rattle.ov_recording.specs.declared.recordable_event.Act.TheVariants as act;
+ghost use Rattle.ov_grow.specs.declared.recordable_event.Act.TheVariants as act;
 ghost use Rattle.ov_grow_options.specs.Limits.{most_rounds};
 ghost use Rattle.ov_grow.specs.Faults.{IsFull};
 ghost use Rattle.ov_grow.specs.Growth.{SomebodyLives};
@@ -14,7 +14,7 @@ use crate::phase_moment_and_deliveries::Phase;
 use ov_cert::Cert;
 use ov_grow_options::{Crash, GrowOptions, Share};
 use ov_ids::{NodeId, OutOfMemory};
-use ov_recording::Act;
+use crate::recordable_event::Act;
 
 impl Growing {
     /// The overlay settles. Some node must live, and none may have made a broadcast.

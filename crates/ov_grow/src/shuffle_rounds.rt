@@ -1,5 +1,5 @@
 ghost use Rattle.std.specs.Prelude.{IfErr, IfOk, OnOk};
-ghost use Rattle.ov_recording.specs.declared.recordable_event.Act.TheVariants as act;
+ghost use Rattle.ov_grow.specs.declared.recordable_event.Act.TheVariants as act;
 ghost use Rattle.ov_grow.specs.Faults.{IsFull};
 ghost use Rattle.ov_grow.specs.Rounds.{AreLiveInOrder, DoesEach, Round, Rounds};
 ghost use Rattle.ov_grow.specs.Code.Standing.{AllLive, Goes, IsNoWay, growth_of};
@@ -8,7 +8,7 @@ use crate::fault::GrowFault;
 use crate::growing::Growing;
 use crate::packet_turn_rules::TurnRules;
 use ov_ids::{NodeId, OutOfMemory};
-use ov_recording::Act;
+use crate::recordable_event::Act;
 
 impl Growing {
     /// So many rounds of shuffles.

@@ -17,10 +17,10 @@ use Rattle.ov_snap.specs.CoreState.{CoreState, HasReportOfAll, KeepsReports}
 use Rattle.ov_snap.specs.ReportState.{ReportState}
 use Rattle.ov_snap.specs.Snapshots.{IsMoment}
 use Rattle.ov_run_meaning.specs.Subjects.{IsReported}
-use Rattle.ov_recording.specs.Recordings.{all_of}
-use Rattle.ov_recording.specs.Acts.{event_of}
-use Rattle.ov_recording.specs.declared.recordable_event.Act.{Act}
-use Rattle.ov_recording.specs.declared.recordable_event.Act.TheVariants as act
+use Rattle.ov_grow.specs.Recordings.{all_of}
+use Rattle.ov_grow.specs.Acts.{event_of}
+use Rattle.ov_grow.specs.declared.recordable_event.Act.{Act}
+use Rattle.ov_grow.specs.declared.recordable_event.Act.TheVariants as act
 use Rattle.ov_grow.specs.Faults.{of_event}
 use Rattle.ov_grow.specs.Growth.{Growth, Does, IsLive}
 use Rattle.ov_grow.specs.Turns.{HasFailed}

@@ -6,7 +6,7 @@ use Rattle.ov_io.specs.Device.{AppendsPrefixOf}
 use Rattle.ov_grow_options.specs.declared.options.GrowOptions.{GrowOptions}
 use Rattle.ov_grow.specs.Growing.{Grows}
 use Rattle.ov_grow.specs.declared.phase_moment_and_deliveries.Phase.{Phase}
-use Rattle.ov_recording.specs.Replay.{Replays}
+use Rattle.ov_grow.specs.Replay.{Replays}
 use Rattle.ov_snap.specs.CoreState.{CoreState}
 use Rattle.ov_grow_commands.specs.Growing.{IsGrownBy, WasPrinted}
 use Rattle.ov_grow_commands.specs.declared.grow_command_fault.GrowthFault.{GrowthFault}

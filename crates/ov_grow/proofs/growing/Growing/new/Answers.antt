@@ -1,5 +1,5 @@
 use Rattle.std.proofs.Common.{◌≡◌, ap, subst, ◌∙◌}
-use Rattle.ov_recording.specs.Scripts.{opening}
+use Rattle.ov_grow.specs.Scripts.{opening}
 use Rattle.ov_grow.specs.Growing.{beginning}
 use Rattle.ov_grow.proofs.OneGrowth.{same_growth}
 use Rattle.ov_grow.proofs.growing.Growing.new.Goals as goal
