@@ -5,4 +5,3 @@ pub mod Printing
 pub mod Pictures
 pub mod Dumps
 pub mod Code
-pub mod Progress

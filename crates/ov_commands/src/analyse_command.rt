@@ -4,18 +4,17 @@ ghost use Rattle.ov_answers.specs.Analysing.{IsAnalysisOf};
 ghost use Rattle.ov_commands.specs.Statuses.{HasAnalysed, analysis_status};
 
 use crate::analysis_progress::PieceProgress;
-use crate::command_fault::CommandFault;
-use crate::fault_printing::{print_fault, print_reason};
-use crate::fault_reasons::analysis_reason;
-use crate::input_reading::{STANDARD_INPUT, bytes_asked, bytes_of, opened};
 use crate::answers_in_names_or_words::analyse_in_words;
-use crate::which_command_tips::print_unread_tip;
+use crate::command_fault::CommandFault;
 use ov_answers::{Answered, analyse_bytes};
 use ov_arguments::AnalysisRequest;
 use ov_ids::NodeId;
 use ov_io::Sink;
 use ov_lines::FileKind;
-use ov_reasons::group_reason;
+use ov_reasons::{
+    STANDARD_INPUT, analysis_reason, bytes_asked, bytes_of, group_reason, opened, print_fault,
+    print_reason, print_unread_tip,
+};
 use ov_run_meaning::RunFault;
 use std::io::{Read, Write};
 use std::thread::Threads;

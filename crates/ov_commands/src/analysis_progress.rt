@@ -1,5 +1,5 @@
-use crate::paced_clock::PacedClock;
 use ov_even::Watcher;
+use ov_reasons::PacedClock;
 
 /// Says on standard error which piece an analysis has come to, at the pace of `Pacing`.
 #[derive(Drop)]

@@ -8,15 +8,13 @@ ghost use Rattle.ov_commands.specs.declared.command_fault.CommandFault.TheVarian
 use crate::analyse_command::print_refusal;
 use crate::analysis_progress::PieceProgress;
 use crate::command_fault::CommandFault;
-use crate::fault_printing::{print_fault, print_reason, without_memory};
-use crate::fault_reasons::analysis_reason;
-use crate::which_command_tips::print_unread_tip;
 use ov_answers::{Answered, Request, Told, analyse_told};
 use ov_arguments::AnalysisRequest;
 use ov_graphfile::{GraphFileFault, GroupFault, ids_of_group, read_graph, read_names};
 use ov_ids::NodeId;
 use ov_io::{Sink, shown_name};
 use ov_lines::{FileKind, comma_hint};
+use ov_reasons::{analysis_reason, print_fault, print_reason, print_unread_tip, without_memory};
 use std::io::Write;
 use std::thread::Threads;
 

@@ -11,12 +11,11 @@ use crate::certificate_graph_printing::print_graph;
 use crate::command_fault::CommandFault;
 use crate::conversion_fault::FileCommandFault;
 use crate::import_command::print_dump;
-use crate::input_reading::{bytes_asked, bytes_of_file};
 use crate::picture_printing::print_picture;
-use crate::which_command_tips::print_file_tip;
 use ov_arguments::{ImportRequest, PictureRequest};
 use ov_io::Sink;
 use ov_lines::{FileKind, behind_mark};
+use ov_reasons::{bytes_asked, bytes_of_file, print_file_tip};
 use ov_run_meaning::RunFault;
 use std::io::Write;
 

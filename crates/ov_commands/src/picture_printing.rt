@@ -11,7 +11,6 @@ ghost use Rattle.ov_commands.specs.declared.conversion_fault.FileCommandFault.Th
 use crate::certificate_entry_listing::entries_of;
 use crate::certificate_graph_printing::{told, written};
 use crate::conversion_fault::FileCommandFault;
-use crate::which_command_tips::print_file_tip;
 use ov_arguments::{AskedEntry, PictureRequest};
 use ov_cert::Cert;
 use ov_certfile::Filed;
@@ -23,6 +22,7 @@ use ov_ids::OutOfMemory;
 use ov_io::Sink;
 use ov_lines::FileKind;
 use ov_picture::{ChosenEntry, Drawing, PictureFault, dot, draw, svg};
+use ov_reasons::print_file_tip;
 use std::alloc::Global;
 use std::io::Write;
 

@@ -1,4 +1,4 @@
-use ov_commands::PacedClock;
+use ov_reasons::PacedClock;
 
 /// How many milliseconds a second has.
 const MILLISECONDS: u64 = 1000;

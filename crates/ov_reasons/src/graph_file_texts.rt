@@ -28,7 +28,7 @@ pub fn graph_reasons(
 
 /// Why the nodes and links of a graph file of these bytes are no graph: what is wrong with the node or the link at
 /// fault, which is on this line. OutOfMemory (99) if an allocation is refused.
-pub fn graph_fault_reasons(
+pub(crate) fn graph_fault_reasons(
     alloc: Global,
     bytes: &[u8],
     fault: &GraphFault,
@@ -41,7 +41,7 @@ pub fn graph_fault_reasons(
 
 /// Why lines of a graph file of these bytes can't be read. The first 20 are explained, and the others counted.
 /// OutOfMemory (99) if an allocation is refused.
-pub fn unread_line_reasons(alloc: Global, bytes: &[u8]) -> Result<String, OutOfMemory> {
+pub(crate) fn unread_line_reasons(alloc: Global, bytes: &[u8]) -> Result<String, OutOfMemory> {
     let lines = unread_lines(alloc, bytes, MOST_LINES)?;
     let mut text = String::new(alloc);
     push_unread_lines(alloc, &mut text, bytes, &lines)?;

@@ -1,4 +1,4 @@
-use ov_commands::PacedClock;
+use ov_reasons::PacedClock;
 use ov_run::RanLine;
 
 /// Says on standard error which line of its file a run has done last, at the pace of `Pacing`.

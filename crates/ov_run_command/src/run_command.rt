@@ -6,7 +6,7 @@ ghost use Rattle.ov_run_meaning.specs.Strict.{strictness_of};
 use crate::refusals_and_progress::RunNews;
 use crate::run_with_buffered_output::run_in_output_blocks;
 use ov_arguments::RunRequest;
-use ov_commands::{
+use ov_reasons::{
     STANDARD_INPUT, bytes_of, opened, print_fault, print_reason, print_unread_tip, run_reason,
 };
 use ov_io::Sink;

@@ -8,7 +8,7 @@ ghost use Rattle.ov_run_meaning.specs.Strict.{strictness_of};
 use crate::refusals_and_progress::RunNews;
 use crate::run_command::tell_run;
 use ov_arguments::RunRequest;
-use ov_commands::{STANDARD_INPUT, bytes_of, opened, without_memory};
+use ov_reasons::{STANDARD_INPUT, bytes_of, opened, without_memory};
 use ov_io::Sink;
 use ov_run::run_in_blocks;
 use ov_run_meaning::{RunFault, Strictness};

@@ -12,10 +12,9 @@ mod fault_and_exit_status;
 
 use crate::fault_and_exit_status::{ProgramFault, exit_status};
 use ov_arguments::{ArgumentsFault, Request, argument_reasons, read_arguments};
-use ov_commands::{
-    analyse_asked, graph_asked, import_asked, picture_asked, print_command_tip, print_reason,
-};
+use ov_commands::{analyse_asked, graph_asked, import_asked, picture_asked, print_command_tip};
 use ov_grow_commands::grow_or_sweep;
+use ov_reasons::print_reason;
 use ov_run_command::run_asked;
 use std::env;
 use std::process::ExitCode;

@@ -1,8 +1,7 @@
+use crate::device_texts::{OUT_OF_MEMORY, READING_FAILED, WRITING_FAILED};
+use crate::graph_file_texts::{graph_fault_reasons, unread_line_reasons};
+use crate::scenario_file_texts::scenario_reasons;
 use ov_ids::OutOfMemory;
-use ov_reasons::{
-    OUT_OF_MEMORY, READING_FAILED, WRITING_FAILED, graph_fault_reasons, scenario_reasons,
-    unread_line_reasons,
-};
 use ov_run_meaning::RunFault;
 use std::alloc::Global;
 
@@ -20,7 +19,7 @@ pub fn run_reason(alloc: Global, bytes: &[u8], fault: &RunFault) -> Result<Strin
 /// Why the analysis of a graph file of these bytes ended with this fault, in words. The text ends with a line feed.
 ///
 /// `OutOfMemory` (99): an allocation was refused.
-pub(crate) fn analysis_reason(
+pub fn analysis_reason(
     alloc: Global,
     bytes: &[u8],
     fault: &RunFault,

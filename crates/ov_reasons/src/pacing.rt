@@ -1,5 +1,5 @@
 ghost use Rattle.std.specs.Prelude.{◌≡◌, nat_le, if◌then◌else◌};
-ghost use Rattle.ov_commands.specs.Progress.{first_due, next_due};
+ghost use Rattle.ov_reasons.specs.Progress.{first_due, next_due};
 
 use std::marker::Model;
 
