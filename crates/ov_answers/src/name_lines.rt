@@ -4,8 +4,8 @@ ghost use Rattle.ov_cert.specs.declared.cert.Cert.{Cert};
 ghost use Rattle.ov_answers.specs.Lines.{IsNodeLine, AreNodeLines, AreNameLines};
 ghost use Rattle.ov_answers.specs.Code.Begun.{Gains};
 
-use crate::components_after_crash::components_without;
 use crate::component_texts::write_components;
+use crate::components_after_crash::components_without;
 use itoa::Buffer;
 use ov_cert::{Cert, Split};
 use ov_graph::Graph;

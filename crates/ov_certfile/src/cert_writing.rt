@@ -14,8 +14,8 @@ use crate::graph_writing::write_links;
 use crate::json_member_writing::{
     write_count, write_field, write_ids, write_verdict, write_version,
 };
-use crate::value_writing::write_mark;
 use crate::linked_or_split::Verdict;
+use crate::value_writing::write_mark;
 use crate::version::Version;
 use ov_cert::{Cert, Split};
 use ov_graph::Graph;

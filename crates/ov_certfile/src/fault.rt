@@ -3,9 +3,9 @@ ghost use Rattle.ov_certfile.specs.Number.{number_of};
 ghost use Rattle.ov_certfile.specs.declared.fault.FileFault.TheVariants.{OutOfMemory};
 
 use crate::file_keys::Key;
+use crate::linked_or_split::Verdict;
 use crate::no_json::NoJson;
 use crate::value_fault::{Misfit, Wanted};
-use crate::linked_or_split::Verdict;
 use crate::version::Version;
 use ov_graph::GraphFault;
 use std::alloc::{AllocError, AllocFailed};

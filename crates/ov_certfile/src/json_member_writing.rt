@@ -10,8 +10,8 @@ ghost use Rattle.ov_certfile.specs.Code.Writing.{WritesMembers};
 
 use crate::field_reading_and_writing::Field;
 use crate::file_keys::Key;
-use crate::value_writing::{write_comma, write_list, write_mark, write_whole};
 use crate::linked_or_split::Verdict;
+use crate::value_writing::{write_comma, write_list, write_mark, write_whole};
 use crate::version::Version;
 use ov_ids::NodeId;
 use std::alloc::AllocError;

@@ -15,9 +15,9 @@ ghost use Rattle.ov_certfile.specs.Code.Reading.{ReadsAt, IsHeaded, IsListed, Is
 use crate::fault::FileFault;
 use crate::field_reading_and_writing::{read_at, whole_at};
 use crate::file_keys::Key;
+use crate::linked_or_split::Verdict;
 use crate::no_json::NoJson;
 use crate::token_reading::in_form;
-use crate::linked_or_split::Verdict;
 use crate::version::Version;
 use crate::version_and_verdict_reading::heading_of;
 use ov_cert::{Cert, Split};

@@ -7,8 +7,8 @@ ghost use Rattle.ov_certfile.specs.Kinds.{name_of, verdict_text};
 ghost use Rattle.ov_certfile.specs.Code.Tokens.{place_in};
 
 use crate::file_keys::Key;
-use crate::token_texts::{after_mark, after_space, after_text, ends_word, number_in};
 use crate::linked_or_split::Verdict;
+use crate::token_texts::{after_mark, after_space, after_text, ends_word, number_in};
 use ov_ids::OutOfMemory;
 use std::alloc::{AllocError, AllocFailed};
 use std::marker::Model;

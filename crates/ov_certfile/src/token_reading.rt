@@ -14,10 +14,10 @@ ghost use Rattle.ov_certfile.specs.Code.Content.{version_with, named_then, graph
 ghost use Rattle.ov_certfile.specs.declared.file_keys.Key.TheVariants as key;
 
 use crate::file_keys::Key;
+use crate::linked_or_split::Verdict;
 use crate::reading::Filed;
 use crate::token_cursor::{Stop, TokenCursor};
 use crate::token_fields::{take_count, take_member, take_moment};
-use crate::linked_or_split::Verdict;
 use crate::version::Version;
 use ov_cert::{Cert, FanPaths, PairPaths, Split};
 use ov_graph::{Graph, GraphFault};

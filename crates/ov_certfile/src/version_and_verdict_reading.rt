@@ -6,9 +6,9 @@ ghost use Rattle.ov_certfile.specs.Code.Reading.{IsHeaded};
 
 use crate::fault::{BadValue, FileFault};
 use crate::file_keys::{Key, keys_of};
+use crate::linked_or_split::Verdict;
 use crate::missing_and_unknown_keys::{first_missing, first_other};
 use crate::value_fault::{Misfit, Wanted};
-use crate::linked_or_split::Verdict;
 use crate::version::Version;
 use serde_json::Value;
 

@@ -7,8 +7,8 @@ ghost use Rattle.ov_graph.specs.Even.{members_below};
 ghost use Rattle.ov_fans.specs.Pieces.{member_at, IsPiece, IsGood};
 ghost use Rattle.ov_fans.specs.Counts.{IsNumberOf};
 
-use crate::common_bits_of_rows::shared_bits;
 use crate::bit_row_nodes::bits_below;
+use crate::common_bits_of_rows::shared_bits;
 use crate::group_by_places_in_graph::SettlerGroup;
 use crate::piece::Piece;
 

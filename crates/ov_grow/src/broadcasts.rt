@@ -10,8 +10,8 @@ ghost use Rattle.ov_grow.specs.Code.Standing.{AllLive, Goes, IsNoWay, MayMake, g
 use crate::fault::GrowFault;
 use crate::growing::Growing;
 use crate::packet_turn_rules::TurnRules;
-use ov_ids::{MsgId, NodeId};
 use crate::recordable_event::Act;
+use ov_ids::{MsgId, NodeId};
 
 impl Growing {
     /// So many broadcasts, until no packet is on its way and no timer of their messages runs. Some node must live.

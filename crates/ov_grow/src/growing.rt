@@ -10,12 +10,12 @@ ghost use Rattle.ov_grow.specs.Code.Standing.{Goes, IsNoWay, IsRefusedAct, growt
 ghost use Rattle.ov_grow.specs.declared.fault.GrowFault.TheVariants.{OutOfMemory as out_of_memory};
 
 use crate::choices::Choices;
+use crate::core_with_script::{Recorded, Recording};
 use crate::fault::GrowFault;
+use crate::recordable_event::Act;
 use ov_grow_options::GrowOptions;
 use ov_ids::{NodeId, OutOfMemory};
 use ov_net::World;
-use crate::core_with_script::{Recorded, Recording};
-use crate::recordable_event::Act;
 use std::alloc::Global;
 
 /// An overlay that grows: the recording of its steps so far, and the choices that are left.

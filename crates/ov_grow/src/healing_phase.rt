@@ -11,9 +11,9 @@ use crate::fault::GrowFault;
 use crate::growing::Growing;
 use crate::packet_turn_rules::TurnRules;
 use crate::phase_moment_and_deliveries::Phase;
+use crate::recordable_event::Act;
 use ov_grow_options::GrowOptions;
 use ov_ids::NodeId;
-use crate::recordable_event::Act;
 
 impl Growing {
     /// The overlay heals. Some node must live.

@@ -4,11 +4,11 @@ ghost use Rattle.ov_snap.specs.ReportState.{ReportState};
 ghost use Rattle.ov_grow.specs.Replay.{Replays};
 ghost use Rattle.ov_grow.specs.Growing.{Grows, IsGrowRefusal};
 
+use crate::core_with_script::Recorded;
 use crate::fault::GrowFault;
 use crate::growing::Growing;
 use crate::phase_moment_and_deliveries::Phase;
 use ov_grow_options::GrowOptions;
-use crate::core_with_script::Recorded;
 use ov_snap::Core;
 use std::alloc::Global;
 

@@ -11,10 +11,10 @@ use crate::fault::GrowFault;
 use crate::growing::Growing;
 use crate::packet_turn_rules::TurnRules;
 use crate::phase_moment_and_deliveries::Phase;
+use crate::recordable_event::Act;
 use ov_cert::Cert;
 use ov_grow_options::{Crash, GrowOptions, Share};
 use ov_ids::{NodeId, OutOfMemory};
-use crate::recordable_event::Act;
 
 impl Growing {
     /// The overlay settles. Some node must live, and none may have made a broadcast.

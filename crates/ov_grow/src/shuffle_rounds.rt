@@ -7,8 +7,8 @@ ghost use Rattle.ov_grow.specs.Code.Standing.{AllLive, Goes, IsNoWay, growth_of}
 use crate::fault::GrowFault;
 use crate::growing::Growing;
 use crate::packet_turn_rules::TurnRules;
-use ov_ids::{NodeId, OutOfMemory};
 use crate::recordable_event::Act;
+use ov_ids::{NodeId, OutOfMemory};
 
 impl Growing {
     /// So many rounds of shuffles.

@@ -4,10 +4,10 @@ ghost use Rattle.ov_hall.specs.Histories.{IsHistory};
 ghost use Rattle.ov_snap.specs.Logs.{IsLog};
 ghost use Rattle.ov_hall.specs.Passes.{AllBegin, AreDrivers};
 
+use crate::core_shared_by_drivers::{Gathered, Hall};
 use crate::driver_passes::Pass;
 use crate::ghost_log_rule::HallName;
 use crate::hall_at_rest::Whole;
-use crate::core_shared_by_drivers::{Gathered, Hall};
 use thiserror::Error;
 
 /// Why a hall is not gathered.

@@ -10,12 +10,12 @@ ghost use Rattle.ov_hall.specs.Histories.{IsHistory};
 ghost use Rattle.ov_snap.specs.Logs.{IsLog, core_made, mark};
 ghost use Rattle.ov_hall.specs.Passes.{AreDrivers, seen_alike};
 
+use crate::core_shared_by_drivers::{Gathered, Hall};
 use crate::driver_passes::{Pass, Stand};
 use crate::ghost_log_rule::{HallName, Law, Leave};
 use crate::ghost_views::View;
 use crate::hall_opening::Opening;
 use crate::locked_state::State;
-use crate::core_shared_by_drivers::{Gathered, Hall};
 use atomic_table::Table;
 use ov_ids::Params;
 use ov_net::{Entry, Event, NetFault};

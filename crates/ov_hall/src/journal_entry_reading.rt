@@ -3,9 +3,9 @@ ghost use Rattle.ov_snap.specs.Logs.{IsLog, core_made};
 ghost use Rattle.ov_snap.specs.DriverSteps.{HasLooked};
 ghost use Rattle.ov_hall.specs.Passes.{IsEntryOf};
 
+use crate::core_shared_by_drivers::Hall;
 use crate::driver_passes::Pass;
 use crate::ghost_log_rule::HallName;
-use crate::core_shared_by_drivers::Hall;
 use ov_ids::OutOfMemory;
 use ov_net::Entry;
 use ov_snap::Core;

@@ -5,9 +5,9 @@ ghost use Rattle.ov_snap.specs.declared.core_fault.CoreFault.TheVariants.{OutOfM
 ghost use Rattle.ov_snap.specs.Logs.{IsLog, core_made};
 ghost use Rattle.ov_snap.specs.DriverSteps.{HasBegun, HasBegunForGroup, HasLooked};
 
+use crate::core_shared_by_drivers::Hall;
 use crate::driver_passes::Pass;
 use crate::ghost_log_rule::HallName;
-use crate::core_shared_by_drivers::Hall;
 use ov_ids::NodeId;
 use ov_snap::{Core, CoreFault, Snapshot};
 use std::sync::Wait;

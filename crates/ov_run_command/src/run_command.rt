@@ -6,11 +6,11 @@ ghost use Rattle.ov_run_meaning.specs.Strict.{strictness_of};
 use crate::refusals_and_progress::RunNews;
 use crate::run_with_buffered_output::run_in_output_blocks;
 use ov_arguments::RunRequest;
+use ov_io::Sink;
+use ov_lines::FileKind;
 use ov_reasons::{
     STANDARD_INPUT, bytes_of, opened, print_fault, print_reason, print_unread_tip, run_reason,
 };
-use ov_io::Sink;
-use ov_lines::FileKind;
 use ov_run::run_bytes;
 use ov_run_meaning::{RunFault, Strictness};
 use std::io::{IsTerminal, Read, Write};
