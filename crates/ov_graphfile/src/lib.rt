@@ -18,7 +18,7 @@ mod unread_lines_with_count;
 
 pub use fault::{GraphFileFault, UnreadLine};
 pub use graph_line::LINE_NAMES;
-pub use graph_reading::read_graph;
+pub use graph_reading::{read_graph, read_named_graph};
 pub use group_from_names_or_ids::ids_of_group;
 pub use group_names_fault::GroupFault;
 pub use line_finding::{line_of_link, line_of_node};

@@ -1,13 +1,25 @@
-//! What a comment and the line behind it say together.
+//! What a comment says of a node, and what it says together with the line behind it.
 ghost use Rattle.std.specs.Prelude.{◌≡◌, ℕ, List, [], ◌∷◌, option_map, IfSome, IfNone, MatchOption};
+ghost use Rattle.std.specs.Option.{option_copied};
 ghost use Rattle.ov_graphfile.specs.GraphFiles.{graph_line, node_said};
 ghost use Rattle.ov_graphfile.specs.NameLines.{comment_said, IsNamedBy};
+ghost use Rattle.ov_graphfile.specs.Code.Told.{name_by};
 
 use ov_ids::NodeId;
 use ov_lines::{ID, Kind, LineCursor, is_word};
 
 /// The id of a node.
 const NODE_ID: &[Kind] = &[ID];
+
+/// The name that a line right before the line of this node gives it, if it is a comment that does.
+pub(crate) fn name_by(before: &[u8], node: NodeId) -> Option<&[u8]>
+    ensures { option_copied result ≡ name_by before.now node }
+{
+    let Some((id, name)) = comment_said(before) else {
+        return None;
+    };
+    if id == node { Some(name) } else { None }
+}
 
 /// The node that a comment and the line behind it name, and its name.
 pub(crate) fn name_said<'a>(comment: &'a [u8], line: &[u8]) -> Option<(NodeId, &'a [u8])>
