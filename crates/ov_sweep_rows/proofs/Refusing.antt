@@ -29,8 +29,8 @@ fault_tells Known Told (Ok value) tells is = tt
 fault_tells Known Told (Err fault) tells is = tells fault is
 
 took_some : (cfg : Config) (s0 a b : State) (xs y z : List ℕ) (records : List (List (List ℕ))) (fields : List (List ℕ))
-    (next : Option Read) → next_record cfg a [] [] y ≡ next → NextIs next true fields b z → Reached cfg s0 xs records a y
-    → Reached cfg s0 xs (records ++ (fields ∷ [])) b z
+    (next : Option Read) → next_record cfg a [] [] y ≡ next → NextIs next true fields b z
+    → Reached cfg s0 xs records a y → Reached cfg s0 xs (records ++ (fields ∷ [])) b z
 took_some cfg s0 a b xs y z records fields None found is reached = cc is
 took_some cfg s0 a b xs y z records fields (Some p) found is reached =
     rw (is.1, is.2, is.3) (reached-more cfg s0 a xs y records p reached found)

@@ -70,5 +70,6 @@ IsRowRefusal text Header = first_record text ≢ Some columns
 IsRowRefusal text (FieldCount line number) =
     (fields : List (List ℕ)) × ComesAfterRows text fields × (length fields ≡ number) × (number ≢ length columns)
 IsRowRefusal text (Field line field) =
-    (fields : List (List ℕ)) × ComesAfterRows text fields × (fields ≢ columns) × LacksForm fields field.place field.takes
+    (fields : List (List ℕ)) × ComesAfterRows text fields × (fields ≢ columns)
+    × LacksForm fields field.place field.takes
 IsRowRefusal text OutOfMemory = ⊤
