@@ -1,6 +1,6 @@
 -- A text is read record by record.
-use Rattle.std.proofs.Common.{Bor, ◌≡◌, ◌<◌, ℕ, false, List, [], ◌∷◌, ◌++◌, length, Option, Some, None, Ok}
-use Rattle.std.proofs.Common.{refl, sym, inl, inr, ◌∙◌}
+use Rattle.std.proofs.Common.{Bor, ◌≡◌, ◌∙◌, ◌<◌, ℕ, false, List, [], ◌∷◌, ◌++◌, length, Option, Some, None}
+use Rattle.std.proofs.Common.{Ok, refl, sym, inl, inr}
 use Rattle.std.specs.Prelude.{IfSome}
 use Rattle.csv.specs.Reading.{AreRecords, Reached, Ready, RowStep, default_config, is_flexible, source_of, strip_bom}
 use Rattle.csv.specs.Records.{Row, fields_of}
