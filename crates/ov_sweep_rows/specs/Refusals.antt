@@ -44,7 +44,8 @@ LacksForm fields place form.Seed = SpellsNone (text_at fields place) (λ n. ⊤)
 LacksForm fields place form.Number = SpellsNone (text_at fields place) (λ n. n < 2 ^ 32)
 LacksForm fields place form.Delivered = text_at fields place ≢ []
 
--- the fault is that of a record of these fields: the column that it names does not take what stands there
+-- the fault is that of a record of these fields: what stands in the column that it names is not of the form that it
+-- names
 abbrev pub IsFieldFault : List (List ℕ) → RowFault → Type 0
 IsFieldFault fields (Field line field) = LacksForm fields field.place field.takes
 IsFieldFault fields Header = ⊥
@@ -63,8 +64,8 @@ pub record ComesAfterRows (text : List ℕ) (fields : List (List ℕ)) : Type 0 
   pub are_said : SayRows (filter is_no_header records) rows
 
 -- why a text is refused: its first record is not the header; or the first record behind it that is neither a row nor
--- the header once more has another number of fields than there are columns, or a field that its column does not take;
--- or an allocation was refused
+-- the header once more has this number of fields, and there are not so many columns; or what stands in its column that
+-- the fault names is not of the form that the fault names; or an allocation was refused
 abbrev pub IsRowRefusal : List ℕ → RowFault → Type 0
 IsRowRefusal text Header = first_record text ≢ Some columns
 IsRowRefusal text (FieldCount line number) =

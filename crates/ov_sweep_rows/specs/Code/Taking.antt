@@ -15,7 +15,8 @@ WasTaken fields old new =
     ((fields ≡ columns) × (new ≡ old))
     ⊎ ((fields ≢ columns) × (row : Row) × SayRow fields row × (new ≡ old ++ (row ∷ [])))
 
--- why a record was not taken: a field is not what its column takes, or an allocation was refused
+-- why a record was not taken: it is not the header, and a field is not of the form that the fault names; or an
+-- allocation was refused
 abbrev pub IsTakeFault : List (List ℕ) → RowFault → Type 0
 IsTakeFault fields (Field line field) = (fields ≢ columns) × IsFieldFault fields (Field line field)
 IsTakeFault fields Header = ⊥
