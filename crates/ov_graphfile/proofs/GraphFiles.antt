@@ -2,5 +2,6 @@
 pub mod Faults
 pub mod Finding
 pub mod Gathering
+pub mod LineByLine
 pub mod Numbers
 pub mod Unread

@@ -4,6 +4,7 @@ pub mod Naming
 pub mod Lined
 pub mod Tables
 pub mod Readings
+pub mod Told
 pub mod Meanings
 pub mod Sole
 pub mod Commented

@@ -6,9 +6,9 @@ use Rattle.ov_ids.specs.Members.{Has}
 use Rattle.ov_graph.specs.Links.{LinkGraph}
 use Rattle.ov_lines.specs.Lines.{first_line}
 use Rattle.ov_lines.proofs.Lines.Lined.{lines_first}
-use Rattle.ov_graphfile.specs.NamesState.{IsNamed}
+use Rattle.ov_graphfile.specs.NamesState.{IsNamed, names_of}
 use Rattle.ov_graphfile.specs.NameLines.{comment_said, IsNamedBy, AreNaming, NameSaid, AreNamesOf}
-use Rattle.ov_graphfile.specs.Code.Table.{names_of, Keeps, TakesLine}
+use Rattle.ov_graphfile.specs.Code.Table.{Keeps, TakesLine}
 
 -- the table has names that the file says, and each node that the file names has one there, or is named by the lines
 -- that are left, which the line `comment` precedes

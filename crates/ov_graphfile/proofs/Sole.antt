@@ -7,19 +7,19 @@ use Rattle.ov_ids.specs.Members.{Has, IsDistinct}
 use Rattle.ov_ids.proofs.Members.{has_append_left, has_append_right, ascends_distinct}
 use Rattle.ov_graphfile.specs.GraphFiles.{graph_line, graph_line_at, graph_line_of, graph_lines, node_said}
 use Rattle.ov_graphfile.specs.GraphFiles.{nodes_said}
+use Rattle.ov_graphfile.specs.declared.graph_line.GraphLine.{GraphLine}
 use Rattle.ov_lines.specs.Lines.{is_skipped, kept_from, kept_lines, skips, words_of}
 use Rattle.ov_graphfile.specs.NameLines.{comment_said, AreNaming}
 use Rattle.ov_graphfile.specs.Theorems.{OneName}
 
 -- the nodes that lines say, skipped ones too, which say none
-nodes_in : List (List ℕ) → List ℕ
+abbrev pub nodes_in : List (List ℕ) → List ℕ
 nodes_in [] = []
 nodes_in (line ∷ more) = node_said (graph_line line) ++ nodes_in more
 
 -- what lines name is among them
 naming_has : (before : List ℕ) (ls : List (List ℕ)) (n : ℕ) (s : List ℕ) → AreNaming before ls n s
     → Has (nodes_in ls) n
-unfolding nodes_in
 naming_has before [] n s h = absurd h
 naming_has before (l ∷ ls) n s h = elim h [
   | inl by ↦ has_append_left (node_said (graph_line l)) (nodes_in ls) n
@@ -44,7 +44,6 @@ twice xs ys n d e h = (subst (λ (zs : List ℕ). IsDistinct (zs ++ ys)) e d).0 
 
 one_of : (before : List ℕ) (ls : List (List ℕ)) (n : ℕ) (s t : List ℕ) → IsDistinct (nodes_in ls)
     → AreNaming before ls n s → AreNaming before ls n t → s ≡ t
-unfolding nodes_in
 one_of before [] n s t d a b = absurd a
 one_of before (l ∷ ls) n s t d a b =
     let own : List ℕ = node_said (graph_line l) in
@@ -59,29 +58,31 @@ one_of before (l ∷ ls) n s t d a b =
       ]
     ]
 
--- a comment says no node, and no skipped line does
+-- a comment says nothing, and no skipped line does
 comment_none : (word : List ℕ) (more : List (List ℕ)) → skips (word ∷ more) ≡ true
-    → node_said (graph_line_of (word ∷ more)) ≡ []
+    → graph_line_of (word ∷ more) ≡ None
 comment_none [] more e = absurd (cc)
 comment_none (b ∷ bs) more e =
     let is : 35 ≡ b = eqb-true 35 b (and_parts (nat_eq 35 b) true e).0 in
-    subst (λ (a : ℕ). node_said (graph_line_of ((a ∷ bs) ∷ more)) ≡ []) is refl
+    subst (λ (a : ℕ). graph_line_of ((a ∷ bs) ∷ more) ≡ None) is refl
 
-pub skipped_none : (ws : List (List ℕ)) → skips ws ≡ true → node_said (graph_line_of ws) ≡ []
+pub skipped_none : (ws : List (List ℕ)) → skips ws ≡ true → graph_line_of ws ≡ None
 skipped_none [] e = refl
 skipped_none (word ∷ more) e = comment_none word more e
 
 nodes_kept : (k : ℕ) (ls : List (List ℕ)) → nodes_said (map graph_line_at (kept_from k ls)) ≡ nodes_in ls
-unfolding nodes_in nodes_said kept_from
+unfolding nodes_said kept_from
 nodes_kept k [] = refl
 nodes_kept k (l ∷ ls) = by (is_skipped l) refl (nodes_kept (k + 1) ls) where
   by : (b : Bool) → is_skipped l ≡ b → nodes_said (map graph_line_at (kept_from (k + 1) ls)) ≡ nodes_in ls
       → nodes_said (map graph_line_at ((if b then [] else (k, l) ∷ []) ++ kept_from (k + 1) ls))
       ≡ node_said (graph_line l) ++ nodes_in ls
-  by true e later = later ∙ ap (λ (xs : List ℕ). xs ++ nodes_in ls) (sym (skipped_none (words_of l) e))
+  by true e later =
+      later ∙ ap (λ (o : Option GraphLine). node_said o ++ nodes_in ls) (sym (skipped_none (words_of l) e))
   by false e later = ap (λ (xs : List ℕ). node_said (graph_line l) ++ xs) later
 
-all_nodes : (bytes : List ℕ) → nodes_said (graph_lines bytes) ≡ nodes_in (lines bytes)
+-- the nodes that the lines of a file say
+pub all_nodes : (bytes : List ℕ) → nodes_said (graph_lines bytes) ≡ nodes_in (lines bytes)
 unfolding graph_lines kept_lines
 all_nodes bytes = nodes_kept 1 (lines bytes)
 

@@ -9,8 +9,8 @@ use Rattle.ov_ids.proofs.Members.{has_place}
 use Rattle.ov_graph.specs.Links.{LinkGraph, IsGraph}
 use Rattle.ov_graph.specs.Paths.{node_at}
 use Rattle.ov_graph.proofs.BitRows.Read.{one_place}
-use Rattle.ov_graphfile.specs.NamesState.{NamesState, IsNamed}
-use Rattle.ov_graphfile.specs.Code.Table.{names_of, Keeps}
+use Rattle.ov_graphfile.specs.NamesState.{NamesState, IsNamed, names_of}
+use Rattle.ov_graphfile.specs.Code.Table.{Keeps}
 
 -- one place more without a name
 pub none_more : {X : Type 0} (f : X → Option (List ℕ)) (xs : List X) (x : X) → f x ≡ None

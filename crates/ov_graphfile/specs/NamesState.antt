@@ -8,6 +8,10 @@ pub record NamesState : Type 0 where
   pub graph : LinkGraph
   pub told : List (Option (List ℕ))
 
+-- the graph g, with these names of its nodes, in order
+abbrev pub names_of : LinkGraph → List (Option (List ℕ)) → NamesState
+names_of g told = record { graph = g; told = told }
+
 -- the node n of the graph has this name
 abbrev pub IsNamed : NamesState → ℕ → List ℕ → Type 0
 IsNamed names n name =

@@ -27,12 +27,12 @@ impl<'a> Model for Names<'a> {
 impl<'a> Names<'a> {
     ghost use Rattle.std.specs.Prelude.{map};
     ghost use Rattle.std.specs.Option.{option_copied};
-    ghost use Rattle.ov_graphfile.specs.NamesState.{IsNamed};
+    ghost use Rattle.ov_graphfile.specs.NamesState.{IsNamed, names_of};
 
     /// The names of these nodes, each at the place of its node.
-    pub(crate) fn new(graph: &'a Graph, told: Vec<Option<&'a [u8]>>) -> Names<'a>
+    pub fn new(graph: &'a Graph, told: Vec<Option<&'a [u8]>>) -> Names<'a>
         requires { length told.items ≡ length graph.now.nodes }
-        ensures { result ≡ record { graph = graph.now; told = map (λ t. option_copied t) told.entry.items } }
+        ensures { result ≡ names_of graph.now (map (λ t. option_copied t) told.entry.items) }
     {
         Names { graph, told }
     }

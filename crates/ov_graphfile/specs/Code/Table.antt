@@ -3,11 +3,7 @@ use Rattle.std.specs.Prelude.{◌≡◌, ◌⊎◌, ℕ, List, Option}
 use Rattle.ov_ids.specs.Members.{Has}
 use Rattle.ov_graph.specs.Links.{LinkGraph}
 use Rattle.ov_graphfile.specs.NameLines.{IsNamedBy}
-use Rattle.ov_graphfile.specs.NamesState.{NamesState, IsNamed}
-
--- the names of the nodes of g are these
-abbrev pub names_of : LinkGraph → List (Option (List ℕ)) → NamesState
-names_of g told = record { graph = g; told = told }
+use Rattle.ov_graphfile.specs.NamesState.{IsNamed, names_of}
 
 -- the node n gets this name if it is a node of g. All other names stay
 pub record Keeps (g : LinkGraph) (n : ℕ) (name : List ℕ) (old new : List (Option (List ℕ))) : Type 0 where

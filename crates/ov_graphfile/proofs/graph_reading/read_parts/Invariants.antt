@@ -1,10 +1,18 @@
 -- what was taken in and what the lines that are left say are what all lines say
-use Rattle.std.proofs.Common.{length}
+use Rattle.std.proofs.Common.{◌<◌, ◌+◌, ◌^◌, length, map}
+use Rattle.std.specs.Option.{option_copied}
+use Rattle.std.specs.Str.Lines.{lines}
+use Rattle.ov_lines.specs.Lines.{kept_from}
 use Rattle.ov_graphfile.proofs.GraphFiles.Gathering.{Gathers}
+use Rattle.ov_graphfile.proofs.GraphFiles.LineByLine.{AreTold}
 use Rattle.ov_graphfile.proofs.graph_reading.read_parts.Given as goal
 
-abbrev pub invariant-loop-line : goal.invariant-loop-line
-invariant-loop-line l = Gathers l.fn.bytes l.parts.nodes.items l.parts.links.items l.left
+abbrev pub invariant-loop-before : goal.invariant-loop-before
+invariant-loop-before l = record {
+  parts : Gathers l.fn.bytes l.parts.nodes.items l.parts.links.items (kept_from (l.count + 1) (lines l.left));
+  told : AreTold l.fn.bytes (map (λ t. option_copied t) l.parts.told.items) l.before l.left;
+  room : l.count + length l.left < 2 ^ 64;
+}
 
-abbrev pub decreases-loop-line : goal.decreases-loop-line
-decreases-loop-line l = length l.left
+abbrev pub decreases-loop-before : goal.decreases-loop-before
+decreases-loop-before l = length l.left

@@ -1,8 +1,7 @@
 -- An id that is no node has no name, nor has a node whose place has none.
 use Rattle.std.proofs.Common.{ℕ, List, None, IfNone, map, refl, subst, arith}
 use Rattle.std.specs.Option.{option_copied}
-use Rattle.ov_graphfile.specs.NamesState.{NamesState, IsNamed}
-use Rattle.ov_graphfile.specs.Code.Table.{names_of}
+use Rattle.ov_graphfile.specs.NamesState.{NamesState, IsNamed, names_of}
 use Rattle.ov_graphfile.proofs.Tables.{copied_at, stranger, untold}
 use Rattle.ov_graphfile.proofs.name_table.Names.name.Goals as goal
 
