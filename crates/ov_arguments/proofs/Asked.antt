@@ -1,6 +1,9 @@
 -- What the arguments give is what a parse of them finds.
 use Rattle.std.proofs.Common.{◌≡◌, ◌∙◌, ℕ, List, [], Option, Some, None, true, false, option_map, codes, refl, ap, ap₂}
 use Rattle.std.proofs.Common.{◌⊎◌, sym, subst, inl, inr, Result, IsErrAnd, IsErrOf, arith, slice_index}
+use Rattle.std.proofs.Common.{◌+◌, ◌<◌, drop, get_or, length, IfOk, IsOkAnd, Ok, Err}
+use Rattle.std.specs.declared.alloc.AllocError.{AllocError}
+use Rattle.std.proofs.lemmas.List.{at_drop_more}
 use Rattle.std.specs.Box.{box_value}
 use Rattle.ov_ids.specs.Options.{◌>>=◌}
 use Rattle.clap.proofs.OnLiterals.{clap_on_literals}
@@ -22,8 +25,10 @@ use Rattle.ov_arguments.specs.Arguments.{AreReadableFor, IsAsked, IsOfGiven, com
 use Rattle.ov_arguments.specs.Arguments.{fault_of_parse, file_asked, format_of}
 use Rattle.ov_arguments.specs.Arguments.{group_asked, group_names_asked, is_flagged, overlay_command, text_given}
 use Rattle.ov_arguments.specs.Arguments.{workers_asked}
+use Rattle.ov_arguments.specs.Code.Options.{rule_of_option, with_options}
 use Rattle.ov_arguments.specs.declared.arguments.ArgumentsFault.TheVariants.{OutOfMemory}
 use Rattle.ov_arguments.specs.declared.arguments.Request.{Request}
+use Rattle.ov_arguments.specs.declared.clap_commands_and_help.OptionRow.{OptionRow}
 use Rattle.ov_arguments.specs.declared.arguments.Request.TheVariants.{Run, Analyse, Import, Picture, Graph}
 
 -- `clap` says what this command finds
@@ -277,3 +282,18 @@ with_subcommand_more old sub new app own adds is same plain =
     let told : (app_of sub).top.is_plain ≡ true = ap (λ (a : App). a.top.is_plain) same ∙ plain in
     adds.shape (is_false _ (both _ _ (both _ _ (both _ _ told).1).1).0)
     ∙ ap₂ with_subcommand is (ap (λ (a : App). a.top) same)
+
+-- one subcommand more, that a call returned
+pub with_command_more : (old new : Command) (more : Result Command AllocError) (app own : App)
+    → IsOkAnd more (λ m. AddsSubcommand old m new) → IfOk more (λ m. app_of m ≡ own) → app_of old ≡ app
+    → own.top.is_plain ≡ true
+    → app_of new ≡ with_subcommand app own.top
+with_command_more old new (Ok m) app own adds is same plain = with_subcommand_more old m new app own adds same is plain
+with_command_more old new (Err e) app own adds is same plain = absurd adds
+
+-- one option more: of a command to which those of a list are added, from a place on
+pub one_option_more : (app : App) (rows : List OptionRow) (i : ℕ) (d : OptionRow) → i < length rows
+    → with_options (with_rule app (rule_of_option (get_or rows i d))) (drop (i + 1) rows)
+    ≡ with_options app (drop i rows)
+unfolding with_options
+one_option_more app rows i d within = sym (at_drop_more (with_options app) rows i d within)

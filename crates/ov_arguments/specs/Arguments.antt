@@ -83,14 +83,18 @@ picture_command =
 abbrev pub graph_command : App
 graph_command = with_rule (new_app (codes "graph")) (new_rule (codes "file"))
 
--- `overlay` with these five; its own name is none of the arguments
+-- `overlay` alone; its own name is none of the arguments
+abbrev pub overlay_app : App
+overlay_app = on_top (λ s. record s { no_binary_name = true }) (new_app (codes "overlay"))
+
+-- `overlay` with these five
 abbrev pub overlay_command : App
 overlay_command =
     with_subcommand
     (with_subcommand
     (with_subcommand
     (with_subcommand
-    (with_subcommand (on_top (λ s. record s { no_binary_name = true }) (new_app (codes "overlay"))) run_command.top)
+    (with_subcommand overlay_app run_command.top)
     analyse_command.top)
     import_command.top)
     picture_command.top)

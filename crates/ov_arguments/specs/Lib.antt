@@ -1,3 +1,4 @@
 pub mod Arguments
 pub mod CommandNames
 pub mod GrowArguments
+pub mod Code

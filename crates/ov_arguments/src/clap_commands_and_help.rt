@@ -1,7 +1,8 @@
-ghost use Rattle.std.specs.Prelude.{◌≡◌, codes, false, IfOk};
-ghost use Rattle.clap.specs.Words.{app_of, new_rule, rule_of};
+ghost use Rattle.std.specs.Prelude.{◌≡◌, codes, false, IfOk, IsOkAnd};
+ghost use Rattle.clap.specs.Words.{AddsSubcommand, app_of, new_app, new_rule, rule_of, with_rule};
 ghost use Rattle.ov_arguments.specs.Arguments.{analyse_command, flag, graph_command, import_command, option};
-ghost use Rattle.ov_arguments.specs.Arguments.{overlay_command, picture_command, run_command};
+ghost use Rattle.ov_arguments.specs.Arguments.{overlay_app, overlay_command, picture_command, run_command};
+ghost use Rattle.ov_arguments.specs.Code.Options.{rule_of_option, with_options};
 
 use clap::{Arg, ArgAction, Command};
 use std::alloc::{AllocError, Global};
@@ -133,103 +134,166 @@ Example:
 
 const ABOUT_GRAPH: &str = "Prints the graph of a certificate file as a graph file";
 
+/// An option of a command.
+#[derive(Clone, Copy)]
+struct OptionRow<'a> {
+    /// Its name, without the two hyphens before it.
+    name: &'a str,
+    /// Whether a text follows it.
+    takes_text: bool,
+    /// What help says of it.
+    help: &'a str,
+}
+
 /// The arguments that `overlay` takes.
 pub(crate) fn command<'a>(alloc: Global) -> Result<Command<'a>, AllocError>
     ensures { IfOk result (λ c. app_of c ≡ overlay_command) }
 {
-    Command::new(alloc, NAME)
-        .bin_name(NAME)?
-        .no_binary_name(true)
-        .before_help(EXAMPLES)
-        .about(ABOUT)
-        .after_help(BELOW)
-        .subcommand(run_command(alloc)?)?
-        .subcommand(analyse_command(alloc)?)?
-        .subcommand(import_command(alloc)?)?
-        .subcommand(picture_command(alloc)?)?
-        .subcommand(graph_command(alloc)?)
+    let none = overlay_alone(alloc)?;
+    let run = with_command(none, run_command(alloc))?;
+    let analyse = with_command(run, analyse_command(alloc))?;
+    let import = with_command(analyse, import_command(alloc))?;
+    let picture = with_command(import, picture_command(alloc))?;
+    with_command(picture, graph_command(alloc))
+}
+
+/// `overlay`, without its commands.
+fn overlay_alone<'a>(alloc: Global) -> Result<Command<'a>, AllocError>
+    ensures { IfOk result (λ c. app_of c ≡ overlay_app) }
+{
+    Ok(
+        Command::new(alloc, NAME)
+            .bin_name(NAME)?
+            .no_binary_name(true)
+            .before_help(EXAMPLES)
+            .about(ABOUT)
+            .after_help(BELOW),
+    )
+}
+
+/// With one command more.
+pub(crate) fn with_command<'a>(
+    command: Command<'a>,
+    more: Result<Command<'a>, AllocError>,
+) -> Result<Command<'a>, AllocError>
+    ensures { IfOk result (λ c. IsOkAnd more.entry (λ m. AddsSubcommand command.entry m c)) }
+{
+    command.subcommand(more?)
 }
 
 /// The arguments after `run`.
 fn run_command<'a>(alloc: Global) -> Result<Command<'a>, AllocError>
     ensures { IfOk result (λ c. app_of c ≡ run_command) }
 {
-    Command::new(alloc, "run")
-        .before_help(RUN_EXAMPLES)
-        .about(ABOUT_RUN)
-        .after_help(BELOW_RUN)
-        .arg(file(alloc, SCENARIO_FILE))?
-        .arg(flag(alloc, "explain", EXPLAIN))?
-        .arg(flag(alloc, "strict", STRICT))?
-        .arg(flag(alloc, "progress", PROGRESS))
+    let options = [
+        flag("explain", EXPLAIN),
+        flag("strict", STRICT),
+        flag("progress", PROGRESS),
+    ];
+    let command = named(alloc, "run", RUN_EXAMPLES, ABOUT_RUN).after_help(BELOW_RUN);
+    with_arguments(alloc, command, SCENARIO_FILE, &options)
 }
 
 /// The arguments after `analyse`.
 fn analyse_command<'a>(alloc: Global) -> Result<Command<'a>, AllocError>
     ensures { IfOk result (λ c. app_of c ≡ analyse_command) }
 {
-    Command::new(alloc, "analyse")
-        .before_help(ANALYSE_EXAMPLES)
-        .about(ABOUT_ANALYSE)
-        .arg(file(alloc, GRAPH_FILE))?
-        .arg(option(alloc, "group", GROUP))?
-        .arg(option(alloc, "workers", WORKERS))?
-        .arg(flag(alloc, "certificate", CERTIFICATE))?
-        .arg(flag(alloc, "names", NAMES))?
-        .arg(flag(alloc, "explain", EXPLAIN_ANSWER))?
-        .arg(flag(alloc, "progress", PROGRESS))
+    let options = [
+        option("group", GROUP),
+        option("workers", WORKERS),
+        flag("certificate", CERTIFICATE),
+        flag("names", NAMES),
+        flag("explain", EXPLAIN_ANSWER),
+        flag("progress", PROGRESS),
+    ];
+    let command = named(alloc, "analyse", ANALYSE_EXAMPLES, ABOUT_ANALYSE);
+    with_arguments(alloc, command, GRAPH_FILE, &options)
 }
 
 /// The arguments after `import`.
 fn import_command<'a>(alloc: Global) -> Result<Command<'a>, AllocError>
     ensures { IfOk result (λ c. app_of c ≡ import_command) }
 {
-    Command::new(alloc, "import")
-        .before_help(IMPORT_EXAMPLES)
-        .about(ABOUT_IMPORT)
-        .after_help(BELOW_IMPORT)
-        .arg(file(alloc, DUMP_FILE))?
-        .arg(flag(alloc, "views", VIEWS))?
-        .arg(flag(alloc, "edges", EDGES))?
-        .arg(flag(alloc, "dot", DOT))?
-        .arg(flag(alloc, "either", EITHER))?
-        .arg(flag(alloc, "entries", ENTRIES))
+    let options = [
+        flag("views", VIEWS),
+        flag("edges", EDGES),
+        flag("dot", DOT),
+        flag("either", EITHER),
+        flag("entries", ENTRIES),
+    ];
+    let command = named(alloc, "import", IMPORT_EXAMPLES, ABOUT_IMPORT).after_help(BELOW_IMPORT);
+    with_arguments(alloc, command, DUMP_FILE, &options)
 }
 
 /// The arguments after `picture`.
 fn picture_command<'a>(alloc: Global) -> Result<Command<'a>, AllocError>
     ensures { IfOk result (λ c. app_of c ≡ picture_command) }
 {
-    Command::new(alloc, "picture")
-        .before_help(PICTURE_EXAMPLES)
-        .about(ABOUT_PICTURE)
-        .arg(file(alloc, CERTIFICATE_FILE))?
-        .arg(option(alloc, "names", NAMES_FILE))?
-        .arg(option(alloc, "pair", PAIR))?
-        .arg(option(alloc, "fan", FAN))?
-        .arg(flag(alloc, "dot", DOT_PICTURE))
+    let options = [
+        option("names", NAMES_FILE),
+        option("pair", PAIR),
+        option("fan", FAN),
+        flag("dot", DOT_PICTURE),
+    ];
+    let command = named(alloc, "picture", PICTURE_EXAMPLES, ABOUT_PICTURE);
+    with_arguments(alloc, command, CERTIFICATE_FILE, &options)
 }
 
 /// The arguments after `graph`.
 fn graph_command<'a>(alloc: Global) -> Result<Command<'a>, AllocError>
     ensures { IfOk result (λ c. app_of c ≡ graph_command) }
 {
-    Command::new(alloc, "graph")
-        .before_help(GRAPH_EXAMPLES)
-        .about(ABOUT_GRAPH)
-        .arg(file(alloc, CERTIFICATE_FILE))
+    let command = named(alloc, "graph", GRAPH_EXAMPLES, ABOUT_GRAPH);
+    with_arguments(alloc, command, CERTIFICATE_FILE, &[])
+}
+
+/// A command of this name, with its help.
+fn named<'a>(alloc: Global, name: &'a str, examples: &'a str, about: &'a str) -> Command<'a>
+    ensures { app_of result ≡ new_app name.entry.now }
+{
+    Command::new(alloc, name).before_help(examples).about(about)
+}
+
+/// The command with a file, of which help says this, and with these options.
+fn with_arguments<'a>(
+    alloc: Global,
+    command: Command<'a>,
+    file: &'a str,
+    options: &[OptionRow<'a>],
+) -> Result<Command<'a>, AllocError>
+    ensures { IfOk result
+        (λ c. app_of c ≡ with_options (with_rule (app_of command.entry) (new_rule (codes "file"))) options.now) }
+{
+    let mut command = command.arg(file_argument(alloc, file))?;
+    for row in options {
+        command = command.arg(row.argument(alloc))?;
+    }
+    Ok(command)
 }
 
 /// A file, of which help says this.
-fn file<'a>(alloc: Global, help: &'a str) -> Arg<'a>
+fn file_argument<'a>(alloc: Global, help: &'a str) -> Arg<'a>
     ensures rule { rule_of result ≡ new_rule (codes "file") }
     ensures local { result.global ≡ false }
 {
     Arg::new(alloc, "file").help(help)
 }
 
+impl<'a> OptionRow<'a> {
+    /// What the option is to `clap`.
+    fn argument(&self, alloc: Global) -> Arg<'a>
+        ensures rule { rule_of result ≡ rule_of_option self.now }
+        ensures local { result.global ≡ false }
+    {
+        if self.takes_text {
+            return text_argument(alloc, self.name, self.help);
+        }
+        flag_argument(alloc, self.name, self.help)
+    }
+}
+
 /// An option of this name, with a text. Help says this of it.
-fn option<'a>(alloc: Global, name: &'a str, help: &'a str) -> Arg<'a>
+fn text_argument<'a>(alloc: Global, name: &'a str, help: &'a str) -> Arg<'a>
     ensures rule { rule_of result ≡ option name.entry.now }
     ensures local { result.global ≡ false }
 {
@@ -240,7 +304,7 @@ fn option<'a>(alloc: Global, name: &'a str, help: &'a str) -> Arg<'a>
 }
 
 /// An option of this name, without a text. Help says this of it.
-fn flag<'a>(alloc: Global, name: &'a str, help: &'a str) -> Arg<'a>
+fn flag_argument<'a>(alloc: Global, name: &'a str, help: &'a str) -> Arg<'a>
     ensures rule { rule_of result ≡ flag name.entry.now }
     ensures local { result.global ≡ false }
 {
@@ -248,4 +312,26 @@ fn flag<'a>(alloc: Global, name: &'a str, help: &'a str) -> Arg<'a>
         .long(name)
         .action(ArgAction::SetTrue)
         .help(help)
+}
+
+/// The row of an option with a text.
+fn option<'a>(name: &'a str, help: &'a str) -> OptionRow<'a>
+    ensures { rule_of_option result ≡ option name.entry.now }
+{
+    OptionRow {
+        name,
+        takes_text: true,
+        help,
+    }
+}
+
+/// The row of an option without a text.
+fn flag<'a>(name: &'a str, help: &'a str) -> OptionRow<'a>
+    ensures { rule_of_option result ≡ flag name.entry.now }
+{
+    OptionRow {
+        name,
+        takes_text: false,
+        help,
+    }
 }

@@ -1,4 +1,4 @@
-use crate::clap_commands_and_help;
+use crate::clap_commands_and_help::{self, with_command};
 use crate::growing_option_table::{OPTIONS, ORDERS, OptionForm, SWEEP_OPTIONS, Takes};
 use clap::{Arg, ArgAction, Command};
 use std::alloc::{AllocError, Global};
@@ -72,9 +72,14 @@ impl CommandName {
 /// The words of these two are parsed by their own part of the tree, and all others by the part without them: `clap` has
 /// exact contracts for commands whose options take no lists and exclude no others.
 pub(crate) fn command_tree<'a>(alloc: Global) -> Result<Command<'a>, AllocError> {
-    clap_commands_and_help::command(alloc)?
-        .subcommand(grow_command(alloc)?.hide(true))?
-        .subcommand(sweep_command(alloc)?.hide(true))
+    let others = clap_commands_and_help::command(alloc)?;
+    let grow = with_command(others, hidden(grow_command(alloc)))?;
+    with_command(grow, hidden(sweep_command(alloc)))
+}
+
+/// The command, of which no list tells.
+fn hidden<'a>(command: Result<Command<'a>, AllocError>) -> Result<Command<'a>, AllocError> {
+    Ok(command?.hide(true))
 }
 
 /// The words that a command takes.

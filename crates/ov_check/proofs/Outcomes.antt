@@ -18,9 +18,9 @@ use Rattle.ov_certfile.specs.Says as file
 use Rattle.ov_certfile.specs.Says.{SaysFile, SaysText}
 use Rattle.ov_certfile.proofs.OneAnswer.{text_one}
 use Rattle.ov_check.specs.Outcome.{BytesSay, IsRefused, IsOutcome, AreAlike}
-use Rattle.ov_check.specs.declared.outcome.Refusal.{Refusal}
-use Rattle.ov_check.specs.declared.outcome.Outcome.{Outcome}
-use Rattle.ov_check.specs.declared.outcome.Outcome.TheVariants.{Holds, Fails, Refused}
+use Rattle.ov_check.specs.declared.outcome_of_file_bytes.Refusal.{Refusal}
+use Rattle.ov_check.specs.declared.outcome_of_file_bytes.Outcome.{Outcome}
+use Rattle.ov_check.specs.declared.outcome_of_file_bytes.Outcome.TheVariants.{Holds, Fails, Refused}
 
 -- bytes say one thing alone
 says_one : (bytes : List ℕ) (a b : Result Filed FileFault) → BytesSay bytes a → BytesSay bytes b

@@ -2,7 +2,7 @@
 use Rattle.std.proofs.Common.{◌≡◌, ◌≢◌, ◌+◌, ◌∙◌, ℕ, List, Option, IfSome, IfOk, Result, Ok, Err, refl, sym, ap}
 use Rattle.std.specs.Io.KnownBytes.{Appends, IsAtEnd}
 use Rattle.ov_io.specs.Device.{SourceState, SinkState, write_faults, AppendsPrefixOf}
-use Rattle.ov_check.specs.declared.outcome.Outcome.{Outcome}
+use Rattle.ov_check.specs.declared.outcome_of_file_bytes.Outcome.{Outcome}
 use Rattle.ov_check.specs.declared.read_or_write_fault.JudgeFault.{JudgeFault}
 use Rattle.ov_check.specs.declared.read_or_write_fault.JudgeFault.TheVariants.{Read, Write, OutOfMemory}
 use Rattle.ov_check.specs.Faults.{number_of}

@@ -6,8 +6,8 @@ use Rattle.ov_cert.specs.declared.fault.CheckFault.TheVariants.{Pair, Fan}
 use Rattle.ov_cert.specs.Number as check_fault
 use Rattle.ov_certfile.specs.CertLine.{cert_text}
 use Rattle.ov_certfile.specs.Number as file_fault
-use Rattle.ov_check.specs.declared.outcome.Outcome.{Outcome}
-use Rattle.ov_check.specs.declared.outcome.Outcome.TheVariants.{Holds, Fails, Refused}
+use Rattle.ov_check.specs.declared.outcome_of_file_bytes.Outcome.{Outcome}
+use Rattle.ov_check.specs.declared.outcome_of_file_bytes.Outcome.TheVariants.{Holds, Fails, Refused}
 
 -- the nodes that a fault names
 abbrev pub named_text : CheckFault → List ℕ

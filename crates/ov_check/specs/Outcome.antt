@@ -9,9 +9,9 @@ use Rattle.ov_certfile.specs.declared.reading.Filed.{Filed}
 use Rattle.ov_certfile.specs.declared.fault.FileFault.{FileFault}
 use Rattle.ov_certfile.specs.FaultKinds.{NotJson, kind_of, kind_in}
 use Rattle.ov_certfile.specs.Says.{SaysText}
-use Rattle.ov_check.specs.declared.outcome.Outcome.{Outcome}
-use Rattle.ov_check.specs.declared.outcome.Refusal.{Refusal}
-use Rattle.ov_check.specs.declared.outcome.Outcome.TheVariants.{Holds, Fails, Refused}
+use Rattle.ov_check.specs.declared.outcome_of_file_bytes.Outcome.{Outcome}
+use Rattle.ov_check.specs.declared.outcome_of_file_bytes.Refusal.{Refusal}
+use Rattle.ov_check.specs.declared.outcome_of_file_bytes.Outcome.TheVariants.{Holds, Fails, Refused}
 
 -- what the bytes say as a certificate file, or their first fault; bytes that are not text are not JSON
 abbrev pub BytesSay : List ℕ → Result Filed FileFault → Type 0

@@ -5,7 +5,7 @@ ghost use Rattle.ov_check.specs.Faults.{number_of};
 ghost use Rattle.ov_check.specs.Line.{printed_of};
 ghost use Rattle.ov_check.specs.Run.{IsRun, Judgement, status_in};
 
-use crate::outcome::{Outcome, outcome_of, outcome_parallel};
+use crate::outcome_of_file_bytes::{Outcome, outcome_of, outcome_parallel};
 use crate::read_or_write_fault::JudgeFault;
 use ov_io::{Sink, Source};
 use std::alloc::Global;

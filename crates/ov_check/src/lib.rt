@@ -4,8 +4,8 @@
 mod arguments_and_exit_status;
 mod check_or_memory_fault;
 mod engine;
-mod outcome;
 mod outcome_line;
+mod outcome_of_file_bytes;
 mod parallel;
 mod read_or_write_fault;
 
@@ -14,6 +14,6 @@ pub use arguments_and_exit_status::{
 };
 pub use check_or_memory_fault::ParallelFault;
 pub use engine::{Judged, judge, judge_kept, judge_parallel};
-pub use outcome::{Outcome, Refusal, filed_in, outcome_of};
+pub use outcome_of_file_bytes::{Outcome, Refusal, filed_in, outcome_of};
 pub use parallel::{check_group_parallel, check_parallel};
 pub use read_or_write_fault::JudgeFault;

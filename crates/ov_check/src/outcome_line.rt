@@ -1,4 +1,4 @@
-use crate::outcome::Outcome;
+use crate::outcome_of_file_bytes::Outcome;
 use ov_cert::CheckFault;
 use ov_certfile::CertText;
 use std::fmt::{Display, Formatter, Result, Write};

@@ -5,7 +5,7 @@ use Rattle.ov_ids.proofs.Stepping.{step_none}
 use Rattle.ov_cert.specs.declared.cert.Cert.{Cert}
 use Rattle.ov_certfile.specs.declared.reading.Filed.{Filed}
 use Rattle.ov_check.specs.Outcome.{IsOutcome}
-use Rattle.ov_check.specs.declared.outcome.Outcome.TheVariants.{Holds}
+use Rattle.ov_check.specs.declared.outcome_of_file_bytes.Outcome.TheVariants.{Holds}
 use Rattle.ov_picture.specs.Chosen.{shown_paths}
 use Rattle.ov_picture.specs.Faults.{PictureJudged}
 use Rattle.ov_picture.specs.declared.chosen_entry.ChosenEntry.{ChosenEntry}

@@ -8,8 +8,8 @@ use Rattle.ov_cert.specs.Number as cert
 use Rattle.ov_certfile.specs.Number as certificate_file
 use Rattle.ov_certfile.specs.declared.reading.Filed.{Filed}
 use Rattle.ov_check.specs.Outcome.{IsOutcome, status_of}
-use Rattle.ov_check.specs.declared.outcome.Outcome.{Outcome}
-use Rattle.ov_check.specs.declared.outcome.Outcome.TheVariants.{Holds, Fails, Refused as refused}
+use Rattle.ov_check.specs.declared.outcome_of_file_bytes.Outcome.{Outcome}
+use Rattle.ov_check.specs.declared.outcome_of_file_bytes.Outcome.TheVariants.{Holds, Fails, Refused as refused}
 use Rattle.ov_graph.specs.Links.{LinkGraph}
 use Rattle.ov_graphfile.specs.Faults as graph_file
 use Rattle.ov_graphfile.specs.GraphFiles.{IsGraphFile, IsGraphFileFault}

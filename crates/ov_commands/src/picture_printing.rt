@@ -1,6 +1,6 @@
 ghost use Rattle.std.specs.Prelude.{◌≡◌, ◌<◌, option_map, string_bytes, Some, MatchResult, IfOk, OnOk};
 ghost use Rattle.ov_check.specs.Outcome.{SaysExactNumber, IsOutcome};
-ghost use Rattle.ov_check.specs.declared.outcome.Outcome.TheVariants.{Holds};
+ghost use Rattle.ov_check.specs.declared.outcome_of_file_bytes.Outcome.TheVariants.{Holds};
 ghost use Rattle.ov_graphfile.specs.Faults.{number_of as graph_file_number};
 ghost use Rattle.ov_io.specs.Device.{most_faults};
 ghost use Rattle.ov_commands.specs.Pictures.{WasPicturePrinted, EndsAsAsked, NamesGraph, chosen_entry};

@@ -6,7 +6,7 @@ ghost use Rattle.ov_dump.specs.Importing.{WasImported};
 ghost use Rattle.ov_dump.specs.ShownNames.{shown_text};
 ghost use Rattle.ov_dump.specs.declared.refusal_or_write_fault.ImportFault.TheVariants.{Write as write_failed};
 
-use crate::name_escaping::shown_name;
+use crate::names_shown_on_one_line::shown_name;
 use crate::refusal_or_write_fault::ImportFault;
 use crate::{Choice, Dump, Name, NamedGraph, named_graph};
 use ov_graph::Graph;

@@ -12,10 +12,10 @@ mod fault;
 mod graph_making;
 mod listing_graphs;
 mod name;
-mod name_escaping;
-mod name_round_trip_theorems;
+mod name_and_listing_making;
 mod name_set;
-mod names_from_texts;
+mod names_in_graph_file_theorems;
+mod names_shown_on_one_line;
 mod names_without_entry;
 mod node_names_by_choice;
 mod node_numbering;
@@ -34,7 +34,9 @@ pub use edges_reading::read_edges;
 pub use fault::DumpFault;
 pub use graph_making::named_graph;
 pub use name::Name;
-pub use name_round_trip_theorems::{names_are_read, names_come_back, names_differ, one_shown_name};
+pub use names_in_graph_file_theorems::{
+    names_are_read, names_come_back, names_differ, one_shown_name,
+};
 pub use operator_notes::import_notes;
 pub use reading_fault::ReadingFault;
 pub use refusal_or_write_fault::ImportFault;

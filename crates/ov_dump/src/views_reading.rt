@@ -3,7 +3,7 @@ ghost use Rattle.json.specs.Value.{items_view, members_view, value_view};
 ghost use Rattle.ov_dump.specs.Views.{IsViewsFault, SayDump, SaysViews, listings_of, peers, texts};
 ghost use Rattle.ov_dump.specs.Code.Reading.{DumpOf, FailsAt, FailsFrom, as_items, as_members};
 
-use crate::names_from_texts::{listing_of, name_of};
+use crate::name_and_listing_making::{listing_of, name_of};
 use crate::reading_fault::ReadingFault;
 use crate::{Dump, Entry, Listing};
 use json::{Error, Scratch, Value};

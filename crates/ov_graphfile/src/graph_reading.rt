@@ -17,7 +17,7 @@ ghost use Rattle.ov_graphfile.specs.Code.UnreadAt.{IsUnreadAt};
 use crate::fault::{GraphFileFault, UnreadLine};
 use crate::graph_line::{GraphLine, read_graph_line};
 use crate::line_finding::line_at_fault;
-use crate::name_comment::name_by;
+use crate::name_comment_reading::name_by;
 use ov_graph::{Graph, GraphFault};
 use ov_ids::{NodeId, OutOfMemory};
 use ov_lines::{LineCursor, split_line};
@@ -131,8 +131,8 @@ pub fn read_graph(alloc: Global, bytes: &[u8]) -> Result<Graph, GraphFileFault>
     }
 }
 
-/// Does what `read_graph` does, and returns beside the graph the names that the file keeps of its nodes, as `read_names`
-/// does: each at the place of its node, as `Names::new` takes them. Each line is read once.
+/// Does what `read_graph` does, and returns beside the graph the names that the file keeps of its nodes, as
+/// `read_names` does: each at the place of its node, as `Names::new` takes them. Each line is read once.
 pub fn read_named_graph(
     alloc: Global,
     bytes: &[u8],

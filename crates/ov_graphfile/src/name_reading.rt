@@ -3,7 +3,7 @@ ghost use Rattle.std.specs.Option.{option_copied};
 ghost use Rattle.ov_graphfile.specs.NameLines.{AreNamesOf};
 ghost use Rattle.ov_graphfile.specs.Code.Table.{Keeps, TakesLine};
 
-use crate::name_comment::name_said;
+use crate::name_comment_reading::name_said;
 use crate::name_table::Names;
 use ov_graph::Graph;
 use ov_ids::{NodeId, OutOfMemory};

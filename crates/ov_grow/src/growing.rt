@@ -9,9 +9,9 @@ ghost use Rattle.ov_grow.specs.Growing.{beginning};
 ghost use Rattle.ov_grow.specs.Code.Standing.{Goes, IsNoWay, IsRefusedAct, growth_of};
 ghost use Rattle.ov_grow.specs.declared.fault.GrowFault.TheVariants.{OutOfMemory as out_of_memory};
 
-use crate::choices::Choices;
-use crate::core_with_script::{Recorded, Recording};
+use crate::core_recorded_as_script::{Recorded, Recording};
 use crate::fault::GrowFault;
+use crate::random_choices::Choices;
 use crate::recordable_event::Act;
 use ov_grow_options::GrowOptions;
 use ov_ids::{NodeId, OutOfMemory};

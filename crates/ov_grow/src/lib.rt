@@ -3,8 +3,7 @@
 #![tactic(auto)]
 
 mod broadcasts;
-mod choices;
-mod core_with_script;
+mod core_recorded_as_script;
 mod fault;
 mod growing;
 mod healing_phase;
@@ -18,6 +17,7 @@ mod packet_turns;
 mod phase_ending;
 mod phase_measurements;
 mod phase_moment_and_deliveries;
+mod random_choices;
 mod recordable_event;
 mod replay_theorem;
 mod report_making;
@@ -28,7 +28,7 @@ mod sweep_fault;
 mod sweep_row_making;
 mod sweeping;
 
-pub use core_with_script::{Recorded, Recording};
+pub use core_recorded_as_script::{Recorded, Recording};
 pub use fault::GrowFault;
 pub use options_determine_growth::{one_growth, one_row};
 pub use overlay_batch_growing::{GrownBatch, RefusedRun, grow_batch};

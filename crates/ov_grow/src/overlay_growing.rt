@@ -4,7 +4,7 @@ ghost use Rattle.ov_snap.specs.ReportState.{ReportState};
 ghost use Rattle.ov_grow.specs.Replay.{Replays};
 ghost use Rattle.ov_grow.specs.Growing.{Grows, IsGrowRefusal};
 
-use crate::core_with_script::Recorded;
+use crate::core_recorded_as_script::Recorded;
 use crate::fault::GrowFault;
 use crate::growing::Growing;
 use crate::phase_moment_and_deliveries::Phase;

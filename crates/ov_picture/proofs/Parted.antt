@@ -10,11 +10,11 @@ use Rattle.ov_cert.specs.Valid.{IsCutOff, IsValidForGroup}
 use Rattle.ov_cert.specs.declared.cert.Cert.{Cert}
 use Rattle.ov_cert.specs.declared.cert.Cert.TheVariants as cert
 use Rattle.ov_cert.specs.declared.cert.Split.{Split}
-use Rattle.ov_picture.specs.declared.classes.NodeClass.{NodeClass}
-use Rattle.ov_picture.specs.declared.classes.NodeClass.TheVariants as node
-use Rattle.ov_picture.specs.declared.classes.Band.{Band}
-use Rattle.ov_picture.specs.declared.classes.Band.TheVariants as band
-use Rattle.ov_picture.specs.declared.classes.LinkClass.TheVariants as link
+use Rattle.ov_picture.specs.declared.node_and_link_classes.NodeClass.{NodeClass}
+use Rattle.ov_picture.specs.declared.node_and_link_classes.NodeClass.TheVariants as node
+use Rattle.ov_picture.specs.declared.node_and_link_classes.Band.{Band}
+use Rattle.ov_picture.specs.declared.node_and_link_classes.Band.TheVariants as band
+use Rattle.ov_picture.specs.declared.node_and_link_classes.LinkClass.TheVariants as link
 use Rattle.ov_picture.specs.declared.drawing.DrawnLink.{DrawnLink}
 use Rattle.ov_picture.specs.Classes.{class_of, band_of, link_class}
 use Rattle.ov_picture.specs.Drawn.{DrawsLink, DrawsLinks, NoneAcross}

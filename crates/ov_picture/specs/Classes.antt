@@ -3,12 +3,12 @@ use Rattle.std.specs.Prelude.{ℕ, ◌==◌, if◌then◌else◌}
 use Rattle.ov_ids.specs.Sets.{has}
 use Rattle.ov_cert.specs.declared.cert.Cert.{Cert}
 use Rattle.ov_cert.specs.declared.cert.Cert.TheVariants as cert
-use Rattle.ov_picture.specs.declared.classes.NodeClass.{NodeClass}
-use Rattle.ov_picture.specs.declared.classes.NodeClass.TheVariants as node
-use Rattle.ov_picture.specs.declared.classes.Band.{Band}
-use Rattle.ov_picture.specs.declared.classes.Band.TheVariants as band
-use Rattle.ov_picture.specs.declared.classes.LinkClass.{LinkClass}
-use Rattle.ov_picture.specs.declared.classes.LinkClass.TheVariants as link
+use Rattle.ov_picture.specs.declared.node_and_link_classes.NodeClass.{NodeClass}
+use Rattle.ov_picture.specs.declared.node_and_link_classes.NodeClass.TheVariants as node
+use Rattle.ov_picture.specs.declared.node_and_link_classes.Band.{Band}
+use Rattle.ov_picture.specs.declared.node_and_link_classes.Band.TheVariants as band
+use Rattle.ov_picture.specs.declared.node_and_link_classes.LinkClass.{LinkClass}
+use Rattle.ov_picture.specs.declared.node_and_link_classes.LinkClass.TheVariants as link
 
 -- the class that a certificate gives a node. In a valid certificate cut and side share no node, near is on the side and
 -- far is in neither, so the order of the cases matters only in a certificate that is not valid

@@ -8,7 +8,7 @@ use Rattle.ov_graph.specs.Links.{LinkGraph}
 use Rattle.ov_cert.specs.declared.cert.Cert.{Cert}
 use Rattle.ov_picture.specs.declared.drawing.DrawnNode.{DrawnNode}
 use Rattle.ov_picture.specs.declared.drawing.DrawnLink.{DrawnLink}
-use Rattle.ov_picture.specs.declared.classes.LinkClass.TheVariants.{Across}
+use Rattle.ov_picture.specs.declared.node_and_link_classes.LinkClass.TheVariants.{Across}
 use Rattle.ov_picture.specs.Classes.{class_of, band_of, link_class}
 
 -- the path goes along the link: it has the two ends of the link one after the other, in either order

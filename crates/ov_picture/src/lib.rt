@@ -4,7 +4,6 @@
 
 mod chosen_entry;
 mod class_names;
-mod classes;
 mod dot_writing;
 mod drawing;
 mod escaped_texts;
@@ -12,6 +11,7 @@ mod fault;
 mod headings;
 mod labels;
 mod layout;
+mod node_and_link_classes;
 mod node_classes;
 mod node_columns;
 mod node_position;
@@ -28,8 +28,8 @@ mod svg_style;
 mod svg_writing;
 
 pub use chosen_entry::ChosenEntry;
-pub use classes::{Band, LinkClass, NodeClass};
 pub use dot_writing::dot;
 pub use drawing::{Drawing, DrawnLink, DrawnNode, draw};
 pub use fault::PictureFault;
+pub use node_and_link_classes::{Band, LinkClass, NodeClass};
 pub use svg_writing::svg;

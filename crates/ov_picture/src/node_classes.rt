@@ -5,7 +5,7 @@ ghost use Rattle.ov_ids.specs.Sets.{has};
 ghost use Rattle.ov_picture.specs.Code.Named.{named_class, SaysClasses};
 ghost use Rattle.ov_picture.specs.Code.Tables.{class_in};
 
-use crate::classes::NodeClass;
+use crate::node_and_link_classes::NodeClass;
 use ov_cert::{Cert, Split};
 use ov_ids::{NodeId, OutOfMemory};
 use std::alloc::Global;

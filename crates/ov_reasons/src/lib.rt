@@ -14,11 +14,11 @@ mod graph_file_texts;
 mod input_reading;
 mod line_and_mark;
 mod line_number_and_remaining_count;
-mod look_and_analysis_texts;
+mod line_refusal_reason_texts;
+mod look_and_analysis_refusal_texts;
 mod paced_clock;
 mod pacing;
 mod parameter_limit_texts;
-mod refused_lines;
 mod scenario_file_texts;
 mod snapshot_moment_texts;
 mod unknown_line_name_texts;
@@ -30,7 +30,9 @@ pub use fault_printing::{print_fault, print_reason, without_memory};
 pub use fault_reasons::{analysis_reason, run_reason};
 pub use graph_file_texts::graph_reasons;
 pub use input_reading::{STANDARD_INPUT, bytes_asked, bytes_of, bytes_of_file, opened};
+pub use line_refusal_reason_texts::{
+    core_refusal_reason, count_line, refusal_line, world_refusal_reason,
+};
 pub use paced_clock::PacedClock;
-pub use refused_lines::{core_refusal_reason, count_line, refusal_line, world_refusal_reason};
 pub use scenario_file_texts::scenario_reasons;
 pub use which_command_tips::{print_file_tip, print_folder_tip, print_tip, print_unread_tip};

@@ -6,7 +6,7 @@ mod hall_outside_sections;
 mod line_outcome;
 mod line_running;
 mod recent_reports;
-mod report_filing;
+mod report_making_and_filing;
 mod run_watcher;
 mod section_jobs_by_thread;
 mod section_running;

@@ -14,7 +14,7 @@ ghost use Rattle.ov_scenario.specs.declared.line_of_section.Deed.TheVariants as 
 
 use crate::line_outcome::ToldLine;
 use crate::recent_reports::RecentReports;
-use crate::report_filing::report_about;
+use crate::report_making_and_filing::report_about;
 use crate::run_watcher::RanLine;
 use ov_hall::{Hall, HallName, Pass};
 use ov_ids::{OutOfMemory, Seq, Workers};

@@ -3,8 +3,8 @@
 #![tactic(auto)]
 
 mod line_progress;
-mod refusal_reason_printing;
 mod refusals_and_progress;
+mod refused_line_explaining;
 mod run_command;
 mod run_with_buffered_output;
 

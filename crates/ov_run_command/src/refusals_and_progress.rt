@@ -1,5 +1,5 @@
 use crate::line_progress::LineProgress;
-use crate::refusal_reason_printing::Explaining;
+use crate::refused_line_explaining::Explaining;
 use ov_arguments::RunRequest;
 use ov_run::{RanLine, RunWatcher};
 use ov_run_meaning::Refusal;

@@ -5,18 +5,18 @@
 mod analysis_report;
 mod core_fault;
 mod core_steps;
-mod filed_report_theorems;
-mod filed_reports;
 mod ghost_log_of_drivers;
 mod kept_snapshots;
+mod reports_by_moment_and_group;
 mod snapshot_core;
+mod true_filed_reports_theorems;
 mod worker_desk_calls;
 
 pub use analysis_report::Report;
 pub use core_fault::CoreFault;
 pub use core_steps::{CoreStep, run_core};
-pub use filed_report_theorems::{every_report_is_true, every_report_stays};
 pub use ghost_log_of_drivers::{Mark, Ticket};
 pub use kept_snapshots::Snapshot;
 pub use ov_cert::SharedGraph;
 pub use snapshot_core::Core;
+pub use true_filed_reports_theorems::{every_report_is_true, every_report_stays};

@@ -15,8 +15,8 @@ ghost use Rattle.ov_snap.specs.declared.core_fault.CoreFault.TheVariants.{NoSuch
 
 use crate::analysis_report::Report;
 use crate::core_fault::CoreFault;
-use crate::filed_reports::Reports;
 use crate::kept_snapshots::{Snapshot, find, make_room};
+use crate::reports_by_moment_and_group::Reports;
 use ov_cert::SharedGraph;
 use ov_desk::GroupDesk;
 use ov_ids::{NodeId, OutOfMemory, Params};

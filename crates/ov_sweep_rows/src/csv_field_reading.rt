@@ -1,6 +1,6 @@
 ghost use Rattle.std.specs.Prelude.{◌≡◌, IfOk, IfSome};
 ghost use Rattle.csv.specs.Records.{fields_of};
-ghost use Rattle.ov_sweep_rows.specs.Code.Fields.{text_at};
+ghost use Rattle.ov_sweep_rows.specs.Fields.{text_at};
 ghost use Rattle.ov_sweep_rows.specs.RowTexts.{Spells};
 
 use crate::{FieldFault, FieldForm, RowFault};

@@ -18,8 +18,8 @@ mod row_reading;
 mod row_writing;
 mod runs_by_setting;
 mod setting_names;
-mod summary;
-mod survival;
+mod summary_text_writing;
+mod survived_crashes_in_words;
 mod text_table;
 
 pub use confidence_interval::{Interval, wilson_interval};
@@ -30,5 +30,5 @@ pub use row_fault::{FieldFault, FieldForm, RowFault};
 pub use row_reading::read_rows;
 pub use row_writing::{header_text, row_text};
 pub use runs_by_setting::{Setting, settings_of};
-pub use summary::summary_text;
-pub use survival::Survival;
+pub use summary_text_writing::summary_text;
+pub use survived_crashes_in_words::Survival;

@@ -3,7 +3,7 @@ use crate::picture_style::{STYLE, tone};
 use crate::plot_panel::{Panel, push_panel};
 use crate::runs_by_setting::{common_command, differing, number, run_counts};
 use crate::setting_names::{SETTING_NAMES, SettingName};
-use crate::summary::phase_name;
+use crate::summary_text_writing::phase_name;
 use crate::{Phase, Setting};
 use ov_ids::OutOfMemory;
 use std::alloc::{AllocError, Global};

@@ -4,7 +4,7 @@ use crate::picture_style::tone;
 use crate::plot_dots::push_dots;
 use crate::runs_by_setting::{cell_at, number, shown_cell};
 use crate::setting_names::SETTING_NAMES;
-use crate::summary::percent;
+use crate::summary_text_writing::percent;
 use crate::{Phase, Row, Setting};
 use std::alloc::{AllocError, Global};
 use std::fmt::Write;

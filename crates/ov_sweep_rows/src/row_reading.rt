@@ -1,8 +1,11 @@
-ghost use Rattle.std.specs.Prelude.{◌<◌, IfOk};
-ghost use Rattle.csv.specs.Records.{fields_of};
+ghost use Rattle.std.specs.Prelude.{◌≡◌, ◌<◌, ◌↔◌, ◌++◌, ◌∷◌, [], IfOk, IsTrue, OnOk, Some, map};
+ghost use Rattle.csv.specs.Records.{field_at, fields_of};
+ghost use Rattle.ov_sweep_rows.specs.Columns.{columns};
+ghost use Rattle.ov_sweep_rows.specs.Reading.{AreRowsOf};
+ghost use Rattle.ov_sweep_rows.specs.Code.Taking.{WasTaken};
 ghost use Rattle.ov_sweep_rows.specs.RowTexts.{Spells};
-ghost use Rattle.ov_sweep_rows.specs.Code.Fields.{text_at, SayOptions, SayParams, SayPhase, SayRow, SpellsCrash};
-ghost use Rattle.ov_sweep_rows.specs.Code.Fields.{SpellsDelivered, SpellsOrder, SpellsPace};
+ghost use Rattle.ov_sweep_rows.specs.Fields.{text_at, SayOptions, SayParams, SayPhase, SayRow, SpellsCrash};
+ghost use Rattle.ov_sweep_rows.specs.Fields.{SpellsDelivered, SpellsOrder, SpellsPace};
 
 use crate::columns::COLUMNS;
 use crate::csv_field_reading::{RowFields, short_number};
@@ -27,29 +30,77 @@ const HEAL: usize = 30;
 /// `Header` (70): the text does not begin with the header. `FieldCount`, `Field` (70): the first row that is not of the
 /// form.
 /// `OutOfMemory` (99): an allocation was refused.
-pub fn read_rows(alloc: Global, text: &[u8]) -> Result<Vec<Row>, RowFault> {
-    let mut reader = ReaderBuilder::new().from_reader(alloc, text);
-    if !is_header(reader.byte_headers()?) {
+pub fn read_rows(alloc: Global, text: &[u8]) -> Result<Vec<Row>, RowFault>
+    ensures rows { IfOk result (λ rows. AreRowsOf text.now rows.items) }
+{
+    let mut records = ReaderBuilder::new()
+        .has_headers(false)
+        .from_reader(alloc, text)
+        .into_byte_records();
+    let Some(first) = records.next() else {
+        return Err(RowFault::Header);
+    };
+    if !is_header(&first?) {
         return Err(RowFault::Header);
     }
-    reader
-        .into_byte_records()
-        .filter(|record| !record.as_ref().is_ok_and(is_header))
-        .map(|record| row_of(&record?))
-        .try_collect(alloc)
+    let mut rows = Vec::new(alloc);
+    for record in records {
+        take_record(&mut rows, &record?)?;
+    }
+    Ok(rows)
+}
+
+/// Adds the row that a record says. The header says none.
+fn take_record(rows: &mut Vec<Row>, fields: &ByteRecord) -> Result<(), RowFault>
+    ensures { OnOk result (WasTaken (fields_of fields.now) rows.old.items rows.new.items) }
+{
+    if is_header(fields) {
+        return Ok(());
+    }
+    match row_of(fields) {
+        Ok(row) => push_row(rows, row),
+        Err(fault) => Err(fault),
+    }
+}
+
+/// Adds a row.
+fn push_row(rows: &mut Vec<Row>, row: Row) -> Result<(), RowFault>
+    ensures { OnOk result (rows.new.items ≡ rows.old.items ++ (row ∷ [])) }
+{
+    rows.extend_from_slice(&[row])?;
+    Ok(())
 }
 
 /// Whether a record is the header.
-fn is_header(names: &ByteRecord) -> bool {
-    if names.len() != COLUMNS.len() {
+fn is_header(fields: &ByteRecord) -> bool
+    ensures { IsTrue result ↔ (fields_of fields.now ≡ columns) }
+{
+    are_named(fields, &COLUMNS)
+}
+
+/// Whether the fields of a record are these names.
+fn are_named(fields: &ByteRecord, names: &[&str]) -> bool
+    ensures { IsTrue result ↔ (fields_of fields.now ≡ map (λ name. name.now) names.now) }
+{
+    if fields.len() != names.len() {
         return false;
     }
-    for (place, name) in COLUMNS.iter().enumerate() {
-        if names.get(place) != Some(name.as_bytes()) {
+    for (place, name) in names.iter().enumerate() {
+        if !is_named(fields, place, name) {
             return false;
         }
     }
     true
+}
+
+/// Whether the field at this place is this name.
+fn is_named(fields: &ByteRecord, place: usize, name: &str) -> bool
+    ensures { IsTrue result ↔ (field_at (fields_of fields.now) place ≡ Some name.now) }
+{
+    match fields.get(place) {
+        Some(field) => field == name.as_bytes(),
+        None => false,
+    }
 }
 
 /// The row that a record says.

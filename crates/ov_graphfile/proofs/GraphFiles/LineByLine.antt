@@ -70,10 +70,11 @@ pub line_taken : (bytes nodes : List ℕ) (links : List (ℕ × ℕ)) (left line
 line_taken bytes nodes links left line later n m nodes_then links_then g some first next gains joins reads =
     by (is_skipped line) refl where
       by : (b : Bool) → is_skipped line ≡ b → Gathers bytes nodes_then links_then (kept_from m (lines later))
-      by true e = line_skipped bytes nodes links left line later n m nodes_then links_then g some first next gains joins e
+      by true e =
+          line_skipped bytes nodes links left line later n m nodes_then links_then g some first next gains joins e
       by false e =
-          line_read bytes nodes links left line later n m nodes_then links_then (graph_line line) g some first next gains
-          joins e refl (reads e)
+          line_read bytes nodes links left line later n m nodes_then links_then (graph_line line) g some first next
+          gains joins e refl (reads e)
 
 -- the next line ends the reading
 pub line_unread : (bytes nodes : List ℕ) (links : List (ℕ × ℕ)) (left line later : List ℕ) (n : ℕ) (f : GraphFileFault)

@@ -4,8 +4,8 @@ use Rattle.ov_ids.specs.Sets.{has}
 use Rattle.ov_cert.specs.declared.cert.Cert.{Cert}
 use Rattle.ov_cert.specs.declared.cert.Split.{Split}
 use Rattle.ov_picture.specs.Classes.{class_of}
-use Rattle.ov_picture.specs.declared.classes.NodeClass.{NodeClass}
-use Rattle.ov_picture.specs.declared.classes.NodeClass.TheVariants as node
+use Rattle.ov_picture.specs.declared.node_and_link_classes.NodeClass.{NodeClass}
+use Rattle.ov_picture.specs.declared.node_and_link_classes.NodeClass.TheVariants as node
 use Rattle.ov_picture.specs.declared.node_classes.Classes.{Classes}
 use Rattle.ov_picture.specs.Code.Tables.{class_in}
 

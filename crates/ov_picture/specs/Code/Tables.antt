@@ -4,7 +4,7 @@ use Rattle.std.specs.Option.{unwrap_or}
 use Rattle.std.specs.Ordering.{nat_cmp}
 use Rattle.std.specs.BTreeMap.{BTreeMap, get}
 use Rattle.ov_ids.specs.Sets.{has}
-use Rattle.ov_picture.specs.declared.classes.NodeClass.{NodeClass}
+use Rattle.ov_picture.specs.declared.node_and_link_classes.NodeClass.{NodeClass}
 use Rattle.ov_picture.specs.declared.drawing.DrawnNode.{DrawnNode}
 use Rattle.ov_picture.specs.declared.drawing.DrawnLink.{DrawnLink}
 use Rattle.ov_picture.specs.declared.node_classes.Classes.{Classes}

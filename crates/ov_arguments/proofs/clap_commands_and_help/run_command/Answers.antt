@@ -1,24 +1,19 @@
 -- The arguments, one after the other. Help does not matter to them.
-use Rattle.std.proofs.Common.{rules, ◌≡◌, ◌∙◌, ap, codes}
+use Rattle.std.proofs.Common.{◌≡◌, ◌∙◌, ap, ap₂, codes}
 use Rattle.std.proofs.lemmas.Result.{IfOk-weaker}
 use Rattle.clap.specs.Simple.{app_of_fields}
-use Rattle.clap.specs.Words.{AddsArg, app_of, new_app, new_rule, rule_of}
-use Rattle.ov_arguments.specs.Arguments.{flag, run_command}
-use Rattle.ov_arguments.proofs.Asked.{with_one_more}
+use Rattle.clap.specs.Words.{App, app_of, new_app, new_rule, with_rule}
+use Rattle.ov_arguments.specs.Arguments.{run_command}
+use Rattle.ov_arguments.specs.Code.Options.{with_options}
 use Rattle.ov_arguments.proofs.clap_commands_and_help.run_command.Goals as goal
 
 pub returns : goal.returns
+unfolding with_options
 returns c =
-    let bare : app_of c.new.result ≡ new_app (codes "run") = search rules in
-    let before : app_of c.before_help.result ≡ new_app (codes "run") = ap app_of_fields c.before_help.ensures ∙ bare in
-    let told : app_of c.about.result ≡ new_app (codes "run") = ap app_of_fields c.about.ensures ∙ before in
-    let none : app_of c.after_help.result ≡ new_app (codes "run") = ap app_of_fields c.after_help.ensures ∙ told in
-    let file : rule_of c.file.result ≡ new_rule (codes "file") = search rules in
-    let explain : rule_of c.flag.result ≡ flag (codes "explain") = search rules in
-    let strict : rule_of c.flag-2.result ≡ flag (codes "strict") = search rules in
-    let progress : rule_of c.flag-3.result ≡ flag (codes "progress") = search rules in
-    let one = with_one_more _ _ _ _ _ c.in_ok-arg.ensures c.file.ensures.local none file in
-    let two = with_one_more _ _ _ _ _ c.in_ok-arg-2.ensures c.flag.ensures.local one explain in
-    let three = with_one_more _ _ _ _ _ c.in_ok-arg-3.ensures c.flag-2.ensures.local two strict in
-    IfOk-weaker c.arg-4.result (AddsArg c.in_ok-arg-3.field-0 c.flag-3.result) (λ r. app_of r ≡ run_command)
-    (λ r adds. with_one_more _ _ _ _ _ adds c.flag-3.ensures.local three progress) c.arg-4.ensures
+    let told : app_of c.after_help-command.result ≡ new_app (codes "run") = ap app_of_fields c.after_help-command.ensures ∙ c.named.ensures in
+    let none = ap (λ (a : App). with_rule a (new_rule (codes "file"))) told in
+    let one = ap₂ with_rule none c.flag.ensures in
+    let two = ap₂ with_rule one c.flag-2.ensures in
+    let three = ap₂ with_rule two c.flag-3.ensures in
+    IfOk-weaker c.with_arguments.result _ (λ r. app_of r ≡ run_command) (λ r is. is ∙ three)
+    c.with_arguments.ensures

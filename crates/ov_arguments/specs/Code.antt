@@ -1,0 +1,2 @@
+-- What private contracts use.
+pub mod Options

@@ -1,0 +1,175 @@
+ghost use Rattle.std.specs.Prelude.{◌≡◌, ◌≢◌, List, ℕ, Some, None, Ok, Err, IfOk, MatchOption, MatchResult};
+ghost use Rattle.serde_json.specs.Read.{read};
+ghost use Rattle.serde_json.specs.View.{view};
+ghost use Rattle.ov_certfile.specs.Says.{SaysFile, SaysText};
+ghost use Rattle.ov_check.specs.declared.outcome_of_file_bytes.Outcome.TheVariants.{Refused};
+ghost use Rattle.ov_check.specs.Outcome.{BytesSay, IsRefused, IsOutcome, AreAlike, SaysExactNumber, status_of};
+
+use crate::check_or_memory_fault::ParallelFault;
+use crate::parallel::check_group_parallel;
+use ov_cert::{CheckFault, check_group};
+use ov_certfile::{FileFault, Filed, NoJson, from_value, in_form, json_in};
+use ov_ids::OutOfMemory;
+use serde_json::Value;
+use std::alloc::Global;
+use std::thread::Threads;
+
+/// The outcome of a certificate file.
+#[derive(Drop)]
+pub enum Outcome {
+    /// The file. Its certificate is valid for its group.
+    Holds(Filed),
+    /// The file, and the first fault of its certificate.
+    Fails { filed: Filed, fault: CheckFault },
+    /// Bytes that are not a certificate file.
+    Refused(Refusal),
+}
+
+/// The first fault of bytes that are not a certificate file.
+#[derive(Drop)]
+pub struct Refusal {
+    pub fault: FileFault,
+    /// The JSON value in the bytes, if there is one.
+    pub value: Option<Value>,
+}
+
+impl Refusal {
+    /// The outcome of the bytes. OutOfMemory (99): that is the fault, and nothing is said of the bytes.
+    fn into_outcome(self) -> Result<Outcome, OutOfMemory>
+        ensures { IfOk result (λ o. (o ≡ Refused self) × (self.fault ≢ FileFault.OutOfMemory)) }
+    {
+        match self.fault {
+            FileFault::OutOfMemory => Err(OutOfMemory),
+            _ => Ok(Outcome::Refused(self)),
+        }
+    }
+}
+
+/// The outcome of the bytes of a file. If the certificate holds, its number is exact for its group. Bytes that are not
+/// text are refused as `NotJson` (60).
+///
+/// `OutOfMemory` (99): an allocation was refused.
+#[tactic(auto, using(crate::proofs::Outcomes::one_outcome))]
+pub fn outcome_of(alloc: Global, bytes: &[u8]) -> Result<Outcome, OutOfMemory>
+    ensures outcome { IfOk result (λ o. IsOutcome bytes.now o) }
+    ensures only { IfOk result (λ o. (u : Outcome) → IsOutcome bytes.now u → AreAlike u o) }
+    ensures exact { IfOk result (λ o. status_of o ≡ 0 → SaysExactNumber bytes.now) }
+{
+    match filed_in(alloc, bytes) {
+        Ok(filed) => Ok(judge_file(filed)),
+        Err(refusal) => refusal.into_outcome(),
+    }
+}
+
+/// Does what `outcome_of` does, by many threads.
+pub(crate) fn outcome_parallel(
+    rt: &(impl AllocGlobal + Threads + Sync),
+    bytes: &[u8],
+) -> Result<Outcome, OutOfMemory>
+    ensures outcome { IfOk result (λ o. IsOutcome bytes.now o) }
+    ensures only { IfOk result (λ o. (u : Outcome) → IsOutcome bytes.now u → AreAlike u o) }
+    ensures exact { IfOk result (λ o. status_of o ≡ 0 → SaysExactNumber bytes.now) }
+{
+    match filed_in(rt.alloc(), bytes) {
+        Ok(filed) => judge_file_parallel(rt, filed),
+        Err(refusal) => refusal.into_outcome(),
+    }
+}
+
+/// The certificate file in these bytes. Whether its certificate holds is not asked. A refusal has the first fault:
+/// those of `from_text` of `ov_certfile`, and NotJson (60) for bytes that are no UTF-8.
+pub fn filed_in(alloc: Global, bytes: &[u8]) -> Result<Filed, Refusal>
+    ensures { MatchResult result (λ filed. BytesSay bytes.now (Ok filed))
+        (λ refusal. refusal.fault ≢ FileFault.OutOfMemory → IsRefused bytes.now refusal) }
+{
+    match str::from_utf8(bytes) {
+        Ok(text) => filed_in_text(alloc, text),
+        Err(error) => {
+            let no_json = NoJson::no_text(error.valid_up_to());
+            let fault = FileFault::NotJson(no_json);
+            Err(Refusal { fault, value: None })
+        }
+    }
+}
+
+/// The certificate file in this text.
+fn filed_in_text(alloc: Global, text: &str) -> Result<Filed, Refusal>
+    ensures { MatchResult result (λ filed. SaysText text.now (Ok filed))
+        (λ refusal. refusal.fault ≢ FileFault.OutOfMemory → SaysText text.now (Err refusal.fault)
+        × MatchOption refusal.value (read text.now ≡ None) (λ value. read text.now ≡ Some (view value))) }
+{
+    match in_form(alloc, text) {
+        Ok(Some(filed)) => Ok(filed),
+        Ok(None) => filed_by_json(alloc, text),
+        Err(_) => Err(Refusal {
+            fault: FileFault::OutOfMemory,
+            value: None,
+        }),
+    }
+}
+
+/// The certificate file in this text, by the JSON value in it, which is kept if the file is refused.
+fn filed_by_json(alloc: Global, text: &str) -> Result<Filed, Refusal>
+    ensures { MatchResult result (λ filed. SaysText text.now (Ok filed))
+        (λ refusal. refusal.fault ≢ FileFault.OutOfMemory → SaysText text.now (Err refusal.fault)
+        × MatchOption refusal.value (read text.now ≡ None) (λ value. read text.now ≡ Some (view value))) }
+{
+    match json_in(alloc, text) {
+        Ok(value) => filed_in_value(alloc, value),
+        Err(fault) => Err(Refusal { fault, value: None }),
+    }
+}
+
+/// The certificate file in this JSON value.
+fn filed_in_value(alloc: Global, value: Value) -> Result<Filed, Refusal>
+    ensures { MatchResult result (λ filed. SaysFile (view value) (Ok filed))
+        (λ refusal. refusal.fault ≢ FileFault.OutOfMemory → SaysFile (view value) (Err refusal.fault)
+        × (refusal.value ≡ Some value)) }
+{
+    match from_value(alloc, &value) {
+        Ok(filed) => Ok(filed),
+        Err(fault) => Err(Refusal {
+            fault,
+            value: Some(value),
+        }),
+    }
+}
+
+/// The outcome of a certificate file.
+fn judge_file(filed: Filed) -> Outcome
+    ensures outcome { (bytes : List ℕ) → BytesSay bytes (Ok filed) → IsOutcome bytes result }
+    ensures exact { (bytes : List ℕ) → BytesSay bytes (Ok filed) → status_of result ≡ 0 → SaysExactNumber bytes }
+{
+    match check_group(&filed.graph, filed.group.as_slice(), &filed.cert) {
+        Ok(()) => Outcome::Holds(filed),
+        Err(fault) => Outcome::Fails { filed, fault },
+    }
+}
+
+/// Does what `judge_file` does, by many threads.
+fn judge_file_parallel(
+    rt: &(impl AllocGlobal + Threads + Sync),
+    filed: Filed,
+) -> Result<Outcome, OutOfMemory>
+    ensures outcome { (bytes : List ℕ) → BytesSay bytes (Ok filed) → IfOk result (λ o. IsOutcome bytes o) }
+    ensures exact { (bytes : List ℕ) → BytesSay bytes (Ok filed)
+        → IfOk result (λ o. status_of o ≡ 0 → SaysExactNumber bytes) }
+{
+    match check_group_parallel(rt, &filed.graph, filed.group.as_slice(), &filed.cert) {
+        Ok(()) => Ok(Outcome::Holds(filed)),
+        Err(ParallelFault::Check(fault)) => Ok(Outcome::Fails { filed, fault }),
+        Err(ParallelFault::OutOfMemory) => Err(OutOfMemory),
+    }
+}
+
+impl Outcome {
+    /// The program's status: 0 if the certificate holds, otherwise 1.
+    pub fn status(&self) -> u8
+        ensures { result ≡ status_of self.now }
+    {
+        match self {
+            Outcome::Holds(_) => 0,
+            Outcome::Fails { .. } | Outcome::Refused(_) => 1,
+        }
+    }
+}

@@ -1,5 +1,0 @@
-use Rattle.ov_dump.proofs.Returning.{are_read}
-use Rattle.ov_dump.proofs.name_round_trip_theorems.names_are_read.Goals as goal
-
-pub returns : goal.returns
-returns c = are_read

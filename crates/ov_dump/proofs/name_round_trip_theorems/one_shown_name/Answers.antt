@@ -1,5 +1,0 @@
-use Rattle.ov_dump.proofs.OneShown.{one_shown}
-use Rattle.ov_dump.proofs.name_round_trip_theorems.one_shown_name.Goals as goal
-
-pub returns : goal.returns
-returns c = one_shown
