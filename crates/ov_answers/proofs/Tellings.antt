@@ -13,6 +13,7 @@ use Rattle.ov_even.specs.Outlines.{IsOutline}
 use Rattle.ov_even.specs.Theorems.{AreAlike}
 use Rattle.ov_graphfile.specs.NamesState.{NamesState}
 use Rattle.ov_graphfile.specs.NameLines.{AreNamesOf}
+use Rattle.ov_answers.specs.Code.Files.{with_file_of}
 use Rattle.ov_answers.specs.Analysing.{answer_text, PrintsAnswer, IsAnalysis, BeginsAnalysis, IsAnalysisOf}
 use Rattle.ov_run_meaning.specs.Faults.{write_faults}
 use Rattle.ov_answers.specs.Code.TextFaults.{IsTextFault}
@@ -52,40 +53,39 @@ outlined g q c names named lines text outline are is =
           ∙ ap (λ (t : List ℕ). report_line 0 outline.full.0 g q ++ t) (sym (append-nil lines)),
     )
 
--- a valid answer for this graph and this group, with its certificate file
+-- a valid answer for this graph and this group, which its certificate file follows
 pub checked : (g : LinkGraph) (q : List ℕ) (c : CheckedState) (names : NamesState) (named : Bool) (lines text : List ℕ)
     → IsCheckedAnswer g q c → IsValidForGroup c.graph c.members c.cert
-    → AreLinesBetween named c.graph c.cert names lines
-    → text ≡ report_line 0 c.cert c.graph c.members ++ (lines ++ file_text c.cert c.graph c.members 0)
-    → TellsReport g q names true named text
+    → AreLinesBetween named c.graph c.cert names lines → text ≡ report_line 0 c.cert c.graph c.members ++ lines
+    → TellsReport g q names true named (with_file_of text (Some c))
 checked g q c names named lines text answer valid are is =
     let here =
     subst (λ r. IsValidForGroup g r c.cert) answer.members
     (subst (λ f. IsValidForGroup f c.members c.cert) answer.graph valid) in
-    let line : text ≡ report_line 0 c.cert g q ++ (lines ++ file_text c.cert g q 0) =
-    subst (λ r. text ≡ report_line 0 c.cert g r ++ (lines ++ file_text c.cert g r 0)) answer.members
-    (subst (λ f. text ≡ report_line 0 c.cert f c.members ++ (lines ++ file_text c.cert f c.members 0)) answer.graph is)
+    let whole = ap (λ (t : List ℕ). t ++ file_text c.cert c.graph c.members 0) is
+    ∙ append_assoc (report_line 0 c.cert c.graph c.members) lines (file_text c.cert c.graph c.members 0) in
+    let line : with_file_of text (Some c) ≡ report_line 0 c.cert g q ++ (lines ++ file_text c.cert g q 0) =
+    subst (λ r. with_file_of text (Some c) ≡ report_line 0 c.cert g r ++ (lines ++ file_text c.cert g r 0)) answer.members
+    (subst (λ f. with_file_of text (Some c)
+    ≡ report_line 0 c.cert f c.members ++ (lines ++ file_text c.cert f c.members 0)) answer.graph whole)
     in
     let between = subst (λ f. AreLinesBetween named f c.cert names lines) answer.graph are in
     (c.cert, lines, answer.answer, here, between, line)
 
--- the line of an answer and the lines behind it, with the certificate file behind them
-pub with_file : (c : CheckedState) (cert : Cert) (g : LinkGraph) (q : List ℕ) (names : NamesState) (named : Bool)
-    (text new : List ℕ) → cert ≡ c.cert → g ≡ c.graph → q ≡ c.members
+-- the line of an answer and the lines behind it, of a checked certificate
+pub of_checked : (c : CheckedState) (cert : Cert) (g : LinkGraph) (q : List ℕ) (names : NamesState) (named : Bool)
+    (text : List ℕ) → cert ≡ c.cert → g ≡ c.graph → q ≡ c.members
     → ((lines : List ℕ) × AreLinesBetween named g cert names lines × (text ≡ report_line 0 cert g q ++ lines))
-    → new ≡ text ++ file_text c.cert c.graph c.members 0
     → (lines : List ℕ) × AreLinesBetween named c.graph c.cert names lines
-    × (new ≡ report_line 0 c.cert c.graph c.members ++ (lines ++ file_text c.cert c.graph c.members 0))
-with_file c cert g q names named text new is_cert is_graph is_members b e =
-    let line = subst (λ (r : List ℕ). text ≡ report_line 0 c.cert c.graph r ++ b.0) is_members
-    (subst (λ (h : LinkGraph). text ≡ report_line 0 c.cert h q ++ b.0) is_graph
-    (subst (λ (d : Cert). text ≡ report_line 0 d g q ++ b.0) is_cert b.2)) in (
-      b.0,
-      subst (λ (h : LinkGraph). AreLinesBetween named h c.cert names b.0) is_graph
-          (subst (λ (d : Cert). AreLinesBetween named g d names b.0) is_cert b.1),
-      e ∙ ap (λ (t : List ℕ). t ++ file_text c.cert c.graph c.members 0) line
-          ∙ append_assoc (report_line 0 c.cert c.graph c.members) b.0 (file_text c.cert c.graph c.members 0),
-    )
+    × (text ≡ report_line 0 c.cert c.graph c.members ++ lines)
+of_checked c cert g q names named text is_cert is_graph is_members b = (
+  b.0,
+  subst (λ (h : LinkGraph). AreLinesBetween named h c.cert names b.0) is_graph
+      (subst (λ (d : Cert). AreLinesBetween named g d names b.0) is_cert b.1),
+  subst (λ (r : List ℕ). text ≡ report_line 0 c.cert c.graph r ++ b.0) is_members
+      (subst (λ (h : LinkGraph). text ≡ report_line 0 c.cert h q ++ b.0) is_graph
+      (subst (λ (d : Cert). text ≡ report_line 0 d g q ++ b.0) is_cert b.2)),
+)
 
 -- with the file that says the graph and keeps the names it is what is told of the file
 pub told : (bytes text : List ℕ) (group : Option (List ℕ)) (certificate named : Bool) (answered : Answered)
@@ -169,7 +169,8 @@ plain_file bytes group certificate answered text t = record {
   prints = plain_answer t.graph (members_of group t.graph) t.names certificate answered text t.tells;
 }
 
-same_faults : (f : RunFault) → write_faults {A = Told} (Err f) ≡ write_faults {A = Answered} (Err f)
+-- what a fault adds to those of the writer, whatever is returned without a fault
+pub same_faults : {A B : Type 0} (f : RunFault) → write_faults {A = A} (Err f) ≡ write_faults {A = B} (Err f)
 same_faults (fault.Line n) = refl
 same_faults (fault.Params n) = refl
 same_faults (fault.Graph g line) = refl

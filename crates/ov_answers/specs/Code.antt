@@ -1,6 +1,7 @@
 -- What only the contracts of private functions and the proofs use. A reader of the public contracts need not rely on
 -- it.
 pub mod Begun
+pub mod Files
 pub mod Sentences
 pub mod Rows
 pub mod GivenNames

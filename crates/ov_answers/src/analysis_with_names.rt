@@ -2,9 +2,11 @@ ghost use Rattle.std.specs.Prelude.{◌≡◌, ◌<◌, false, option_map, Some,
 ghost use Rattle.ov_io.specs.Device.{most_faults};
 ghost use Rattle.ov_answers.specs.Analysing.{IsAnalysisOf};
 ghost use Rattle.ov_answers.specs.Telling.{IsToldOf, IsTelling, answered_of};
+ghost use Rattle.ov_answers.specs.Code.Files.{with_file_of};
 ghost use Rattle.ov_answers.specs.Code.TextFaults.{IsTextFault};
 
 use crate::answer_making::{Answer, answer_for, graph_of};
+use crate::answer_writing::write_answer;
 use crate::request::{Request, Told};
 use ov_even::Watcher;
 use ov_graphfile::read_names;
@@ -49,8 +51,13 @@ fn tell<T: Threads + Sync, W: Write, P: Watcher>(
     ensures told { IsToldOf bytes.now W.contents sink.old (option_map (λ ids. ids.now) request.now.group)
         request.now.certificate request.now.names sink.new result }
 {
-    let Answer { told, text } = answer_for_file(rt, alloc, bytes, request, watcher)?;
-    sink.write_all(&text)?;
+    let answer = answer_for_file(rt, alloc, bytes, request, watcher)?;
+    write_answer(rt, alloc, request.workers, &answer, sink)?;
+    let Answer {
+        told,
+        text: _,
+        file: _,
+    } = answer;
     Ok(told)
 }
 
@@ -63,7 +70,8 @@ fn answer_for_file<T: Threads + Sync, P: Watcher>(
     watcher: &mut P,
 ) -> Result<Answer, RunFault>
     ensures answer { IfOk result (λ answer. IsTelling bytes.now (option_map (λ ids. ids.now) request.now.group)
-        request.now.certificate request.now.names answer.told.answered answer.text.items) }
+        request.now.certificate request.now.names answer.told.answered
+        (with_file_of answer.text.items answer.file)) }
     ensures fault { IfErr result (IsTextFault bytes.now) }
 {
     let graph = graph_of(alloc, bytes)?;

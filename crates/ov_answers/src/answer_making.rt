@@ -1,21 +1,21 @@
 //! The one way in which the answer for a graph and a group is made, with names and sentences or without them.
-ghost use Rattle.std.specs.Prelude.{◌≡◌, ◌⊎◌, ◌++◌, ℕ, List, true, false, option_map, Some, IfOk, IfErr, OnOk};
+ghost use Rattle.std.specs.Prelude.{◌≡◌, ◌⊎◌, ◌++◌, ℕ, List, true, false, option_map, Some, None, IfOk, IfErr, OnOk};
 ghost use Rattle.ov_cert.specs.Valid.{IsValidForGroup};
 ghost use Rattle.ov_even.specs.Faults.{GroupJudged};
 ghost use Rattle.ov_even.specs.declared.fault.AnalyseFault.TheVariants.{OutOfMemory as out_of_memory};
 ghost use Rattle.ov_graphfile.specs.GraphFiles.{IsGraphFile};
 ghost use Rattle.ov_answers.specs.Telling.{TellsAnswer, TellsReport, AreLinesBetween};
 ghost use Rattle.ov_answers.specs.Code.Begun.{Gains};
+ghost use Rattle.ov_answers.specs.Code.Files.{with_file_of};
 ghost use Rattle.ov_answers.specs.Code.GivenNames.{HasNames, given_names};
 ghost use Rattle.ov_answers.specs.Code.TextFaults.{IsTextFault};
-ghost use Rattle.ov_run_meaning.specs.Printed.{file_text, refused_line, report_line};
+ghost use Rattle.ov_run_meaning.specs.Printed.{refused_line, report_line};
 
 use crate::name_lines::write_lines;
 use crate::report_or_refusal::Answered;
 use crate::request::{Request, Told};
 use crate::sentences::explanation;
 use ov_cert::{Cert, Checked};
-use ov_certfile::to_text_group;
 use ov_crew::{OpenGate, analyse_group_watched, outline_group_watched};
 use ov_even::{AnalyseFault, Watcher};
 use ov_graph::Graph;
@@ -26,13 +26,15 @@ use std::alloc::Global;
 use std::thread::Threads;
 
 /// The moment that the answer for a graph file names, since its graph has no other.
-const FILE_MOMENT: u32 = 0;
+pub(crate) const FILE_MOMENT: u32 = 0;
 
-/// What is told of an analysis, and the text that is written.
+/// What is told of an analysis, the text that is written, and the certificate whose file is written behind it, if that
+/// is asked for.
 #[derive(Drop)]
 pub(crate) struct Answer {
     pub told: Told,
     pub text: Vec<u8>,
+    pub file: Option<Checked>,
 }
 
 /// The graph that these bytes say.
@@ -59,7 +61,8 @@ pub(crate) fn answer_for<T: Threads + Sync, P: Watcher>(
 ) -> Result<Answer, OutOfMemory>
     requires names { HasNames request.now.names (option_map (λ n. n.now) names) }
     ensures { IfOk result (λ answer. TellsAnswer graph.now group.now (given_names (option_map (λ n. n.now) names.entry))
-        request.now.certificate request.now.names answer.told.answered answer.text.items) }
+        request.now.certificate request.now.names answer.told.answered
+        (with_file_of answer.text.items answer.file)) }
 {
     let report = if request.certificate {
         report_with_certificate(rt, alloc, graph, group, names, request, watcher)
@@ -69,10 +72,11 @@ pub(crate) fn answer_for<T: Threads + Sync, P: Watcher>(
     answer_of(alloc, graph, group, names, request, report)
 }
 
-/// The text of an answer, and its explanation.
+/// The text of an answer, the certificate whose file follows it, and its explanation.
 #[derive(Drop)]
 struct Report {
     text: Vec<u8>,
+    file: Option<Checked>,
     explanation: Option<String>,
 }
 
@@ -89,7 +93,8 @@ fn report_alone<T: Threads + Sync, P: Watcher>(
 ) -> Result<Report, AnalyseFault>
     requires names { HasNames request.now.names (option_map (λ n. n.now) names) }
     ensures tells { IfOk result (λ report. TellsReport graph.now group.now
-        (given_names (option_map (λ n. n.now) names.entry)) false request.now.names report.text.items) }
+        (given_names (option_map (λ n. n.now) names.entry)) false request.now.names
+        (with_file_of report.text.items report.file)) }
     ensures refused { IfErr result
         (λ fault. GroupJudged graph.now group.now (Some fault) ⊎ (fault ≡ out_of_memory)) }
 {
@@ -98,7 +103,7 @@ fn report_alone<T: Threads + Sync, P: Watcher>(
     Ok(begun_report(alloc, &outline, graph, group, names, request)?)
 }
 
-/// The answer, followed by its certificate file.
+/// The answer, which its certificate file follows.
 #[tactic(auto, using(crate::proofs::Written::refused_or_memory))]
 fn report_with_certificate<T: Threads + Sync, P: Watcher>(
     rt: &T,
@@ -111,16 +116,28 @@ fn report_with_certificate<T: Threads + Sync, P: Watcher>(
 ) -> Result<Report, AnalyseFault>
     requires names { HasNames request.now.names (option_map (λ n. n.now) names) }
     ensures tells { IfOk result (λ report. TellsReport graph.now group.now
-        (given_names (option_map (λ n. n.now) names.entry)) true request.now.names report.text.items) }
+        (given_names (option_map (λ n. n.now) names.entry)) true request.now.names
+        (with_file_of report.text.items report.file)) }
     ensures refused { IfErr result
         (λ fault. GroupJudged graph.now group.now (Some fault) ⊎ (fault ≡ out_of_memory)) }
 {
     let workers = request.workers;
     let checked = analyse_group_watched(rt, alloc, graph, group, workers, &OpenGate, watcher)?;
-    Ok(checked_report(alloc, &checked, names, request)?)
+    let begun = checked_report(alloc, &checked, names, request)?;
+    let Report {
+        text,
+        file: _,
+        explanation,
+    } = begun;
+    let file = Some(checked);
+    Ok(Report {
+        text,
+        file,
+        explanation,
+    })
 }
 
-/// The answer of a checked certificate, followed by its file.
+/// The answer of a checked certificate, without its file.
 fn checked_report(
     alloc: Global,
     checked: &Checked,
@@ -131,35 +148,11 @@ fn checked_report(
     ensures tells { IfOk result (λ report. (lines : List ℕ)
         × AreLinesBetween request.now.names checked.now.graph checked.now.cert
         (given_names (option_map (λ n. n.now) names.entry)) lines
-        × (report.text.items ≡ report_line 0 checked.now.cert checked.now.graph checked.now.members
-        ++ (lines ++ file_text checked.now.cert checked.now.graph checked.now.members 0))) }
+        × (report.text.items ≡ report_line 0 checked.now.cert checked.now.graph checked.now.members ++ lines)) }
     ensures valid { IsValidForGroup checked.now.graph checked.now.members checked.now.cert }
 {
     let (cert, graph, group) = (checked.cert(), checked.graph(), checked.members());
-    let begun = begun_report(alloc, cert, graph, group, names, request)?;
-    let Report {
-        mut text,
-        explanation,
-    } = begun;
-    append_file(alloc, &mut text, checked)?;
-    Ok(Report { text, explanation })
-}
-
-/// Appends the certificate file of a checked certificate.
-fn append_file(alloc: Global, text: &mut Vec<u8>, checked: &Checked) -> Result<(), OutOfMemory>
-    ensures { OnOk result (text.new.items
-        ≡ text.old.items ++ file_text checked.now.cert checked.now.graph checked.now.members 0) }
-{
-    let file = to_text_group(
-        alloc,
-        checked.cert(),
-        checked.graph(),
-        checked.members(),
-        FILE_MOMENT,
-    )?;
-    text.extend_from_slice(file.as_bytes())?;
-    text.push(b'\n')?;
-    Ok(())
+    Ok(begun_report(alloc, cert, graph, group, names, request)?)
 }
 
 /// The line of an answer and the lines behind it, without its certificate file.
@@ -172,15 +165,21 @@ fn begun_report(
     request: &Request<'_>,
 ) -> Result<Report, OutOfMemory>
     requires names { HasNames request.now.names (option_map (λ n. n.now) names) }
-    ensures { IfOk result (λ report. (lines : List ℕ)
+    ensures lines { IfOk result (λ report. (lines : List ℕ)
         × AreLinesBetween request.now.names graph.now cert.now (given_names (option_map (λ n. n.now) names.entry)) lines
         × (report.text.items ≡ report_line 0 cert.now graph.now group.now ++ lines)) }
+    ensures file { IfOk result (λ report. report.file ≡ None) }
 {
     let line = cert_line(alloc, FILE_MOMENT, cert, graph, group)?;
     let mut text = Vec::from_slice(alloc, line.as_bytes())?;
     write_between(alloc, &mut text, cert, graph, names, request)?;
     let explanation = asked_explanation(alloc, cert, graph, group, names, request)?;
-    Ok(Report { text, explanation })
+    let file = None;
+    Ok(Report {
+        text,
+        file,
+        explanation,
+    })
 }
 
 /// Appends the lines between the line of an answer and its certificate file.
@@ -235,20 +234,27 @@ fn answer_of(
 ) -> Result<Answer, OutOfMemory>
     requires tells { IfOk report (λ report.
         TellsReport graph.now group.now (given_names (option_map (λ n. n.now) names)) request.now.certificate
-        request.now.names report.text.items) }
+        request.now.names (with_file_of report.text.items report.file)) }
     requires refused { IfErr report
         (λ fault. GroupJudged graph.now group.now (Some fault) ⊎ (fault ≡ out_of_memory)) }
     ensures { IfOk result (λ answer. TellsAnswer graph.now group.now (given_names (option_map (λ n. n.now) names.entry))
-        request.now.certificate request.now.names answer.told.answered answer.text.items) }
+        request.now.certificate request.now.names answer.told.answered
+        (with_file_of answer.text.items answer.file)) }
 {
     match report {
-        Ok(Report { text, explanation }) => {
+        Ok(
+            Report {
+                text,
+                file,
+                explanation,
+            },
+        ) => {
             let answered = Answered::Report;
             let told = Told {
                 answered,
                 explanation,
             };
-            Ok(Answer { told, text })
+            Ok(Answer { told, text, file })
         }
         Err(fault) => match fault {
             AnalyseFault::OutOfMemory => Err(OutOfMemory),
@@ -261,7 +267,7 @@ fn answer_of(
 /// A refusal, with the line of it.
 fn refusal(alloc: Global, answered: Answered, number: u32) -> Result<Answer, OutOfMemory>
     ensures answered { IfOk result (λ answer. answer.told.answered ≡ answered) }
-    ensures text { IfOk result (λ answer. answer.text.items ≡ refused_line number) }
+    ensures text { IfOk result (λ answer. with_file_of answer.text.items answer.file ≡ refused_line number) }
 {
     let text = Vec::from_slice(alloc, refused_line(number).as_bytes())?;
     let explanation = None;
@@ -269,5 +275,6 @@ fn refusal(alloc: Global, answered: Answered, number: u32) -> Result<Answer, Out
         answered,
         explanation,
     };
-    Ok(Answer { told, text })
+    let file = None;
+    Ok(Answer { told, text, file })
 }

@@ -1,9 +1,11 @@
 ghost use Rattle.std.specs.Prelude.{◌≡◌, ◌≢◌, ◌<◌, false, option_map, Some, Err, IfOk, IfErr};
 ghost use Rattle.ov_io.specs.Device.{most_faults};
 ghost use Rattle.ov_answers.specs.Analysing.{IsAnalysis, IsAnalysisOf, IsFileAnalysis};
+ghost use Rattle.ov_answers.specs.Code.Files.{with_file_of};
 ghost use Rattle.ov_answers.specs.Code.TextFaults.{IsTextFault};
 
 use crate::answer_making::{Answer, answer_for, graph_of};
+use crate::answer_writing::write_answer;
 use crate::report_or_refusal::Answered;
 use crate::request::Request;
 use ov_even::Watcher;
@@ -76,7 +78,7 @@ pub fn analyse_bytes<T: Threads + Sync, W: Write, P: Watcher>(
         explain: false,
     };
     let answer = plain_answer(rt, alloc, bytes, &request, watcher)?;
-    sink.write_all(&answer.text)?;
+    write_answer(rt, alloc, workers, &answer, sink)?;
     Ok(answer.told.answered)
 }
 
@@ -90,7 +92,7 @@ fn plain_answer<T: Threads + Sync, P: Watcher>(
 ) -> Result<Answer, RunFault>
     requires plain { request.now.names ≡ false }
     ensures answer { IfOk result (λ answer. IsAnalysis bytes.now (option_map (λ ids. ids.now) request.now.group)
-        request.now.certificate answer.told.answered answer.text.items) }
+        request.now.certificate answer.told.answered (with_file_of answer.text.items answer.file)) }
     ensures fault { IfErr result (IsTextFault bytes.now) }
 {
     let graph = graph_of(alloc, bytes)?;

@@ -4,6 +4,7 @@
 
 mod analysis_with_names;
 mod answer_making;
+mod answer_writing;
 mod component_list;
 mod component_texts;
 mod components_after_crash;

@@ -1,4 +1,4 @@
-//! Stories of worlds, cores, desks, pieces, analyses and halls. `bin/refuse-allocations` refuses each of their
+//! Stories of worlds, cores, desks, pieces, analyses, files and halls. `bin/refuse-allocations` refuses each of their
 //! allocations in turn.
 #![tactic(auto)]
 
@@ -10,6 +10,8 @@ mod cores;
 mod desks;
 #[cfg(test)]
 mod events;
+#[cfg(test)]
+mod files;
 #[cfg(test)]
 mod halls;
 #[cfg(test)]

@@ -6,8 +6,8 @@ use Rattle.ov_answers.proofs.answer_making.report_with_certificate.Goals as goal
 
 pub returns-clause-tells : goal.returns-clause-tells
 returns-clause-tells g c =
-    let report = c.in_ok-checked_report.field-0 in
-    let tells = c.in_ok-checked_report.ensures.tells in
+    let begun = c.in_ok-begun.begun in
+    let tells = c.in_ok-begun.ensures.tells in
     checked c.args.graph.now c.args.group.now c.in_ok-checked.checked
-    (given_names (option_map (λ n. n.now) c.args.names)) c.args.request.now.names tells.0 report.text.items
-    c.in_ok-checked.ensures.analysed.answer c.checked_report.ensures.valid tells.1 tells.2
+    (given_names (option_map (λ n. n.now) c.args.names)) c.args.request.now.names tells.0 begun.text.items
+    c.in_ok-checked.ensures.analysed.answer c.checked_report-begun.ensures.valid tells.1 tells.2

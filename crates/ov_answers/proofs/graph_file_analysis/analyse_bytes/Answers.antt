@@ -1,42 +1,40 @@
 -- What was read has an answer, and its text was written, or a prefix of it.
-use Rattle.std.proofs.Common.{rules, inr, option_map}
-use Rattle.ov_answers.proofs.Written.{all_written, begun_written}
+use Rattle.std.proofs.Common.{◌∙◌, ◌+◌, rules, inr, Some, ap, refl}
+use Rattle.ov_answers.specs.Code.Files.{with_file_of}
+use Rattle.ov_answers.proofs.Tellings.{same_faults}
+use Rattle.ov_answers.proofs.Written.{of_writing, no_reading}
 use Rattle.ov_answers.proofs.graph_file_analysis.analyse_bytes.Goals as goal
 
 pub returns : goal.returns
-returns g c = record {
-  analysis = record {
-    prints = all_written (g.W.Write.contents c.args.sink.now.writer) (g.W.Write.contents c.write_all.new.self.writer)
-        c.args.bytes.now c.in_ok-answer.answer.text.items c.deref.result.now
-        (option_map (λ ids. ids.now) c.args.group) c.args.certificate
-        c.in_ok-answer.answer.told.answered c.deref.ensures.value c.in_ok-answer.ensures.answer
-        c.in_ok-write_all.ensures.bytes;
-    begun = inr
-        (begun_written (g.W.Write.contents c.args.sink.now.writer) (g.W.Write.contents c.write_all.new.self.writer)
-        c.args.bytes.now c.in_ok-answer.answer.text.items c.deref.result.now
-        (option_map (λ ids. ids.now) c.args.group) c.args.certificate
-        c.in_ok-answer.answer.told.answered c.deref.ensures.value c.in_ok-answer.ensures.answer
-        c.in_ok-write_all.ensures.prefix);
-    sink = search rules;
-    unwritten = search rules;
-    fault = search rules;
-  };
-  read = search rules;
-}
+returns g c =
+    let answer = c.in_ok-answer.answer in
+    let text = with_file_of answer.text.items answer.file in
+    let analysis = c.in_ok-answer.ensures.answer in
+    record {
+      analysis = record {
+        prints = (c.args.bytes.now, text, refl, analysis, c.in_ok-write_answer.ensures.bytes);
+        begun = inr
+            (c.args.bytes.now, answer.told.answered, text, refl, analysis, c.in_ok-write_answer.ensures.prefix);
+        sink = search rules;
+        unwritten = search rules;
+        fault = search rules;
+      };
+      read = search rules;
+    }
 
-pub returns-in_err-write_all : goal.returns-in_err-write_all
-returns-in_err-write_all g c = record {
-  analysis = record {
-    prints = search rules;
-    begun = inr
-        (begun_written (g.W.Write.contents c.args.sink.now.writer) (g.W.Write.contents c.write_all.new.self.writer)
-        c.args.bytes.now c.in_ok-answer.answer.text.items c.deref.result.now
-        (option_map (λ ids. ids.now) c.args.group) c.args.certificate
-        c.in_ok-answer.answer.told.answered c.deref.ensures.value c.in_ok-answer.ensures.answer
-        c.in_err-write_all.ensures.prefix);
-    sink = search rules;
-    unwritten = search rules;
-    fault = search rules;
-  };
-  read = search rules;
-}
+pub returns-in_err-write_answer : goal.returns-in_err-write_answer
+returns-in_err-write_answer g c =
+    let answer = c.in_ok-answer.answer in
+    let text = with_file_of answer.text.items answer.file in
+    let analysis = c.in_ok-answer.ensures.answer in
+    let failed = c.in_err-write_answer.ensures in
+    record {
+      analysis = record {
+        prints = search rules;
+        begun = inr (c.args.bytes.now, answer.told.answered, text, refl, analysis, failed.prefix);
+        sink = failed.faults ∙ ap (λ n. c.args.sink.now.faults + n) (same_faults _);
+        unwritten = failed.unwritten;
+        fault = of_writing (Some c.args.bytes.now) _ failed.kind;
+      };
+      read = no_reading _ _ failed.kind refl;
+    }

@@ -1,0 +1,7 @@
+-- the blocks so far
+use Rattle.std.proofs.Common.{◌≡◌, length}
+use Rattle.ov_certwriter.specs.Code.Blocks.{HaveRoom}
+use Rattle.ov_certwriter.proofs.entry_blocks.blocks_of.Given as goal
+
+abbrev pub invariant-loop : goal.invariant-loop
+invariant-loop l = record { count : length l.blocks.items ≡ l.counter; room : HaveRoom l.bytes l.blocks.items }

@@ -1,0 +1,19 @@
+-- The text of the entry, piece by piece.
+use Rattle.std.proofs.Common.{decimal, subst, ap, ◌≤◌, ℕ, length}
+use Rattle.ov_certwriter.proofs.EntryTexts.{fan_text, fan_short}
+use Rattle.ov_certwriter.proofs.PutTexts.{puts_then, puts_same}
+use Rattle.ov_certwriter.proofs.entry_texts.put_fan.Goals as goal
+
+pub returns-clause-text : goal.returns-clause-text
+returns-clause-text c =
+    let j = puts_same _ _ _ _ _ _ (ap decimal c.number.ensures) c.put_whole.ensures.text in
+    puts_same _ _ _ _ _ _ (fan_text c.args.entry.now)
+    (puts_then _ _ _ _ _ _ _ _ c.put_text.ensures (puts_then _ _ _ _ _ _ _ _ j
+    (puts_then _ _ _ _ _ _ _ _ c.put_text-2.ensures (puts_then _ _ _ _ _ _ _ _ c.put_paths.ensures.text
+    c.put_byte.ensures))))
+
+pub returns-clause-short : goal.returns-clause-short
+returns-clause-short c =
+    fan_short c.args.entry.now
+    (subst (λ (n : ℕ). length (decimal n) ≤ 10) c.number.ensures c.put_whole.ensures.short)
+    c.put_paths.ensures.short

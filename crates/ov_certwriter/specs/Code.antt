@@ -1,0 +1,3 @@
+-- What only the contracts of private functions and the proofs use.
+pub mod Blocks
+pub mod Parts

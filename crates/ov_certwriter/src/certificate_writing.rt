@@ -1,0 +1,178 @@
+//! Certificate files that are written as they are made. Of their entries no text is held but that of a few blocks.
+ghost use Rattle.std.specs.Prelude.{◌≡◌, ◌≤◌, ◌<◌, ◌+◌, ◌++◌, ◌*◌, ◌^◌, IfOk, IsErrOf, OnOk};
+ghost use Rattle.std.specs.Io.KnownBytes.{Appends};
+ghost use Rattle.serde_json.specs.Written.{compact_text};
+ghost use Rattle.ov_cert.specs.declared.cert.Cert.TheVariants as cert;
+ghost use Rattle.ov_io.specs.Device.{most_faults, write_faults, write_number, AppendsPrefixOf};
+ghost use Rattle.ov_certfile.specs.Forms.{last_moment};
+ghost use Rattle.ov_certfile.specs.DataOf.{data_of};
+ghost use Rattle.ov_certwriter.specs.Number.{writing_number};
+ghost use Rattle.ov_certwriter.specs.Code.Blocks.{AreWithin};
+ghost use Rattle.ov_certwriter.specs.Code.Parts.{text_of_parts};
+
+use crate::entry_blocks::{Blocks, write_entries};
+use crate::entry_rooms::largest_room;
+use crate::text_around_entries::Parts;
+use crate::writing_fault::WritingFault;
+use ov_cert::{Cert, Split};
+use ov_certfile::to_text_group;
+use ov_graph::Graph;
+use ov_ids::{NodeId, OutOfMemory, Workers};
+use ov_io::{Sink, WriteFault};
+use std::alloc::Global;
+use std::io::Write;
+use std::thread::Threads;
+
+/// About as many bytes a block has room for. A text takes about a third of its room.
+const BLOCK_BYTES: usize = 1 << 22;
+
+/// How much room entries need at least before one more thread saves time.
+const ROOM_WORTH_A_THREAD: u64 = 1 << 20;
+
+/// Writes what stands in front of a certificate file, and then the file, as `to_text_group` would make it. The texts of
+/// the entries are made by this number of workers, a part at a time, and no more than these parts is held in memory.
+/// The moment is at most 65,536.
+///
+/// `Write` (72): the writer failed in this call, and a prefix of the whole was written. `OutOfMemory` (99): an
+/// allocation was refused. All memory is there before the first byte is written; so nothing was written then.
+pub fn write_certificate<R: Threads + Sync, W: Write>(
+    rt: &R,
+    alloc: Global,
+    workers: Workers,
+    front: &[u8],
+    cert: &Cert,
+    graph: &Graph,
+    group: &[NodeId],
+    moment: u32,
+    sink: &mut Sink<W>,
+) -> Result<(), WritingFault>
+    requires moment { moment ≤ last_moment }
+    requires faults { sink.old.faults < most_faults }
+    ensures text { OnOk result (Appends (W.contents sink.old.writer) (W.contents sink.new.writer)
+        (front.now ++ compact_text (data_of cert.now graph.now group.now moment))) }
+    ensures prefix { AppendsPrefixOf (front.now ++ compact_text (data_of cert.now graph.now group.now moment))
+        (W.contents sink.old.writer) (W.contents sink.new.writer) }
+    ensures memory { IsErrOf result WritingFault.OutOfMemory → sink.new ≡ sink.old }
+    ensures faults { sink.new.faults ≡ sink.old.faults + write_faults writing_number result }
+{
+    match cert {
+        Cert::Linked { .. } => write_linked(alloc, front, cert, graph, group, moment, sink),
+        Cert::Split(split) => write_split(
+            rt, alloc, workers, front, split, graph, group, moment, sink,
+        ),
+    }
+}
+
+/// Writes a file that is held whole: one without entries is short.
+fn write_linked<W: Write>(
+    alloc: Global,
+    front: &[u8],
+    cert: &Cert,
+    graph: &Graph,
+    group: &[NodeId],
+    moment: u32,
+    sink: &mut Sink<W>,
+) -> Result<(), WritingFault>
+    requires moment { moment ≤ last_moment }
+    requires faults { sink.old.faults < most_faults }
+    ensures text { OnOk result (Appends (W.contents sink.old.writer) (W.contents sink.new.writer)
+        (front.now ++ compact_text (data_of cert.now graph.now group.now moment))) }
+    ensures prefix { AppendsPrefixOf (front.now ++ compact_text (data_of cert.now graph.now group.now moment))
+        (W.contents sink.old.writer) (W.contents sink.new.writer) }
+    ensures memory { IsErrOf result WritingFault.OutOfMemory → sink.new ≡ sink.old }
+    ensures faults { sink.new.faults ≡ sink.old.faults + write_faults writing_number result }
+{
+    let text = to_text_group(alloc, cert, graph, group, moment)?;
+    sink.write_all(front)?;
+    sink.write_all(text.as_bytes())?;
+    Ok(())
+}
+
+/// Writes a file with verdict split.
+fn write_split<R: Threads + Sync, W: Write>(
+    rt: &R,
+    alloc: Global,
+    workers: Workers,
+    front: &[u8],
+    split: &Split,
+    graph: &Graph,
+    group: &[NodeId],
+    moment: u32,
+    sink: &mut Sink<W>,
+) -> Result<(), WritingFault>
+    requires moment { moment ≤ last_moment }
+    requires faults { sink.old.faults < most_faults }
+    ensures text { OnOk result (Appends (W.contents sink.old.writer) (W.contents sink.new.writer)
+        (front.now ++ compact_text (data_of (cert.Split split.now) graph.now group.now moment))) }
+    ensures prefix { AppendsPrefixOf
+        (front.now ++ compact_text (data_of (cert.Split split.now) graph.now group.now moment))
+        (W.contents sink.old.writer) (W.contents sink.new.writer) }
+    ensures memory { IsErrOf result WritingFault.OutOfMemory → sink.new ≡ sink.old }
+    ensures faults { sink.new.faults ≡ sink.old.faults + write_faults writing_number result }
+{
+    let parts = Parts::of(alloc, split, graph, group, moment)?;
+    let mut blocks = blocks_for(alloc, workers, split)?;
+    sink.write_all(front)?;
+    write_parts(rt, sink, &mut blocks, split, &parts)?;
+    Ok(())
+}
+
+/// Writes the parts of a file, with the texts of the fans and of the pairs between them.
+fn write_parts<R: Threads + Sync, W: Write>(
+    rt: &R,
+    sink: &mut Sink<W>,
+    blocks: &mut Blocks,
+    split: &Split,
+    parts: &Parts,
+) -> Result<(), WriteFault>
+    requires fans { AreWithin (λ e. e.paths) blocks.old.room split.now.fans }
+    requires pairs { AreWithin (λ e. e.paths) blocks.old.room split.now.pairs }
+    requires faults { sink.old.faults < most_faults }
+    ensures bytes { OnOk result (Appends (W.contents sink.old.writer) (W.contents sink.new.writer)
+        (text_of_parts split.now parts.now)) }
+    ensures prefix { AppendsPrefixOf (text_of_parts split.now parts.now)
+        (W.contents sink.old.writer) (W.contents sink.new.writer) }
+    ensures faults { sink.new.faults ≡ sink.old.faults + write_faults write_number result }
+{
+    sink.write_all(parts.head())?;
+    write_entries(rt, sink, blocks, split.fans.as_slice())?;
+    sink.write_all(parts.middle())?;
+    write_entries(rt, sink, blocks, split.pairs.as_slice())?;
+    sink.write_all(parts.tail())?;
+    Ok(())
+}
+
+/// The blocks for the entries of a certificate: one for each worker who saves time.
+fn blocks_for(alloc: Global, workers: Workers, split: &Split) -> Result<Blocks, OutOfMemory>
+    ensures fans { IfOk result (λ b. AreWithin (λ e. e.paths) b.room split.now.fans) }
+    ensures pairs { IfOk result (λ b. AreWithin (λ e. e.paths) b.room split.now.pairs) }
+{
+    let (fans, pairs) = (split.fans.as_slice(), split.pairs.as_slice());
+    let room = largest_room(fans).max(largest_room(pairs));
+    if room >= usize::MAX {
+        return Err(OutOfMemory);
+    }
+    let entries = fans.len().max(pairs.len());
+    let count = block_count(workers, entries, room);
+    let size = block_size(entries, count, room);
+    Ok(Blocks::new(alloc, count, size, room)?)
+}
+
+/// How many blocks there are for so many entries of this room.
+fn block_count(workers: Workers, entries: usize, room: usize) -> usize
+    ensures some { 0 < result }
+    ensures few { result ≤ 64 }
+{
+    let bytes = (entries as u64).saturating_mul(room as u64);
+    workers.at_most(bytes / ROOM_WORTH_A_THREAD).count() as usize
+}
+
+/// How many entries of this room each block takes, if there are so many entries and so many blocks.
+fn block_size(entries: usize, count: usize, room: usize) -> usize
+    requires { 0 < count }
+    ensures some { 0 < result }
+    ensures few { result ≤ 2 ^ 22 }
+{
+    let share = entries.div_ceil(count);
+    (BLOCK_BYTES / room.max(1)).min(share).max(1)
+}
