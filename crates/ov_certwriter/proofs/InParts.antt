@@ -7,7 +7,6 @@ use Rattle.serde_json.specs.Data.{Data, Items, Members, no_items, array, object,
 use Rattle.serde_json.specs.View.{items_of}
 use Rattle.serde_json.specs.Written.{compact_text, items_text, members_text}
 use Rattle.serde_json.proofs.OnLiterals.{serde_json_on_literals}
-use Rattle.json.specs.Print.{quoted}
 use Rattle.ov_graph.specs.Links.{LinkGraph}
 use Rattle.ov_cert.specs.declared.cert.Split.{Split}
 use Rattle.ov_cert.specs.declared.cert.Cert.TheVariants as cert
@@ -56,7 +55,7 @@ head_text c = codes "{\"cut\":" ++ (compact_text (ids_data c.cut) ++ codes ",\"f
 
 -- the text of a member behind others
 abbrev member_text : List ℕ → Data → List ℕ
-member_text k d = 44 ∷ (quoted k ++ 58 ∷ compact_text d)
+member_text k d = 44 ∷ (compact_text (string k) ++ 58 ∷ compact_text d)
 
 -- the text between the fans and the pairs
 middle_text : Version → Split → LinkGraph → List ℕ → ℕ → List ℕ
@@ -66,7 +65,8 @@ middle_text One c g group moment =
     ++ (member_text (codes "links") (list_data link_data g.links)
     ++ (member_text (codes "moment") (whole_data moment)
     ++ (member_text (codes "near") (whole_data c.near)
-    ++ (member_text (codes "nodes") (ids_data g.nodes) ++ 44 ∷ (quoted (codes "pairs") ++ codes ":["))))))
+    ++ (member_text (codes "nodes") (ids_data g.nodes)
+    ++ 44 ∷ (compact_text (string (codes "pairs")) ++ codes ":["))))))
 middle_text Two c g group moment =
     member_text (codes "far") (whole_data c.far)
     ++ (member_text (codes "group") (ids_data group)
@@ -74,7 +74,8 @@ middle_text Two c g group moment =
     ++ (member_text (codes "links") (list_data link_data g.links)
     ++ (member_text (codes "moment") (whole_data moment)
     ++ (member_text (codes "near") (whole_data c.near)
-    ++ (member_text (codes "nodes") (ids_data g.nodes) ++ 44 ∷ (quoted (codes "pairs") ++ codes ":[")))))))
+    ++ (member_text (codes "nodes") (ids_data g.nodes)
+    ++ 44 ∷ (compact_text (string (codes "pairs")) ++ codes ":[")))))))
 
 middle_is : (version : Version) (c : Split) (g : LinkGraph) (group : List ℕ) (moment : ℕ) (pairs : Items) (ms : Members)
     → members_text true (middle_members version c g group moment pairs ms)
