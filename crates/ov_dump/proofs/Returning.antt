@@ -93,7 +93,7 @@ one_named : (m : ℕ) (name before : List ℕ) (ls : List (List ℕ)) (nodes : L
 unfolding At
 one_named m name before ls nodes names n s low some later = (to, λ h. back h.0 h.1 h.2) where
   silent : node_said (graph_line (comment_text m name)) ≡ []
-  silent = skipped_none (words_of (comment_text m name)) (comment_skipped m name)
+  silent = ap node_said (skipped_none (words_of (comment_text m name)) (comment_skipped m name))
 
   to : AreNaming before (comment_text m name ∷ node_text m ∷ ls) n s → At (m ∷ nodes) (name ∷ names) n s
   to (inl by) = let e : [] ≡ n ∷ [] = sym silent ∙ by.1 in absurd (cc)

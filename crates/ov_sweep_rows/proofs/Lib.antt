@@ -2,3 +2,4 @@ pub mod Records
 pub mod Said
 pub mod RowByRow
 pub mod Named
+pub mod Refusing

@@ -1,5 +1,5 @@
 -- The rows that a text says. The text is read as CSV by the kit's words, with its default configuration.
-use Rattle.std.specs.Prelude.{◌≡◌, ℕ, List, [], ◌∷◌, ⊤, Bool, not, nat_eq}
+use Rattle.std.specs.Prelude.{ℕ, List, [], ◌∷◌, ⊤, Bool, not, nat_eq}
 use Rattle.std.specs.List.{filter}
 use Rattle.std.specs.Cmp.Lexicographic.{pointwise}
 use Rattle.csv.specs.Reading.{AreRecords, default_config, strip_bom}

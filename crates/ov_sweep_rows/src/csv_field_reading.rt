@@ -1,7 +1,9 @@
-ghost use Rattle.std.specs.Prelude.{◌≡◌, IfOk, IfSome};
+ghost use Rattle.std.specs.Prelude.{◌≡◌, ◌<◌, ◌^◌, IfErr, IfNone, IfOk, IfSome};
 ghost use Rattle.csv.specs.Records.{fields_of};
 ghost use Rattle.ov_sweep_rows.specs.Fields.{text_at};
+ghost use Rattle.ov_sweep_rows.specs.Refusals.{IsFieldFault, SpellsNone};
 ghost use Rattle.ov_sweep_rows.specs.RowTexts.{Spells};
+ghost use Rattle.ov_sweep_rows.specs.declared.row_fault.RowFault.TheVariants.{Field};
 
 use crate::{FieldFault, FieldForm, RowFault};
 use csv::ByteRecord;
@@ -26,7 +28,9 @@ impl<'a> RowFields<'a> {
     }
 
     /// That the field at this place is not what its column takes.
-    pub(crate) fn fault(&self, place: usize, takes: FieldForm) -> RowFault {
+    pub(crate) fn fault(&self, place: usize, takes: FieldForm) -> RowFault
+        ensures { result ≡ Field self.now.line (record { place = place; takes = takes }) }
+    {
         RowFault::Field {
             line: self.line,
             field: FieldFault { place, takes },
@@ -35,7 +39,8 @@ impl<'a> RowFields<'a> {
 
     /// The number of 32 bits in the column at this place.
     pub(crate) fn number(&self, place: usize) -> Result<u32, RowFault>
-        ensures { IfOk result (Spells (text_at (fields_of self.now.record.now) place)) }
+        ensures fault { IfErr result (IsFieldFault (fields_of self.now.record.now)) }
+        ensures value { IfOk result (Spells (text_at (fields_of self.now.record.now) place)) }
     {
         match short_number(self.text(place)) {
             Some(number) => Ok(number),
@@ -46,11 +51,16 @@ impl<'a> RowFields<'a> {
 
 /// The number of 32 bits that a text spells.
 pub(crate) fn short_number(text: &[u8]) -> Option<u32>
-    ensures { IfSome result (Spells text.now) }
+    ensures some { IfSome result (λ number. Spells text.now number × (number < 2 ^ 32)) }
+    ensures none { IfNone result (SpellsNone text.now (λ number. number < 2 ^ 32)) }
 {
-    let number = read_number(text)?;
-    if number > u64::from(u32::MAX) {
-        return None;
+    match read_number(text) {
+        None => None,
+        Some(number) => {
+            if number > u64::from(u32::MAX) {
+                return None;
+            }
+            Some(number as u32)
+        }
     }
-    Some(number as u32)
 }

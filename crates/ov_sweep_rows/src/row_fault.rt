@@ -99,6 +99,11 @@ impl Display for FieldFault {
 }
 
 impl From<AllocError> for RowFault {
+    ghost use Rattle.std.specs.Prelude.{◌≡◌};
+    ghost use Rattle.ov_sweep_rows.specs.declared.row_fault.RowFault.TheVariants.{OutOfMemory};
+
+    ghost from_gives = { λ _ e. e ≡ OutOfMemory };
+
     fn from(_error: AllocError) -> RowFault {
         RowFault::OutOfMemory
     }
@@ -113,6 +118,11 @@ impl<T: Drop> From<AllocFailed<T>> for RowFault {
 /// A text in memory can't be read as CSV for two reasons alone: a row has another number of fields than the header, or
 /// an allocation was refused.
 impl From<CsvError> for RowFault {
+    ghost use Rattle.csv.specs.Reading.{error_kind};
+    ghost use Rattle.ov_sweep_rows.specs.Code.Taking.{IsFaultOf};
+
+    ghost from_gives = { λ error e. IsFaultOf (error_kind error) e };
+
     fn from(error: CsvError) -> RowFault {
         match error.kind() {
             ErrorKind::UnequalLengths { pos, len, .. } => RowFault::FieldCount {

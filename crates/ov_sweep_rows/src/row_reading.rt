@@ -1,8 +1,10 @@
-ghost use Rattle.std.specs.Prelude.{◌≡◌, ◌<◌, ◌↔◌, ◌++◌, ◌∷◌, [], IfOk, IsTrue, OnOk, Some, map};
+ghost use Rattle.std.specs.Prelude.{◌≡◌, ◌<◌, ◌↔◌, ◌++◌, ◌∷◌, [], IfErr, IfOk, IsTrue, OnOk, Some, map};
 ghost use Rattle.csv.specs.Records.{field_at, fields_of};
 ghost use Rattle.ov_sweep_rows.specs.Columns.{columns};
 ghost use Rattle.ov_sweep_rows.specs.Reading.{AreRowsOf};
-ghost use Rattle.ov_sweep_rows.specs.Code.Taking.{WasTaken};
+ghost use Rattle.ov_sweep_rows.specs.Refusals.{IsFieldFault, IsRowRefusal};
+ghost use Rattle.ov_sweep_rows.specs.Code.Taking.{IsTakeFault, WasTaken};
+ghost use Rattle.ov_sweep_rows.specs.declared.row_fault.RowFault.TheVariants.{OutOfMemory};
 ghost use Rattle.ov_sweep_rows.specs.RowTexts.{Spells};
 ghost use Rattle.ov_sweep_rows.specs.Fields.{text_at, SayOptions, SayParams, SayPhase, SayRow, SpellsCrash};
 ghost use Rattle.ov_sweep_rows.specs.Fields.{SpellsDelivered, SpellsOrder, SpellsPace};
@@ -30,8 +32,12 @@ const HEAL: usize = 30;
 /// `Header` (70): the text does not begin with the header. `FieldCount`, `Field` (70): the first row that is not of the
 /// form.
 /// `OutOfMemory` (99): an allocation was refused.
+///
+/// Not proved: that a fault names the line of its row and the form that its column takes; that a text which is refused
+/// as a delivered share is none; that there is memory.
 pub fn read_rows(alloc: Global, text: &[u8]) -> Result<Vec<Row>, RowFault>
     ensures rows { IfOk result (λ rows. AreRowsOf text.now rows.items) }
+    ensures fault { IfErr result (IsRowRefusal text.now) }
 {
     let mut records = ReaderBuilder::new()
         .has_headers(false)
@@ -52,7 +58,8 @@ pub fn read_rows(alloc: Global, text: &[u8]) -> Result<Vec<Row>, RowFault>
 
 /// Adds the row that a record says. The header says none.
 fn take_record(rows: &mut Vec<Row>, fields: &ByteRecord) -> Result<(), RowFault>
-    ensures { OnOk result (WasTaken (fields_of fields.now) rows.old.items rows.new.items) }
+    ensures taken { OnOk result (WasTaken (fields_of fields.now) rows.old.items rows.new.items) }
+    ensures fault { IfErr result (IsTakeFault (fields_of fields.now)) }
 {
     if is_header(fields) {
         return Ok(());
@@ -65,7 +72,8 @@ fn take_record(rows: &mut Vec<Row>, fields: &ByteRecord) -> Result<(), RowFault>
 
 /// Adds a row.
 fn push_row(rows: &mut Vec<Row>, row: Row) -> Result<(), RowFault>
-    ensures { OnOk result (rows.new.items ≡ rows.old.items ++ (row ∷ [])) }
+    ensures added { OnOk result (rows.new.items ≡ rows.old.items ++ (row ∷ [])) }
+    ensures fault { IfErr result (λ fault. fault ≡ OutOfMemory) }
 {
     rows.extend_from_slice(&[row])?;
     Ok(())
@@ -105,7 +113,8 @@ fn is_named(fields: &ByteRecord, place: usize, name: &str) -> bool
 
 /// The row that a record says.
 fn row_of(record: &ByteRecord) -> Result<Row, RowFault>
-    ensures { IfOk result (SayRow (fields_of record.now)) }
+    ensures fault { IfErr result (IsFieldFault (fields_of «record».now)) }
+    ensures row { IfOk result (SayRow (fields_of «record».now)) }
 {
     let line = record.position().map_or(0, |at| at.line);
     let fields = RowFields { record, line };
@@ -120,7 +129,8 @@ fn row_of(record: &ByteRecord) -> Result<Row, RowFault>
 }
 
 fn read_options(fields: &RowFields<'_>) -> Result<GrowOptions, RowFault>
-    ensures { IfOk result (SayOptions (fields_of fields.now.record.now)) }
+    ensures fault { IfErr result (IsFieldFault (fields_of fields.now.record.now)) }
+    ensures value { IfOk result (SayOptions (fields_of fields.now.record.now)) }
 {
     let nodes = nodes_at(fields, 0)?;
     let params = read_params(fields)?;
@@ -151,51 +161,60 @@ fn read_options(fields: &RowFields<'_>) -> Result<GrowOptions, RowFault>
 }
 
 fn nodes_at(fields: &RowFields<'_>, place: usize) -> Result<NodeCount, RowFault>
-    ensures { IfOk result (Spells (text_at (fields_of fields.now.record.now) place)) }
+    ensures fault { IfErr result (IsFieldFault (fields_of fields.now.record.now)) }
+    ensures value { IfOk result (Spells (text_at (fields_of fields.now.record.now) place)) }
 {
-    if let Some(number) = short_number(fields.text(place))
-        && let Some(nodes) = NodeCount::new(number)
-    {
-        return Ok(nodes);
+    match short_number(fields.text(place)) {
+        None => Err(fields.fault(place, FieldForm::Nodes)),
+        Some(number) => match NodeCount::new(number) {
+            Some(nodes) => Ok(nodes),
+            None => Err(fields.fault(place, FieldForm::Nodes)),
+        },
     }
-    Err(fields.fault(place, FieldForm::Nodes))
 }
 
 fn chance_at(fields: &RowFields<'_>, place: usize) -> Result<Chance, RowFault>
-    ensures { IfOk result (Spells (text_at (fields_of fields.now.record.now) place)) }
+    ensures fault { IfErr result (IsFieldFault (fields_of fields.now.record.now)) }
+    ensures value { IfOk result (Spells (text_at (fields_of fields.now.record.now) place)) }
 {
-    if let Some(number) = short_number(fields.text(place))
-        && let Some(chance) = Chance::new(number)
-    {
-        return Ok(chance);
+    match short_number(fields.text(place)) {
+        None => Err(fields.fault(place, FieldForm::Chance)),
+        Some(number) => match Chance::new(number) {
+            Some(chance) => Ok(chance),
+            None => Err(fields.fault(place, FieldForm::Chance)),
+        },
     }
-    Err(fields.fault(place, FieldForm::Chance))
 }
 
 fn share_at(fields: &RowFields<'_>, place: usize) -> Result<Share, RowFault>
-    ensures { IfOk result (Spells (text_at (fields_of fields.now.record.now) place)) }
+    ensures fault { IfErr result (IsFieldFault (fields_of fields.now.record.now)) }
+    ensures value { IfOk result (Spells (text_at (fields_of fields.now.record.now) place)) }
 {
-    if let Some(number) = short_number(fields.text(place))
-        && let Some(share) = Share::new(number)
-    {
-        return Ok(share);
+    match short_number(fields.text(place)) {
+        None => Err(fields.fault(place, FieldForm::Share)),
+        Some(number) => match Share::new(number) {
+            Some(share) => Ok(share),
+            None => Err(fields.fault(place, FieldForm::Share)),
+        },
     }
-    Err(fields.fault(place, FieldForm::Share))
 }
 
 fn count_at(fields: &RowFields<'_>, place: usize) -> Result<Count, RowFault>
-    ensures { IfOk result (Spells (text_at (fields_of fields.now.record.now) place)) }
+    ensures fault { IfErr result (IsFieldFault (fields_of fields.now.record.now)) }
+    ensures value { IfOk result (Spells (text_at (fields_of fields.now.record.now) place)) }
 {
-    if let Some(number) = short_number(fields.text(place))
-        && let Some(count) = Count::new(number)
-    {
-        return Ok(count);
+    match short_number(fields.text(place)) {
+        None => Err(fields.fault(place, FieldForm::Count)),
+        Some(number) => match Count::new(number) {
+            Some(count) => Ok(count),
+            None => Err(fields.fault(place, FieldForm::Count)),
+        },
     }
-    Err(fields.fault(place, FieldForm::Count))
 }
 
 fn seed_at(fields: &RowFields<'_>, place: usize) -> Result<u64, RowFault>
-    ensures { IfOk result (Spells (text_at (fields_of fields.now.record.now) place)) }
+    ensures fault { IfErr result (IsFieldFault (fields_of fields.now.record.now)) }
+    ensures value { IfOk result (Spells (text_at (fields_of fields.now.record.now) place)) }
 {
     match read_number(fields.text(place)) {
         Some(seed) => Ok(seed),
@@ -204,7 +223,8 @@ fn seed_at(fields: &RowFields<'_>, place: usize) -> Result<u64, RowFault>
 }
 
 fn read_params(fields: &RowFields<'_>) -> Result<Params, RowFault>
-    ensures { IfOk result (SayParams (fields_of fields.now.record.now)) }
+    ensures fault { IfErr result (IsFieldFault (fields_of fields.now.record.now)) }
+    ensures value { IfOk result (SayParams (fields_of fields.now.record.now)) }
 {
     let active = fields.number(1)?;
     let passive = fields.number(2)?;
@@ -220,7 +240,8 @@ fn read_params(fields: &RowFields<'_>) -> Result<Params, RowFault>
 }
 
 fn order_at(fields: &RowFields<'_>, place: usize) -> Result<Order, RowFault>
-    ensures { IfOk result (SpellsOrder (text_at (fields_of fields.now.record.now) place)) }
+    ensures fault { IfErr result (IsFieldFault (fields_of fields.now.record.now)) }
+    ensures value { IfOk result (SpellsOrder (text_at (fields_of fields.now.record.now) place)) }
 {
     let text = fields.text(place);
     if text == b"random".as_slice() {
@@ -233,39 +254,44 @@ fn order_at(fields: &RowFields<'_>, place: usize) -> Result<Order, RowFault>
 }
 
 fn pace_at(fields: &RowFields<'_>, place: usize) -> Result<Option<Pace>, RowFault>
-    ensures { IfOk result (SpellsPace (text_at (fields_of fields.now.record.now) place)) }
+    ensures fault { IfErr result (IsFieldFault (fields_of fields.now.record.now)) }
+    ensures value { IfOk result (SpellsPace (text_at (fields_of fields.now.record.now) place)) }
 {
     let text = fields.text(place);
     if text.is_empty() {
         return Ok(None);
     }
-    if let Some(number) = short_number(text)
-        && let Some(pace) = Pace::new(number)
-    {
-        return Ok(Some(pace));
+    match short_number(text) {
+        None => Err(fields.fault(place, FieldForm::Pace)),
+        Some(number) => match Pace::new(number) {
+            Some(pace) => Ok(Some(pace)),
+            None => Err(fields.fault(place, FieldForm::Pace)),
+        },
     }
-    Err(fields.fault(place, FieldForm::Pace))
 }
 
 fn crash_at(fields: &RowFields<'_>, place: usize) -> Result<Crash, RowFault>
-    ensures { IfOk result (SpellsCrash (text_at (fields_of fields.now.record.now) place)) }
+    ensures fault { IfErr result (IsFieldFault (fields_of fields.now.record.now)) }
+    ensures value { IfOk result (SpellsCrash (text_at (fields_of fields.now.record.now) place)) }
 {
     let text = fields.text(place);
     if text == b"cut".as_slice() {
         return Ok(Crash::Cut);
     }
-    if let Some(number) = short_number(text)
-        && let Some(share) = Share::new(number)
-    {
-        return Ok(Crash::Share(share));
+    match short_number(text) {
+        None => Err(fields.fault(place, FieldForm::Crash)),
+        Some(number) => match Share::new(number) {
+            Some(share) => Ok(Crash::Share(share)),
+            None => Err(fields.fault(place, FieldForm::Crash)),
+        },
     }
-    Err(fields.fault(place, FieldForm::Crash))
 }
 
 /// What a run came to after a phase, by the six fields from this place on.
 fn read_phase(fields: &RowFields<'_>, first: usize) -> Result<PhaseRow, RowFault>
     requires { first < 100 }
-    ensures { IfOk result (SayPhase (fields_of fields.now.record.now) first) }
+    ensures fault { IfErr result (IsFieldFault (fields_of fields.now.record.now)) }
+    ensures value { IfOk result (SayPhase (fields_of fields.now.record.now) first) }
 {
     let nodes = fields.number(first)?;
     let k = fields.number(first + 1)?;
@@ -284,7 +310,8 @@ fn read_phase(fields: &RowFields<'_>, first: usize) -> Result<PhaseRow, RowFault
 }
 
 fn delivered_at(fields: &RowFields<'_>, place: usize) -> Result<Option<DeliveredShare>, RowFault>
-    ensures { IfOk result (SpellsDelivered (text_at (fields_of fields.now.record.now) place)) }
+    ensures fault { IfErr result (IsFieldFault (fields_of fields.now.record.now)) }
+    ensures value { IfOk result (SpellsDelivered (text_at (fields_of fields.now.record.now) place)) }
 {
     let text = fields.text(place);
     if text.is_empty() {

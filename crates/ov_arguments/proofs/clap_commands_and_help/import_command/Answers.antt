@@ -10,7 +10,8 @@ use Rattle.ov_arguments.proofs.clap_commands_and_help.import_command.Goals as go
 pub returns : goal.returns
 unfolding with_options
 returns c =
-    let told : app_of c.after_help-command.result ≡ new_app (codes "import") = ap app_of_fields c.after_help-command.ensures ∙ c.named.ensures in
+    let told : app_of c.after_help-command.result ≡ new_app (codes "import") =
+    ap app_of_fields c.after_help-command.ensures ∙ c.named.ensures in
     let none = ap (λ (a : App). with_rule a (new_rule (codes "file"))) told in
     let one = ap₂ with_rule none c.flag.ensures in
     let two = ap₂ with_rule one c.flag-2.ensures in

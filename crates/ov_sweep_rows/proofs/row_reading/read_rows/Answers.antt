@@ -1,5 +1,8 @@
 use Rattle.std.proofs.Common.{[], ◌≡◌, ◌∙◌, refl}
+use Rattle.ov_sweep_rows.specs.Refusals.{IsRowRefusal}
+use Rattle.ov_sweep_rows.specs.Code.Taking.{IsFaultOf}
 use Rattle.ov_sweep_rows.proofs.Records.{Stands, stands_first}
+use Rattle.ov_sweep_rows.proofs.Refusing.{fault_tells, next_unread, next_untaken}
 use Rattle.ov_sweep_rows.proofs.RowByRow.{reads_all, reads_begun, reads_more}
 use Rattle.ov_sweep_rows.proofs.row_reading.read_rows.Goals as goal
 
@@ -35,15 +38,39 @@ loop-record-preserved c =
     reads_more c.args.text.now c.loop-record.record-iterator.rdr c.next-in-loop-record.new.self.rdr
     c.loop-record.record-iterator.left c.next-in-loop-record.new.self.left c.loop-record.rows.items
     c.take_record-in-loop-record.new.rows.items c.in_ok-record.field-0 reads (step.0 reads.stands.ready) step.3
-    c.in_ok-take_record.ensures
+    c.in_ok-take_record.ensures.taken
 
-pub returns : goal.returns
-returns c =
+pub returns-clause-rows : goal.returns-clause-rows
+returns-clause-rows c =
     let reads = c.loop-record.invariant in
     let step = rw c.in-None.is at (c.next-in-loop-record.ensures.steps reads.stands.turns reads.stands.plain) in
-    record {
-      rows =
-          reads_all c.args.text.now c.loop-record.record-iterator.rdr c.next-in-loop-record.new.self.rdr
-          c.loop-record.record-iterator.left c.next-in-loop-record.new.self.left c.loop-record.rows.items reads
-          (step.0 reads.stands.ready);
-    }
+    reads_all c.args.text.now c.loop-record.record-iterator.rdr c.next-in-loop-record.new.self.rdr
+    c.loop-record.record-iterator.left c.next-in-loop-record.new.self.left c.loop-record.rows.items reads
+    (step.0 reads.stands.ready)
+
+pub returns-in_err-record-clause-fault : goal.returns-in_err-record-clause-fault
+returns-in_err-record-clause-fault c =
+    let reads = c.loop-record.invariant in
+    let step = rw (c.in-Some-record.is, c.in_err-record.was) at
+    (c.next-in-loop-record.ensures.steps reads.stands.turns reads.stands.plain) in
+    fault_tells (IsFaultOf c.in_err-record.field-0.0.kind) (IsRowRefusal c.args.text.now)
+    c.from_residual-in_err-record.result
+    (λ fault is. next_unread c.args.text.now c.loop-record.record-iterator.rdr c.next-in-loop-record.new.self.rdr
+    c.loop-record.record-iterator.left c.loop-record.rows.items c.in_err-record.field-0.0.kind fault reads
+    (step.0 reads.stands.ready) is)
+    c.from_residual-in_err-record.ensures.1
+
+pub returns-in_err-take_record-clause-fault : goal.returns-in_err-take_record-clause-fault
+returns-in_err-take_record-clause-fault c =
+    let reads = c.loop-record.invariant in
+    let step = rw (c.in-Some-record.is, c.in_ok-record.was) at
+    (c.next-in-loop-record.ensures.steps reads.stands.turns reads.stands.plain) in
+    fault_tells (λ fault. fault ≡ c.in_err-take_record.field-0.0) (IsRowRefusal c.args.text.now)
+    c.from_residual-in_err-take_record.result
+    (λ fault same. rw same (
+    next_untaken c.args.text.now c.loop-record.record-iterator.rdr c.next-in-loop-record.new.self.rdr
+    c.loop-record.record-iterator.left c.next-in-loop-record.new.self.left c.loop-record.rows.items
+    c.in_ok-record.field-0 c.in_err-take_record.field-0.0 reads (step.0 reads.stands.ready)
+    c.in_err-take_record.ensures.fault
+    ))
+    c.from_residual-in_err-take_record.ensures.1

@@ -1,0 +1,87 @@
+-- Why a text of rows is refused.
+use Rattle.std.proofs.Common.{Bor, ◌≡◌, ℕ, List, [], ◌∷◌, ◌++◌, Option, Some, None, Ok}
+use Rattle.std.proofs.Common.{true, false, refl, sym, ap, ◌∙◌}
+use Rattle.std.specs.Prelude.{Err, IfErr, Result, unwrap_or}
+use Rattle.std.specs.Result.{IsErrAnd}
+use Rattle.csv.specs.Machine.{Read, next_record}
+use Rattle.csv.specs.Reading.{ExplainsRead, NextIs, Reached, ReadsNext, RowStep, TookRecord, default_config, strip_bom}
+use Rattle.csv.specs.Records.{Row as Fields, fields_of}
+use Rattle.csv.specs.declared.error.ErrorKind.{ErrorKind}
+use Rattle.csv.specs.declared.error.ErrorKind.TheVariants as kind
+use Rattle.csv.specs.declared.parser.Config.{Config}
+use Rattle.csv.specs.declared.parser.State.{State}
+use Rattle.csv.specs.declared.parser.State.TheVariants as st
+use Rattle.csv.specs.declared.reader.Reader.{Reader}
+use Rattle.csv.proofs.ReadFacts.{reached-more}
+use Rattle.ov_sweep_rows.specs.declared.row.Row.{Row}
+use Rattle.ov_sweep_rows.specs.declared.row_fault.RowFault.{RowFault}
+use Rattle.ov_sweep_rows.specs.declared.row_fault.RowFault.TheVariants.{Header, FieldCount, Field, OutOfMemory}
+use Rattle.ov_sweep_rows.specs.Columns.{columns}
+use Rattle.ov_sweep_rows.specs.Refusals.{ComesAfterRows, IsRowRefusal}
+use Rattle.ov_sweep_rows.specs.Code.Taking.{IsFaultOf, IsTakeFault}
+use Rattle.ov_sweep_rows.proofs.Records.{text_left}
+use Rattle.ov_sweep_rows.proofs.RowByRow.{Reads}
+
+-- what is known of the fault of a result
+pub fault_tells : {A : Type 0} (Known Told : RowFault → Type 0) (r : Result A RowFault)
+    → ((fault : RowFault) → Known fault → Told fault) → IsErrAnd r Known → IfErr r Told
+fault_tells Known Told (Ok value) tells is = tt
+fault_tells Known Told (Err fault) tells is = tells fault is
+
+took_some : (cfg : Config) (s0 a b : State) (xs y z : List ℕ) (records : List (List (List ℕ))) (fields : List (List ℕ))
+    (next : Option Read) → next_record cfg a [] [] y ≡ next → NextIs next true fields b z
+    → Reached cfg s0 xs records a y → Reached cfg s0 xs (records ++ (fields ∷ [])) b z
+took_some cfg s0 a b xs y z records fields None found is reached = cc is
+took_some cfg s0 a b xs y z records fields (Some p) found is reached =
+    rw (is.1, is.2, is.3) (reached-more cfg s0 a xs y records p reached found)
+
+took_next : (cfg : Config) (s0 a b : State) (xs y : List ℕ) (records : List (List (List ℕ))) (fields : List (List ℕ))
+    (left : Option (List ℕ)) → ReadsNext cfg a (Some y) left true fields b → Reached cfg s0 xs records a y
+    → (z : List ℕ) × Reached cfg s0 xs (records ++ (fields ∷ [])) b z
+took_next cfg s0 a b xs y records fields None reads reached = absurd reads
+took_next cfg s0 a b xs y records fields (Some z) reads reached =
+    (z, took_some cfg s0 a b xs y z records fields (next_record cfg a [] [] y) refl reads reached)
+
+-- a record comes after rows
+comes_next : (text : List ℕ) (a b : Reader (Bor (List ℕ))) (left : ℕ) (rows : List Row) (fields : List (List ℕ))
+    → Reads text a left rows → TookRecord text_left a b fields → ComesAfterRows text fields
+comes_next text a b left rows fields reads took =
+    let next = took_next default_config st.StartRecord a.state b.state (strip_bom text) reads.stands.rest
+    (columns ∷ reads.records) fields _ (rw (reads.stands.set, reads.stands.source) at took) reads.stands.reached in
+    record {
+      records = reads.records;
+      rows = rows;
+      state = b.state;
+      rest = next.0;
+      are_first = next.1;
+      are_said = reads.said;
+    }
+
+-- it can't be read
+pub next_unread : (text : List ℕ) (a b : Reader (Bor (List ℕ))) (left : ℕ) (rows : List Row) (why : ErrorKind)
+    (fault : RowFault) → Reads text a left rows → ExplainsRead text_left a b false why → IsFaultOf why fault
+    → IsRowRefusal text fault
+next_unread text a b left rows (kind.UnequalLengths pos expected len) fault reads explains is =
+    let (flexible, expects, other, fields, took, long) = explains in
+    let same : 36 ≡ expected = ap (λ (o : Option ℕ). unwrap_or o 36) (sym reads.lengths ∙ expects) in
+    rw is.1 (
+      fields,
+      comes_next text a b left rows fields reads took,
+      long,
+      λ all. other (sym same ∙ sym all),
+    )
+next_unread text a b left rows (kind.Io e) fault reads explains is = rw is tt
+next_unread text a b left rows (kind.Utf8 pos err) fault reads explains is = rw is tt
+next_unread text a b left rows kind.OutOfMemory fault reads explains is = rw is tt
+next_unread text a b left rows (kind.Serialize told) fault reads explains is = rw is tt
+next_unread text a b left rows (kind.Deserialize pos err) fault reads explains is = rw is tt
+
+-- it says no row
+pub next_untaken : (text : List ℕ) (a b : Reader (Bor (List ℕ))) (left next : ℕ) (rows : List Row) (row : Fields)
+    (fault : RowFault) → Reads text a left rows → RowStep text_left a b next (Some (Ok row))
+    → IsTakeFault (fields_of row) fault → IsRowRefusal text fault
+next_untaken text a b left next rows row Header reads step untaken = absurd untaken
+next_untaken text a b left next rows row (FieldCount line number) reads step untaken = absurd untaken
+next_untaken text a b left next rows row (Field line field) reads step untaken =
+    (fields_of row, comes_next text a b left rows (fields_of row) reads step.0.0, untaken.0, untaken.1)
+next_untaken text a b left next rows row OutOfMemory reads step untaken = tt

@@ -1,0 +1,76 @@
+-- Why a text of rows is refused.
+use Rattle.std.specs.Prelude.{◌≡◌, ◌≢◌, ◌≤◌, ◌<◌, ◌^◌, ℕ, List, [], ◌∷◌, ◌++◌, length, codes, ⊤, Option, option_map}
+use Rattle.std.specs.Prelude.{Some}
+use Rattle.std.specs.List.{filter}
+use Rattle.csv.specs.Machine.{next_record}
+use Rattle.csv.specs.Reading.{Reached, default_config, strip_bom}
+use Rattle.csv.specs.declared.parser.State.{State}
+use Rattle.csv.specs.declared.parser.State.TheVariants as st
+use Rattle.ov_ids.specs.ParamsState.{AreWithinLimits, ParamsState}
+use Rattle.ov_grow_options.specs.Limits.{MayBeGrown, most_of_hundred, most_rounds, most_share, most_turns}
+use Rattle.ov_sweep_rows.specs.declared.row.Row.{Row}
+use Rattle.ov_sweep_rows.specs.declared.row_fault.FieldForm.{FieldForm}
+use Rattle.ov_sweep_rows.specs.declared.row_fault.FieldForm.TheVariants as form
+use Rattle.ov_sweep_rows.specs.declared.row_fault.RowFault.{RowFault}
+use Rattle.ov_sweep_rows.specs.declared.row_fault.RowFault.TheVariants.{Header, FieldCount, Field, OutOfMemory}
+use Rattle.ov_sweep_rows.specs.Columns.{columns}
+use Rattle.ov_sweep_rows.specs.Fields.{SayParams, text_at}
+use Rattle.ov_sweep_rows.specs.Reading.{SayRows, is_no_header}
+use Rattle.ov_sweep_rows.specs.RowTexts.{Spells}
+
+-- the first record of a text, if it has one
+abbrev pub first_record : List ℕ → Option (List (List ℕ))
+first_record text = option_map (λ p. p.0) (next_record default_config st.StartRecord [] [] (strip_bom text))
+
+-- the text spells no number that is so
+abbrev pub SpellsNone : List ℕ → (ℕ → Type 0) → Type 0
+SpellsNone text IsSo = (n : ℕ) → Spells text n → IsSo n → ⊥
+
+-- the text in the column at a place is not of this form; of the parameters, that they are not within their limits; of
+-- a delivered share, only that it is there
+abbrev pub LacksForm : List (List ℕ) → ℕ → FieldForm → Type 0
+LacksForm fields place form.Nodes = SpellsNone (text_at fields place) MayBeGrown
+LacksForm fields place form.Params = (p : ParamsState) → SayParams fields p → AreWithinLimits p → ⊥
+LacksForm fields place form.Chance = SpellsNone (text_at fields place) (λ n. n ≤ most_of_hundred)
+LacksForm fields place form.Share = SpellsNone (text_at fields place) (λ n. n ≤ most_share)
+LacksForm fields place form.Order =
+    (text_at fields place ≢ codes "random") × (text_at fields place ≢ codes "oldest")
+LacksForm fields place form.Pace =
+    (text_at fields place ≢ []) × SpellsNone (text_at fields place) (λ n. n ≤ most_turns)
+LacksForm fields place form.Count = SpellsNone (text_at fields place) (λ n. n ≤ most_rounds)
+LacksForm fields place form.Crash =
+    (text_at fields place ≢ codes "cut") × SpellsNone (text_at fields place) (λ n. n ≤ most_share)
+LacksForm fields place form.Seed = SpellsNone (text_at fields place) (λ n. ⊤)
+LacksForm fields place form.Number = SpellsNone (text_at fields place) (λ n. n < 2 ^ 32)
+LacksForm fields place form.Delivered = text_at fields place ≢ []
+
+-- the fault is that of a record of these fields: what stands in the column that it names is not of the form that it
+-- names
+abbrev pub IsFieldFault : List (List ℕ) → RowFault → Type 0
+IsFieldFault fields (Field line field) = LacksForm fields field.place field.takes
+IsFieldFault fields Header = ⊥
+IsFieldFault fields (FieldCount line number) = ⊥
+IsFieldFault fields OutOfMemory = ⊥
+
+-- a text begins with the header and records that say rows, or are the header once more; a record of these fields comes
+-- next
+pub record ComesAfterRows (text : List ℕ) (fields : List (List ℕ)) : Type 0 where
+  pub records : List (List (List ℕ))
+  pub rows : List Row
+  pub state : State
+  pub rest : List ℕ
+  pub are_first :
+      Reached default_config st.StartRecord (strip_bom text) (columns ∷ (records ++ (fields ∷ []))) state rest
+  pub are_said : SayRows (filter is_no_header records) rows
+
+-- why a text is refused: its first record is not the header; or the first record behind it that is neither a row nor
+-- the header once more has this number of fields, and there are not so many columns; or what stands in its column that
+-- the fault names is not of the form that the fault names; or an allocation was refused
+abbrev pub IsRowRefusal : List ℕ → RowFault → Type 0
+IsRowRefusal text Header = first_record text ≢ Some columns
+IsRowRefusal text (FieldCount line number) =
+    (fields : List (List ℕ)) × ComesAfterRows text fields × (length fields ≡ number) × (number ≢ length columns)
+IsRowRefusal text (Field line field) =
+    (fields : List (List ℕ)) × ComesAfterRows text fields × (fields ≢ columns)
+    × LacksForm fields field.place field.takes
+IsRowRefusal text OutOfMemory = ⊤
