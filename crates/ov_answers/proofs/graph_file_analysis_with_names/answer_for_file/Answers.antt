@@ -3,7 +3,7 @@ use Rattle.std.proofs.Common.{option_map, subst, sym}
 use Rattle.ov_graphfile.specs.NameLines.{AreNamesOf}
 use Rattle.ov_answers.specs.Code.Files.{with_file_of}
 use Rattle.ov_answers.proofs.Tellings.{told}
-use Rattle.ov_answers.proofs.analysis_with_names.answer_for_file.Goals as goal
+use Rattle.ov_answers.proofs.graph_file_analysis_with_names.answer_for_file.Goals as goal
 
 pub returns-clause-answer : goal.returns-clause-answer
 returns-clause-answer g c =
