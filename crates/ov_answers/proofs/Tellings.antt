@@ -65,7 +65,8 @@ checked g q c names named lines text answer valid are is =
     let whole = ap (λ (t : List ℕ). t ++ file_text c.cert c.graph c.members 0) is
     ∙ append_assoc (report_line 0 c.cert c.graph c.members) lines (file_text c.cert c.graph c.members 0) in
     let line : with_file_of text (Some c) ≡ report_line 0 c.cert g q ++ (lines ++ file_text c.cert g q 0) =
-    subst (λ r. with_file_of text (Some c) ≡ report_line 0 c.cert g r ++ (lines ++ file_text c.cert g r 0)) answer.members
+    subst (λ r. with_file_of text (Some c) ≡ report_line 0 c.cert g r ++ (lines ++ file_text c.cert g r 0))
+    answer.members
     (subst (λ f. with_file_of text (Some c)
     ≡ report_line 0 c.cert f c.members ++ (lines ++ file_text c.cert f c.members 0)) answer.graph whole)
     in

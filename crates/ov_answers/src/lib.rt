@@ -2,24 +2,24 @@
 //! components that a crash of nodes leaves.
 #![tactic(auto)]
 
-mod analysis_with_names;
 mod answer_making;
 mod answer_writing;
 mod component_list;
 mod component_texts;
 mod components_after_crash;
-mod counts_for_sentences;
 mod flood_fill;
 mod graph_file_analysis;
+mod graph_file_analysis_with_names;
 mod name_lines;
 mod report_or_refusal;
 mod request;
 mod sentences;
 mod survivor_rows;
+mod survivors_and_least_linked_members;
 mod unique_components_theorem;
 
-pub use analysis_with_names::analyse_told;
 pub use graph_file_analysis::{analyse_bytes, analyse_file};
+pub use graph_file_analysis_with_names::analyse_told;
 pub use ov_run_meaning::RunFault;
 pub use report_or_refusal::Answered;
 pub use request::{Request, Told};

@@ -3,8 +3,8 @@ ghost use Rattle.ov_io.specs.Device.{most_faults};
 ghost use Rattle.ov_answers.specs.Analysing.{IsAnalysisOf};
 ghost use Rattle.ov_commands.specs.Statuses.{HasAnalysed, analysis_status};
 
+use crate::analyse_in_names_or_words::analyse_in_words;
 use crate::analysis_progress::PieceProgress;
-use crate::answers_in_names_or_words::analyse_in_words;
 use crate::command_fault::CommandFault;
 use ov_answers::{Answered, analyse_bytes};
 use ov_arguments::AnalysisRequest;

@@ -3,15 +3,15 @@
 #![tactic(auto)]
 
 mod analyse_command;
+mod analyse_in_names_or_words;
 mod analysis_progress;
-mod answers_in_names_or_words;
-mod certificate_entry_listing;
 mod certificate_graph_printing;
 mod command_fault;
 mod conversion_fault;
+mod existing_entries_tip;
 mod file_conversion_commands;
+mod file_instead_of_command_tip;
 mod import_command;
-mod mistaken_command_tip;
 mod picture_printing;
 
 pub use analyse_command::analyse_asked;
@@ -19,6 +19,6 @@ pub use certificate_graph_printing::print_graph;
 pub use command_fault::CommandFault;
 pub use conversion_fault::FileCommandFault;
 pub use file_conversion_commands::{graph_asked, import_asked, picture_asked};
+pub use file_instead_of_command_tip::print_command_tip;
 pub use import_command::print_dump;
-pub use mistaken_command_tip::print_command_tip;
 pub use picture_printing::print_picture;

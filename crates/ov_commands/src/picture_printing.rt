@@ -8,16 +8,16 @@ ghost use Rattle.ov_commands.specs.Pictures.{outcome_number};
 ghost use Rattle.ov_commands.specs.Code.Endings.{IsNotHeld, IsNotNamed};
 ghost use Rattle.ov_commands.specs.declared.conversion_fault.FileCommandFault.TheVariants as ended;
 
-use crate::certificate_entry_listing::entries_of;
 use crate::certificate_graph_printing::{told, written};
 use crate::conversion_fault::FileCommandFault;
+use crate::existing_entries_tip::entries_of;
 use ov_arguments::{AskedEntry, PictureRequest};
 use ov_cert::Cert;
 use ov_certfile::Filed;
 use ov_check::{Outcome, outcome_of};
 use ov_check_reasons::reasons;
 use ov_graph::Graph;
-use ov_graphfile::{GraphFileFault, read_graph, read_names};
+use ov_graphfile::{GraphFileFault, Names, read_named_graph};
 use ov_ids::OutOfMemory;
 use ov_io::Sink;
 use ov_lines::FileKind;
@@ -146,8 +146,8 @@ fn picture_text(
     let text = match names {
         None => text_of(rt.alloc(), drawing, &[], request.dot),
         Some(file) => {
-            same_graph(rt, graph, file, request.names.as_deref())?;
-            named_text(rt.alloc(), graph, drawing, file, request.dot)
+            let names = names_of(rt, graph, file, request.names.as_deref())?;
+            named_text(rt.alloc(), &names, drawing, request.dot)
         }
     };
     match text {
@@ -156,19 +156,20 @@ fn picture_text(
     }
 }
 
-/// Ends if a file with names, of this name, is no graph file, or says another graph. Prints why.
-fn same_graph(
+/// The names that a file with names, of this name, gives the nodes of the graph. Ends if it is no graph file, or says
+/// another graph. Prints why.
+fn names_of<'a>(
     rt: &HostRuntime,
-    graph: &Graph,
-    file: &[u8],
+    graph: &'a Graph,
+    file: &'a [u8],
     path: Option<&str>,
-) -> Result<(), FileCommandFault>
+) -> Result<Names<'a>, FileCommandFault>
     ensures { MatchResult result (λ _. NamesGraph (Some file.now) graph.now) (IsNotNamed (Some file.now) graph.now) }
 {
-    match read_graph(rt.alloc(), file) {
-        Ok(other) => {
+    match read_named_graph(rt.alloc(), file) {
+        Ok((other, told)) => {
             if other.is_same(graph) {
-                return Ok(());
+                return Ok(Names::new(graph, told));
             }
             let why = "the graph file with the names says another graph than the certificate";
             Err(refused(rt, OTHER_GRAPH, why))
@@ -209,19 +210,17 @@ fn line_at_fault(fault: &GraphFileFault) -> Option<usize> {
     }
 }
 
-/// The picture, with the names that this graph file gives the nodes. A name that is no UTF-8 is left out.
+/// The picture, with these names of the nodes. A name that is no UTF-8 is left out.
 fn named_text(
     alloc: Global,
-    graph: &Graph,
+    names: &Names<'_>,
     drawing: &Drawing,
-    file: &[u8],
     is_dot: bool,
 ) -> Result<String, OutOfMemory>
     ensures format { IfOk result (λ text. EndsAsAsked is_dot (string_bytes text)) }
 {
-    let names = read_names(alloc, graph, file)?;
     let mut labels = Vec::new(alloc);
-    for node in graph.nodes() {
+    for node in names.graph().nodes() {
         labels.push(match names.name(*node) {
             Some(name) => str::from_utf8(name).ok(),
             None => None,

@@ -1,5 +1,5 @@
 -- The parts that are lent are those of the checked certificate.
-use Rattle.std.proofs.Common.{◌≡◌, ◌++◌, OnOk, refl, subst}
+use Rattle.std.proofs.Common.{◌≡◌, ◌++◌, refl, subst}
 use Rattle.std.specs.Io.KnownBytes.{Appends}
 use Rattle.serde_json.specs.Data.{Data}
 use Rattle.serde_json.specs.Written.{compact_text}

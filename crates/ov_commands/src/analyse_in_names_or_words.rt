@@ -10,7 +10,7 @@ use crate::analysis_progress::PieceProgress;
 use crate::command_fault::CommandFault;
 use ov_answers::{Answered, Request, Told, analyse_told};
 use ov_arguments::AnalysisRequest;
-use ov_graphfile::{GraphFileFault, GroupFault, ids_of_group, read_graph, read_names};
+use ov_graphfile::{GraphFileFault, GroupFault, Names, ids_of_group, read_named_graph};
 use ov_ids::NodeId;
 use ov_io::{Sink, shown_name};
 use ov_lines::{FileKind, comma_hint};
@@ -96,14 +96,12 @@ fn named_group(
     let Some(text) = &analysis.group_names else {
         return Ok(None);
     };
-    let graph = match read_graph(rt.alloc(), bytes) {
-        Ok(graph) => graph,
+    let (graph, told) = match read_named_graph(rt.alloc(), bytes) {
+        Ok(read) => read,
         Err(GraphFileFault::OutOfMemory) => return Err(without_memory(rt).into()),
         Err(_) => return Ok(None),
     };
-    let Ok(names) = read_names(rt.alloc(), &graph, bytes) else {
-        return Err(without_memory(rt).into());
-    };
+    let names = Names::new(&graph, told);
     match ids_of_group(rt.alloc(), &names, text.as_bytes()) {
         Ok(ids) => Ok(Some(ids)),
         Err(GroupFault::OutOfMemory) => Err(without_memory(rt).into()),

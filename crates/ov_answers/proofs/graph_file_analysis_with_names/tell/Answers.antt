@@ -3,7 +3,7 @@ use Rattle.std.proofs.Common.{◌∙◌, ◌+◌, rules, inr, Some, ap}
 use Rattle.ov_answers.specs.Code.Files.{with_file_of}
 use Rattle.ov_answers.proofs.Tellings.{same_faults}
 use Rattle.ov_answers.proofs.Written.{of_writing}
-use Rattle.ov_answers.proofs.analysis_with_names.tell.Goals as goal
+use Rattle.ov_answers.proofs.graph_file_analysis_with_names.tell.Goals as goal
 
 pub returns : goal.returns
 returns g c =

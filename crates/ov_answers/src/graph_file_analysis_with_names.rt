@@ -5,11 +5,11 @@ ghost use Rattle.ov_answers.specs.Telling.{IsToldOf, IsTelling, answered_of};
 ghost use Rattle.ov_answers.specs.Code.Files.{with_file_of};
 ghost use Rattle.ov_answers.specs.Code.TextFaults.{IsTextFault};
 
-use crate::answer_making::{Answer, answer_for, graph_of};
+use crate::answer_making::{Answer, answer_for};
 use crate::answer_writing::write_answer;
 use crate::request::{Request, Told};
 use ov_even::Watcher;
-use ov_graphfile::read_names;
+use ov_graphfile::{Names, read_named_graph};
 use ov_io::Sink;
 use ov_run_meaning::{RunFault, members_of};
 use std::alloc::Global;
@@ -62,6 +62,7 @@ fn tell<T: Threads + Sync, W: Write, P: Watcher>(
 }
 
 /// What is told of a graph file.
+#[tactic(auto, using(crate::proofs::Refused::of_graph_file))]
 fn answer_for_file<T: Threads + Sync, P: Watcher>(
     rt: &T,
     alloc: Global,
@@ -74,8 +75,11 @@ fn answer_for_file<T: Threads + Sync, P: Watcher>(
         (with_file_of answer.text.items answer.file)) }
     ensures fault { IfErr result (IsTextFault bytes.now) }
 {
-    let graph = graph_of(alloc, bytes)?;
-    let names = read_names(alloc, &graph, bytes)?;
+    let (graph, told) = match read_named_graph(alloc, bytes) {
+        Ok(read) => read,
+        Err(fault) => return Err(RunFault::of_graph_file(&fault)),
+    };
+    let names = Names::new(&graph, told);
     let members = members_of(request.group, &graph);
     Ok(answer_for(rt, alloc, &graph, members, Some(&names), request, watcher)?)
 }

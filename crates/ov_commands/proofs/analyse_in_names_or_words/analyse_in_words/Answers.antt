@@ -1,7 +1,7 @@
 -- What was told is of the group that is asked for.
 use Rattle.std.proofs.Common.{refl, option_map, string_bytes}
 use Rattle.ov_commands.specs.Naming.{IsGroupAsked}
-use Rattle.ov_commands.proofs.answers_in_names_or_words.analyse_in_words.Goals as goal
+use Rattle.ov_commands.proofs.analyse_in_names_or_words.analyse_in_words.Goals as goal
 
 pub returns-in-Ok : goal.returns-in-Ok
 returns-in-Ok g c =

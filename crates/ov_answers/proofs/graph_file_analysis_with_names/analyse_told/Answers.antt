@@ -2,7 +2,7 @@
 use Rattle.std.proofs.Common.{Bool, option_map, subst}
 use Rattle.ov_answers.specs.Telling.{IsToldOf}
 use Rattle.ov_answers.proofs.Tellings.{plain}
-use Rattle.ov_answers.proofs.analysis_with_names.analyse_told.Goals as goal
+use Rattle.ov_answers.proofs.graph_file_analysis_with_names.analyse_told.Goals as goal
 
 pub returns-clause-plain : goal.returns-clause-plain
 returns-clause-plain g c e =
