@@ -171,14 +171,14 @@ plain_file bytes group certificate answered text t = record {
 }
 
 -- what a fault adds to those of the writer, whatever is returned without a fault
-pub same_faults : {A B : Type 0} (f : RunFault) → write_faults {A = A} (Err f) ≡ write_faults {A = B} (Err f)
-same_faults (fault.Line n) = refl
-same_faults (fault.Params n) = refl
-same_faults (fault.Graph g line) = refl
-same_faults fault.Read = refl
-same_faults fault.Write = refl
-same_faults (fault.Refused n refusal) = refl
-same_faults fault.OutOfMemory = refl
+pub same_faults : (A B : Type 0) (f : RunFault) → write_faults {A = A} (Err f) ≡ write_faults {A = B} (Err f)
+same_faults A B (fault.Line n) = refl
+same_faults A B (fault.Params n) = refl
+same_faults A B (fault.Graph g line) = refl
+same_faults A B fault.Read = refl
+same_faults A B fault.Write = refl
+same_faults A B (fault.Refused n refusal) = refl
+same_faults A B fault.OutOfMemory = refl
 
 plain_begun : {W : Type 0} (bytes : List ℕ) (contents : W → Option (List ℕ)) (before after : SinkState W)
     (group : Option (List ℕ)) (certificate : Bool) (result : Result Told RunFault)
@@ -205,7 +205,7 @@ plain bytes contents before after group certificate (Ok told) t = record {
 plain bytes contents before after group certificate (Err f) t = record {
   prints = tt;
   begun = plain_begun bytes contents before after group certificate (Err f) t;
-  sink = t.sink ∙ ap (λ n. before.faults + n) (same_faults f);
+  sink = t.sink ∙ ap (λ n. before.faults + n) (same_faults Told Answered f);
   unwritten = t.unwritten;
   fault = t.fault;
 }

@@ -78,8 +78,10 @@ pub fn analyse_bytes<T: Threads + Sync, W: Write, P: Watcher>(
         explain: false,
     };
     let answer = plain_answer(rt, alloc, bytes, &request, watcher)?;
-    write_answer(rt, alloc, workers, &answer, sink)?;
-    Ok(answer.told.answered)
+    match write_answer(rt, alloc, workers, &answer, sink) {
+        Ok(()) => Ok(answer.told.answered),
+        Err(fault) => Err(fault),
+    }
 }
 
 /// What is printed of a graph file without its names, which are not read.

@@ -52,13 +52,10 @@ fn tell<T: Threads + Sync, W: Write, P: Watcher>(
         request.now.certificate request.now.names sink.new result }
 {
     let answer = answer_for_file(rt, alloc, bytes, request, watcher)?;
-    write_answer(rt, alloc, request.workers, &answer, sink)?;
-    let Answer {
-        told,
-        text: _,
-        file: _,
-    } = answer;
-    Ok(told)
+    match write_answer(rt, alloc, request.workers, &answer, sink) {
+        Ok(()) => Ok(answer.told),
+        Err(fault) => Err(fault),
+    }
 }
 
 /// What is told of a graph file.

@@ -149,9 +149,6 @@ fn blocks_for(alloc: Global, workers: Workers, split: &Split) -> Result<Blocks, 
 {
     let (fans, pairs) = (split.fans.as_slice(), split.pairs.as_slice());
     let room = largest_room(fans).max(largest_room(pairs));
-    if room >= usize::MAX {
-        return Err(OutOfMemory);
-    }
     let entries = fans.len().max(pairs.len());
     let count = block_count(workers, entries, room);
     let size = block_size(entries, count, room);

@@ -39,12 +39,10 @@ impl Blocks {
     ) -> Result<Blocks, OutOfMemory>
         requires some { 0 < count * size }
         requires few { count * size < 2 ^ 64 }
-        ensures { IfOk result (λ b. b.room ≡ room) }
+        ensures room { IfOk result (λ b. b.room ≡ room) }
+        ensures small { IfOk result (λ b. b.room < 2 ^ 63) }
     {
-        let Some(bytes) = size.checked_mul(room) else {
-            return Err(OutOfMemory);
-        };
-        let blocks = blocks_of(alloc, count, bytes)?;
+        let blocks = blocks_of(alloc, count, size.saturating_mul(room))?;
         Ok(Blocks { blocks, size, room })
     }
 }
@@ -53,6 +51,7 @@ impl Blocks {
 fn blocks_of(alloc: Global, count: usize, bytes: usize) -> Result<Vec<Vec<u8>>, OutOfMemory>
     ensures count { IfOk result (λ blocks. length blocks.items ≡ count) }
     ensures room { IfOk result (λ blocks. HaveRoom bytes blocks.items) }
+    ensures small { IfOk result (λ blocks. 0 < count → bytes < 2 ^ 63) }
 {
     let mut blocks = Vec::new(alloc);
     for _ in 0..count {

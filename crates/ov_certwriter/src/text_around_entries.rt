@@ -115,12 +115,7 @@ fn without_entries(alloc: Global, split: &Split) -> Result<Cert, OutOfMemory>
 fn ids_length(alloc: Global, ids: &[NodeId]) -> Result<usize, OutOfMemory>
     ensures { IfOk result (λ n. n ≡ length (compact_text (ids_data ids.now))) }
 {
-    let Some(digits) = ids.len().checked_mul(11) else {
-        return Err(OutOfMemory);
-    };
-    let Some(room) = digits.checked_add(2) else {
-        return Err(OutOfMemory);
-    };
+    let room = ids.len().saturating_mul(11).saturating_add(2);
     let mut text = Vec::with_capacity(alloc, room)?;
     put_ids(&mut text, ids);
     Ok(text.len())

@@ -10,4 +10,4 @@ returns-clause-tells g c =
     let tells = c.in_ok-begun.ensures.tells in
     checked c.args.graph.now c.args.group.now c.in_ok-checked.checked
     (given_names (option_map (λ n. n.now) c.args.names)) c.args.request.now.names tells.0 begun.text.items
-    c.in_ok-checked.ensures.analysed.answer c.checked_report-begun.ensures.valid tells.1 tells.2
+    c.in_ok-checked.ensures.analysed.answer c.checked_report.ensures.valid tells.1 tells.2

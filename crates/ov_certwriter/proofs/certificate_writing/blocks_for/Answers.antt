@@ -9,19 +9,19 @@ use Rattle.ov_certwriter.proofs.certificate_writing.blocks_for.Goals as goal
 pub returns-clause-fans : goal.returns-clause-fans
 returns-clause-fans c =
     let most = c.max-room.ensures in
-    let own = c.largest_room.ensures (omega (arith, most, c.if-room-ge18446744073709551615.false)) in
+    let own = c.largest_room.ensures (omega (arith, most, c.in_ok-new.ensures.small, c.in_ok-new.ensures.room)) in
     let fans = subst (λ (xs : List FanPaths). AreWithin (λ e. e.paths) c.largest_room.result xs) c.as_slice-fans.ensures
     own in
     let all = within_more (λ (e : FanPaths). e.paths) c.largest_room.result c.max-room.result c.args.split.now.fans
     (omega (arith, most)) fans in
-    subst (λ (r : ℕ). AreWithin (λ (e : FanPaths). e.paths) r c.args.split.now.fans) (sym c.in_ok-new.ensures) all
+    subst (λ (r : ℕ). AreWithin (λ (e : FanPaths). e.paths) r c.args.split.now.fans) (sym c.in_ok-new.ensures.room) all
 
 pub returns-clause-pairs : goal.returns-clause-pairs
 returns-clause-pairs c =
     let most = c.max-room.ensures in
-    let own = c.largest_room-2.ensures (omega (arith, most, c.if-room-ge18446744073709551615.false)) in
+    let own = c.largest_room-2.ensures (omega (arith, most, c.in_ok-new.ensures.small, c.in_ok-new.ensures.room)) in
     let pairs = subst (λ (xs : List PairPaths). AreWithin (λ e. e.paths) c.largest_room-2.result xs)
     c.as_slice-pairs.ensures own in
     let all = within_more (λ (e : PairPaths). e.paths) c.largest_room-2.result c.max-room.result c.args.split.now.pairs
     (omega (arith, most)) pairs in
-    subst (λ (r : ℕ). AreWithin (λ (e : PairPaths). e.paths) r c.args.split.now.pairs) (sym c.in_ok-new.ensures) all
+    subst (λ (r : ℕ). AreWithin (λ (e : PairPaths). e.paths) r c.args.split.now.pairs) (sym c.in_ok-new.ensures.room) all
