@@ -39,7 +39,7 @@ impl Written {
 }
 
 /// The file, written by so many workers.
-fn written<R: Threads + Sync>(rt: &R, alloc: Global, count: u32) -> Result<Written, Fail> {
+fn file_by<R: Threads + Sync>(rt: &R, alloc: Global, count: u32) -> Result<Written, Fail> {
     let graph = square(alloc)?;
     let checked = analyse(rt, alloc, &graph, Workers::ONE, &OpenGate)?;
     let workers = Workers::new(count).ok_or("a number of workers")?;
@@ -63,12 +63,12 @@ fn written<R: Threads + Sync>(rt: &R, alloc: Global, count: u32) -> Result<Writt
 #[test]
 fn out_of_memory_writes_nothing(rt: HostRuntime) -> Result<(), Fail> {
     for count in [1, 2] {
-        let first = written(&rt, rt.alloc(), count)?;
+        let first = file_by(&rt, rt.alloc(), count)?;
         if first.is_whole() {
             continue;
         }
         assert!(rt; first.is_refused());
-        assert!(rt; written(&rt, rt.alloc(), count)?.is_whole());
+        assert!(rt; file_by(&rt, rt.alloc(), count)?.is_whole());
         let _ = println!(rt; "seen: write by {count}: refused 99, nothing written, then the file");
     }
     Ok(())
