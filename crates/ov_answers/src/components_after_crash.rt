@@ -6,7 +6,7 @@ use crate::component_list::Components;
 use crate::flood_fill::take_component;
 use crate::survivor_rows::row_of_survivors;
 use ov_graph::Graph;
-use ov_graph::row::{WORDS, first_from, has};
+use ov_graph::bit_rows::{WORDS, first_from, has};
 use ov_ids::{NodeId, OutOfMemory};
 use ov_lists::PathsBuilder;
 use std::alloc::Global;

@@ -5,7 +5,7 @@ ghost use Rattle.ov_graph.specs.Row.{HasBit};
 ghost use Rattle.ov_answers.specs.Code.Rows.{IsWhole, TakesComponent};
 
 use ov_graph::Graph;
-use ov_graph::row::{WORDS, clear, first_from, without};
+use ov_graph::bit_rows::{WORDS, clear, first_from, without};
 
 /// Takes the component of the node at place `start` out of `left`, and returns the row of its nodes. The nodes in
 /// `left` that are not in `unseen` are joined to the start; their links are still to be followed.

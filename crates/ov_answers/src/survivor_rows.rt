@@ -5,7 +5,7 @@ ghost use Rattle.ov_graph.specs.Paths.{node_at};
 ghost use Rattle.ov_graph.specs.Row.{HasBit};
 
 use ov_graph::Graph;
-use ov_graph::row::{EMPTY, WORDS, clear, put};
+use ov_graph::bit_rows::{EMPTY, WORDS, clear, put};
 use ov_ids::NodeId;
 
 /// The row of the nodes that are not in the cut.

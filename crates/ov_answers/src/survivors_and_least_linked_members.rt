@@ -4,7 +4,7 @@ ghost use Rattle.std.specs.Prelude.{◌<◌, length};
 use crate::component_list::Components;
 use crate::component_texts::component_at;
 use ov_graph::Graph;
-use ov_graph::row::WORDS;
+use ov_graph::bit_rows::WORDS;
 use ov_ids::{NodeId, OutOfMemory};
 use std::alloc::Global;
 

@@ -8,17 +8,17 @@ use Rattle.ov_cert.specs.declared.cert.Cert.TheVariants as cert
 use Rattle.ov_cert.specs.declared.cert.Split.{Split}
 use Rattle.ov_cert.specs.declared.fault.CheckFault.{CheckFault}
 use Rattle.ov_cert.specs.declared.fault.CheckFault.TheVariants as fault
-use Rattle.ov_cert.specs.declared.flaws_apart_from_paths.SetFlaw.{SetFlaw}
-use Rattle.ov_cert.specs.declared.flaws_apart_from_paths.SetFlaw.TheVariants.{NotAbove, NoNode}
-use Rattle.ov_cert.specs.declared.flaws_apart_from_paths.EndFlaw.{EndFlaw}
-use Rattle.ov_cert.specs.declared.flaws_apart_from_paths.EndFlaw.TheVariants as end
-use Rattle.ov_cert.specs.declared.flaws_apart_from_paths.SideFlaw.{SideFlaw}
-use Rattle.ov_cert.specs.declared.flaws_apart_from_paths.SideFlaw.TheVariants.{Near, Far, NoSet, InCut, NearOff, FarOn}
-use Rattle.ov_cert.specs.declared.flaws_apart_from_paths.SideFlaw.TheVariants.{WayOut}
-use Rattle.ov_cert.specs.declared.flaws_apart_from_paths.FrameFlaw.{FrameFlaw}
-use Rattle.ov_cert.specs.declared.flaws_apart_from_paths.FrameFlaw.TheVariants.{NoNodes, NoMember, Group, Count}
-use Rattle.ov_cert.specs.declared.flaws_apart_from_paths.FrameFlaw.TheVariants.{NotLinked, Cut}
-use Rattle.ov_cert.specs.declared.flaws_apart_from_paths.FrameFlaw.TheVariants.{Side}
+use Rattle.ov_cert.specs.declared.flaw_types_apart_from_paths.SetFlaw.{SetFlaw}
+use Rattle.ov_cert.specs.declared.flaw_types_apart_from_paths.SetFlaw.TheVariants.{NotAbove, NoNode}
+use Rattle.ov_cert.specs.declared.flaw_types_apart_from_paths.EndFlaw.{EndFlaw}
+use Rattle.ov_cert.specs.declared.flaw_types_apart_from_paths.EndFlaw.TheVariants as end
+use Rattle.ov_cert.specs.declared.flaw_types_apart_from_paths.SideFlaw.{SideFlaw}
+use Rattle.ov_cert.specs.declared.flaw_types_apart_from_paths.SideFlaw.TheVariants.{Near, Far, NoSet, InCut, NearOff, FarOn}
+use Rattle.ov_cert.specs.declared.flaw_types_apart_from_paths.SideFlaw.TheVariants.{WayOut}
+use Rattle.ov_cert.specs.declared.flaw_types_apart_from_paths.FrameFlaw.{FrameFlaw}
+use Rattle.ov_cert.specs.declared.flaw_types_apart_from_paths.FrameFlaw.TheVariants.{NoNodes, NoMember, Group, Count}
+use Rattle.ov_cert.specs.declared.flaw_types_apart_from_paths.FrameFlaw.TheVariants.{NotLinked, Cut}
+use Rattle.ov_cert.specs.declared.flaw_types_apart_from_paths.FrameFlaw.TheVariants.{Side}
 
 -- the fault that is reported of a certificate with this flaw
 abbrev pub flaw_fault : FrameFlaw → CheckFault

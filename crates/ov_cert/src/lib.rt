@@ -6,11 +6,11 @@ mod cert;
 mod checker;
 mod checks_apart_from_paths;
 mod entry_judging;
-mod expected_entries;
 mod expected_entry;
+mod expected_entry_listing_and_judging;
 mod fault;
 mod first_and_later_members;
-mod flaws_apart_from_paths;
+mod flaw_types_apart_from_paths;
 mod graph_with_valid_certificate;
 mod node_set;
 mod own_or_shared_graph;
@@ -24,10 +24,12 @@ pub use all_linked::are_all_linked;
 pub use cert::{Cert, FanPaths, PairPaths, Split};
 pub use checker::{check, check_group};
 pub use checks_apart_from_paths::{check_frame, check_group_frame, frame_flaw};
-pub use expected_entries::{entry_flaw, expected, expected_group, judge_entry, judge_group_entry};
 pub use expected_entry::Expected;
+pub use expected_entry_listing_and_judging::{
+    entry_flaw, expected, expected_group, judge_entry, judge_group_entry,
+};
 pub use fault::CheckFault;
-pub use flaws_apart_from_paths::{EndFlaw, FrameFlaw, SetFlaw, SideFlaw};
+pub use flaw_types_apart_from_paths::{EndFlaw, FrameFlaw, SetFlaw, SideFlaw};
 pub use graph_with_valid_certificate::Checked;
 pub use ov_lists::Paths;
 pub use path_and_entry_flaws::{EntryFlaw, PathFlaw};

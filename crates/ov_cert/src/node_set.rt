@@ -6,9 +6,9 @@ ghost use Rattle.ov_cert.specs.Code.Tests.{entered};
 ghost use Rattle.ov_cert.specs.Code.Flaws.{first_taken};
 ghost use Rattle.ov_cert.specs.Code.FrameFlaws.{order_flaw, set_flaw};
 
-use crate::flaws_apart_from_paths::SetFlaw;
+use crate::flaw_types_apart_from_paths::SetFlaw;
 use ov_graph::Graph;
-use ov_graph::row::{EMPTY, Row, has, put};
+use ov_graph::bit_rows::{EMPTY, Row, has, put};
 use ov_ids::NodeId;
 use std::marker::Model;
 

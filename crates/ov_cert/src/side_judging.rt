@@ -4,7 +4,7 @@ ghost use Rattle.ov_graph.specs.Code.Tests.{neighbours_in};
 ghost use Rattle.ov_cert.specs.Code.FrameFlaws.{end_flaw, in_cut_flaw, way_out_of, way_out, side_flaw};
 
 use crate::cert::Split;
-use crate::flaws_apart_from_paths::{EndFlaw, SideFlaw};
+use crate::flaw_types_apart_from_paths::{EndFlaw, SideFlaw};
 use crate::node_set::{NodeSet, node_set};
 use ov_graph::{Graph, is_member};
 use ov_ids::NodeId;

@@ -10,10 +10,10 @@ ghost use Rattle.ov_certfile.specs.declared.file_keys.Key.TheVariants as key;
 ghost use Rattle.ov_certfile.specs.Code.Writing.{WritesValue, WritesMembers, GroupReadsBack, FileReadsBack};
 
 use crate::file_keys::Key;
-use crate::graph_writing::write_links;
 use crate::json_member_writing::{
     write_count, write_field, write_ids, write_verdict, write_version,
 };
+use crate::link_list_writing::write_links;
 use crate::linked_or_split::Verdict;
 use crate::value_writing::write_mark;
 use crate::version::Version;

@@ -4,7 +4,7 @@ ghost use Rattle.std.specs.Prelude.{◌≡◌, ◌<◌, ◌≤◌, false};
 use ov_even::FoundPaths;
 use ov_fans::shared_bits;
 use ov_graph::Graph;
-use ov_graph::row::{EMPTY, Row, put};
+use ov_graph::bit_rows::{EMPTY, Row, put};
 use ov_ids::{NodeId, Workers};
 
 /// How many paths must be sought before one more thread saves time.

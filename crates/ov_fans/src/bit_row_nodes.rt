@@ -4,7 +4,7 @@ ghost use Rattle.ov_graph.specs.Row.{HasBit, picked, word_bits};
 ghost use Rattle.ov_graph.specs.Code.Kept.{IsRowOf};
 
 use ov_graph::Graph;
-use ov_graph::row::{EMPTY, Row, WORDS, first_from, low_bits};
+use ov_graph::bit_rows::{EMPTY, Row, WORDS, first_from, low_bits};
 use ov_ids::{NodeId, OutOfMemory, Seq};
 use std::alloc::Global;
 

@@ -3,7 +3,7 @@ ghost use Rattle.std.specs.Prelude.{◌<◌, ◌≤◌, ◌*◌};
 ghost use Rattle.ov_graph.specs.Row.{HasBit, word_bits};
 ghost use Rattle.ov_fans.specs.Counts.{IsNumberOf};
 
-use ov_graph::row::WORDS;
+use ov_graph::bit_rows::WORDS;
 
 /// How many bits of the first `words` words are set in both rows.
 pub fn shared_bits(a: &[u64; WORDS], b: &[u64; WORDS], words: usize) -> usize

@@ -7,7 +7,7 @@ ghost use Rattle.ov_flow.specs.Flow.{AreBitsOf};
 ghost use Rattle.ov_fans.specs.Pieces.{member_at};
 
 use ov_graph::Graph;
-use ov_graph::row::{EMPTY, Row, WORDS, put};
+use ov_graph::bit_rows::{EMPTY, Row, WORDS, put};
 use ov_ids::{NodeId, OutOfMemory};
 use std::alloc::Global;
 use std::marker::Model;

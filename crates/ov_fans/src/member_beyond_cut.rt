@@ -10,7 +10,7 @@ use crate::bit_row_nodes::bits_below;
 use crate::group_by_places_in_graph::SettlerGroup;
 use crate::piece::Piece;
 use ov_graph::Graph;
-use ov_graph::row::{WORDS, first_from, without};
+use ov_graph::bit_rows::{WORDS, first_from, without};
 use ov_ids::NodeId;
 
 /// The lowest target of a piece that is not in a cut. The cut has fewer nodes than the level, so there is one.

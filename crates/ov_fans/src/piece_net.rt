@@ -7,7 +7,7 @@ ghost use Rattle.ov_fans.specs.Code.Nets.{net_of, pair_net, fan_net};
 use crate::bit_row_nodes::bits_below;
 use crate::group_by_places_in_graph::SettlerGroup;
 use crate::piece::Piece;
-use ov_graph::row::Row;
+use ov_graph::bit_rows::Row;
 
 /// The net of a piece, by places: its paths lead from the source to the targets, without the avoided node if there is
 /// one.

@@ -16,7 +16,7 @@ use crate::piece_result::{Found, Parting, Settled};
 use crate::short_paths::has_short_paths;
 use ov_flow::{CutRows, Flow};
 use ov_graph::Graph;
-use ov_graph::row::EMPTY;
+use ov_graph::bit_rows::EMPTY;
 use ov_ids::{NodeId, OutOfMemory};
 use ov_split::SplitNet;
 use std::alloc::Global;

@@ -14,7 +14,7 @@ use crate::layers::{Layers, set_layers};
 use crate::path_search::tip;
 use crate::path_table::keep_paths;
 use crate::walk_augmentation::{Hop, take_hops};
-use ov_graph::row::{WORDS, both, clear, first_from, has, put};
+use ov_graph::bit_rows::{WORDS, both, clear, first_from, has, put};
 use ov_split::SplitNet;
 
 /// Takes more walks through the layers of the last search, until `level` paths are held or no walk is left. The last

@@ -7,7 +7,7 @@ ghost use Rattle.ov_flow.specs.Code.Reached.{IsTreeOf};
 ghost use Rattle.ov_flow.specs.Code.Held.{IsReady};
 
 use crate::search_tree::Tree;
-use ov_graph::row::{EMPTY, Row, clear, has, put, without};
+use ov_graph::bit_rows::{EMPTY, Row, clear, has, put, without};
 use ov_split::SplitNet;
 use std::alloc::{AllocError, Global};
 

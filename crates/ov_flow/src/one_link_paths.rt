@@ -3,7 +3,7 @@ ghost use Rattle.std.specs.Prelude.{◌≡◌, ℕ, ◌≤◌, [], length};
 ghost use Rattle.ov_flow.specs.Code.Held.{IsReady, IsWorkOf, IsOneLinkEach};
 
 use crate::augmenting_paths::Work;
-use ov_graph::row::{both, first_from, without};
+use ov_graph::bit_rows::{both, first_from, without};
 use ov_split::SplitNet;
 
 /// Takes paths of one link from the source to targets, at most `level` of them. No path is held before.

@@ -8,7 +8,7 @@ ghost use Rattle.ov_flow.specs.Code.Walked.{table_of, IsTable};
 ghost use Rattle.ov_flow.specs.Code.Held.{IsReady, HasTreeRoom};
 
 use crate::search_tree::{Tree, begin, reach};
-use ov_graph::row::{WORDS, first_from, has, put, without};
+use ov_graph::bit_rows::{WORDS, first_from, has, put, without};
 use ov_split::SplitNet;
 
 /// The open end after a link to `w` is taken.

@@ -4,7 +4,7 @@ ghost use Rattle.ov_flow.specs.Code.Held.{IsReady, IsWorkOf, IsAtEnd};
 ghost use Rattle.ov_flow.specs.Flow.{IsFullBy};
 
 use crate::augmenting_paths::Work;
-use ov_graph::row::{Row, without};
+use ov_graph::bit_rows::{Row, without};
 use ov_split::SplitNet;
 
 /// Why there is no further path: the places of the nearest minimum cut, and of its side, the nodes that are reached

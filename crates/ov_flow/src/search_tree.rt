@@ -7,7 +7,7 @@ ghost use Rattle.ov_split.specs.Places.{net_by_place};
 ghost use Rattle.ov_flow.specs.Code.Reached.{IsStepBy, IsGrown, IsMore, IsClean};
 ghost use Rattle.ov_flow.specs.Code.Held.{IsReady, HasTreeRoom, HasNodeRoom};
 
-use ov_graph::row::{EMPTY, Row, WORDS, has, put};
+use ov_graph::bit_rows::{EMPTY, Row, WORDS, has, put};
 use ov_split::SplitNet;
 use std::alloc::{AllocError, Global};
 

@@ -5,7 +5,7 @@ ghost use Rattle.ov_flow.specs.Code.Walked.{table_of};
 ghost use Rattle.ov_flow.specs.Code.Held.{IsReady, IsWorkOf, IsOneLinkEach, MayGoOver};
 
 use crate::augmenting_paths::Work;
-use ov_graph::row::{both, clear, first_from, without};
+use ov_graph::bit_rows::{both, clear, first_from, without};
 use ov_split::SplitNet;
 
 /// Takes paths of two links from the source to targets, until `level` paths are held or no neighbour of the source is

@@ -4,8 +4,8 @@ ghost use Rattle.ov_graph.specs.Links.{IsGraph, most_nodes};
 ghost use Rattle.ov_graph.specs.Row.{HasBit, word_bits};
 ghost use Rattle.ov_graph.specs.Code.Kept.{row_at, IsMarked};
 
-use crate::places::place_in;
-use crate::row::{EMPTY, Row, WORDS, clear, put};
+use crate::bit_rows::{EMPTY, Row, WORDS, clear, put};
+use crate::node_places_by_id::place_in;
 use ov_ids::NodeId;
 use std::alloc::{AllocError, Global};
 

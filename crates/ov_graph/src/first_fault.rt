@@ -4,7 +4,7 @@ ghost use Rattle.ov_graph.specs.Code.Tests.{fault_of, nodes_fault, links_fault, 
 
 use crate::fault::{GraphFault, LinkFlaw};
 use crate::graph::Graph;
-use crate::places::is_member;
+use crate::node_places_by_id::is_member;
 use ov_ids::NodeId;
 
 /// The first fault of nodes and links.

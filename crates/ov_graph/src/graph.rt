@@ -11,13 +11,13 @@ ghost use Rattle.ov_ids.specs.FaultOrder.{IsRefusedBy};
 ghost use Rattle.ov_ids.specs.Members.{Has};
 
 use crate::adjacency_rows::rows_of;
+use crate::bit_rows::{Row, WORDS, has, words_for};
 use crate::changing::{join, part, put_in, take_out};
 use crate::fault::GraphFault;
 use crate::first_fault::first_fault;
 use crate::id_and_row_equality::{are_equal, have_same_rows};
 use crate::link_iterators::{Links, Neighbours};
-use crate::places::{are_nodes, place_in, place_of};
-use crate::row::{Row, WORDS, has, words_for};
+use crate::node_places_by_id::{are_nodes, place_in, place_of};
 use ov_ids::{NodeId, OutOfMemory, is_ascending};
 use std::alloc::{AllocError, Global};
 use std::marker::Model;

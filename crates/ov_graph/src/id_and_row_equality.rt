@@ -2,7 +2,7 @@ ghost use Rattle.std.specs.Prelude.{◌≡◌, ◌↔◌, ℕ, ◌<◌, ◌≤�
 ghost use Rattle.ov_graph.specs.Row.{HasBit, word_bits};
 ghost use Rattle.ov_graph.specs.Code.Kept.{row_at};
 
-use crate::row::{Row, WORDS, agree};
+use crate::bit_rows::{Row, WORDS, agree};
 use ov_ids::NodeId;
 
 /// Whether two lists of ids are equal.

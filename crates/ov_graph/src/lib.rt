@@ -2,6 +2,7 @@
 #![tactic(auto)]
 
 mod adjacency_rows;
+pub mod bit_rows;
 mod changing;
 mod even_test_and_unique_number;
 mod fault;
@@ -9,12 +10,11 @@ mod first_fault;
 mod graph;
 mod id_and_row_equality;
 mod link_iterators;
-mod places;
-pub mod row;
+mod node_places_by_id;
 mod row_place_shifting;
 
 pub use even_test_and_unique_number::{even_suffices, one_number};
 pub use fault::{GraphFault, LinkFlaw};
 pub use graph::Graph;
 pub use link_iterators::{Links, Neighbours};
-pub use places::is_member;
+pub use node_places_by_id::is_member;

@@ -3,7 +3,7 @@ ghost use Rattle.std.specs.Iterator.{YieldsFirst, item_count};
 ghost use Rattle.ov_graph.specs.Row.{picked};
 ghost use Rattle.ov_graph.specs.Code.Kept.{links_read, IsRowOf, IsKept};
 
-use crate::row::{Row, first_from, words_for};
+use crate::bit_rows::{Row, first_from, words_for};
 use ov_ids::NodeId;
 use std::marker::Model;
 

@@ -4,7 +4,7 @@ ghost use Rattle.std.specs.Int.{bit_at};
 ghost use Rattle.ov_graph.specs.Row.{HasBit, word_bits};
 ghost use Rattle.ov_graph.specs.Code.Shifts.{HasOpened, HasClosed};
 
-use crate::row::{EMPTY, WORDS, low_bits};
+use crate::bit_rows::{EMPTY, WORDS, low_bits};
 
 /// The first `words` words of a row with a bit 0 inserted at place `p`.
 pub(crate) fn opened(row: &[u64; WORDS], p: usize, words: usize) -> [u64; WORDS]

@@ -7,7 +7,7 @@ use Rattle.ov_ids.proofs.Members.{has_place, place_of}
 use Rattle.ov_graph.specs.Links.{LinkGraph, IsGraph}
 use Rattle.ov_graph.specs.Paths.{node_at}
 use Rattle.ov_graph.specs.Row.{HasBit, picked}
-use Rattle.ov_graph.specs.declared.row.TheConstants.{EMPTY}
+use Rattle.ov_graph.specs.declared.bit_rows.TheConstants.{EMPTY}
 use Rattle.ov_graph.proofs.BitRows.Bits.{bit_moved, empty_bit}
 use Rattle.ov_graph.proofs.BitRows.Read.{has_picked, in_picked, ascends_picked, one_place}
 use Rattle.ov_lines.specs.Lines.{words_of, one, short_bits}

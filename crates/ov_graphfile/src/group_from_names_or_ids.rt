@@ -10,7 +10,7 @@ ghost use Rattle.ov_graphfile.specs.Code.Owners.{IsOwner, IsNumeralAt, IsFirstNa
 use crate::group_names_fault::GroupFault;
 use crate::name_table::Names;
 use ov_graph::Graph;
-use ov_graph::row::{EMPTY, WORDS, first_from, has, put};
+use ov_graph::bit_rows::{EMPTY, WORDS, first_from, has, put};
 use ov_ids::{NodeId, OutOfMemory};
 use ov_lines::{ID, Kind, LineCursor};
 use std::alloc::{AllocError, Global};

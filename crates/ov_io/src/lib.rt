@@ -3,12 +3,12 @@
 #![tactic(auto)]
 
 mod counted_reader_and_writer;
-mod counted_source;
 mod fault;
+mod fault_counting_source;
 mod file_name_texts;
 mod sink;
 
-pub use counted_source::Source;
 pub use fault::{ReadFault, WriteFault};
+pub use fault_counting_source::Source;
 pub use file_name_texts::{shown_name, unopened_text, unread_text};
 pub use sink::Sink;

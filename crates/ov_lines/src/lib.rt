@@ -15,7 +15,7 @@ mod text_start;
 mod unexpected_word;
 mod unskipped_lines;
 mod word_cursor;
-mod workers_reading;
+mod worker_count_reading;
 
 pub use comma_hints::comma_hint;
 pub use file_kind_lookup::{is_folder, kind_of_file};
@@ -28,4 +28,4 @@ pub use text_start::behind_mark;
 pub use unexpected_word::{END, ID, Kind, Unread};
 pub use unskipped_lines::{KeptLine, KeptLines};
 pub use word_cursor::{LineCursor, is_word};
-pub use workers_reading::read_workers;
+pub use worker_count_reading::read_workers;

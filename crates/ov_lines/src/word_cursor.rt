@@ -9,7 +9,7 @@ use crate::id_list_reading::read_ids;
 use crate::line_and_word_splitting::{drop_spaces, has_no_word, split_word};
 use crate::numeral::{read_number, read_short_number};
 use crate::unexpected_word::{END, Kind, Unread};
-use crate::workers_reading::read_workers;
+use crate::worker_count_reading::read_workers;
 use ov_ids::{NodeId, OutOfMemory, Workers};
 use std::alloc::Global;
 use std::marker::Model;

@@ -4,7 +4,7 @@
 #![tactic(auto)]
 
 mod block;
-mod block_list;
+mod block_list_with_fast_removal;
 mod block_sequence;
 mod id_range;
 mod item_iter;
@@ -13,7 +13,7 @@ mod path_list;
 mod paths_builder;
 
 pub use block::BLOCK;
-pub use block_list::BlockList;
+pub use block_list_with_fast_removal::BlockList;
 pub use item_iter::Items;
 pub use path_iter::PathIter;
 pub use path_list::Paths;

@@ -2,14 +2,14 @@
 //! crash. A journal has an entry for each event.
 #![tactic(auto)]
 
+mod boxed_live_peer;
 mod deterministic_world_theorems;
 mod event;
 mod event_judging;
 mod event_planning;
 mod fault;
 mod journal_entry_and_changes;
-mod live_graph;
-mod live_peer;
+mod live_graph_updating;
 mod member;
 mod node_planning;
 mod nodes;
@@ -17,11 +17,11 @@ mod packet;
 mod planned_effects;
 mod world;
 
+pub use boxed_live_peer::LivePeer;
 pub use deterministic_world_theorems::{links_stay, one_graph, one_step};
 pub use event::Event;
 pub use fault::NetFault;
 pub use journal_entry_and_changes::{Change, Entry};
-pub use live_peer::LivePeer;
 pub use member::Member;
 pub use packet::Packet;
 pub use world::{MOST_ENTRIES, MOST_PACKETS, MOST_WORLD_NODES, STEP_PACKETS, World};

@@ -4,7 +4,7 @@ ghost use Rattle.ov_peer.specs.PeerState.{PeerState};
 ghost use Rattle.ov_net.specs.Code.Effects.{MemberFollows};
 ghost use Rattle.ov_net.specs.declared.member.Member.TheVariants.{Live};
 
-use crate::live_peer::LivePeer;
+use crate::boxed_live_peer::LivePeer;
 use ov_ids::OutOfMemory;
 use ov_peer::Plan;
 

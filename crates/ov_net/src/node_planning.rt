@@ -8,8 +8,8 @@ ghost use Rattle.ov_net.specs.NetStep.{change_at, DrawnStep};
 ghost use Rattle.ov_net.specs.declared.planned_effects.NodeChange.TheVariants as change;
 ghost use Rattle.ov_net.specs.declared.journal_entry_and_changes.Change.TheVariants.{Born};
 
+use crate::boxed_live_peer::LivePeer;
 use crate::journal_entry_and_changes::{Change, copy_delivery};
-use crate::live_peer::LivePeer;
 use crate::packet::Packet;
 use crate::planned_effects::{Effects, NodeChange};
 use ov_ids::{NodeId, OutOfMemory, Params, Seq};

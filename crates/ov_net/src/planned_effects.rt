@@ -1,8 +1,8 @@
 ghost use Rattle.std.specs.Prelude.{◌≡◌, OnOk, OnErr};
 ghost use Rattle.ov_net.specs.Code.Effects.{CanChange, NodeChanges};
 
+use crate::boxed_live_peer::LivePeer;
 use crate::journal_entry_and_changes::Change;
-use crate::live_peer::LivePeer;
 use crate::member::Member;
 use crate::nodes::Nodes;
 use crate::packet::Packet;

@@ -15,7 +15,7 @@ ghost use Rattle.ov_net.specs.World.{Stands, opening_world};
 use crate::event::Event;
 use crate::fault::NetFault;
 use crate::journal_entry_and_changes::{Entry, Told};
-use crate::live_graph::{add_newborn, change_graph, remove_newborn};
+use crate::live_graph_updating::{add_newborn, change_graph, remove_newborn};
 use crate::member::Member;
 use crate::nodes::Nodes;
 use crate::packet::Packet;

@@ -1,8 +1,8 @@
 //! A node: HyParView's handlers and Plumtree's, joined so that one input is one step.
 #![tactic(auto)]
 
-mod dispatch;
 mod fault;
+mod hyparview_message_dispatch;
 mod input_and_output;
 mod peer;
 mod plan;

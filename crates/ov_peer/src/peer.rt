@@ -19,8 +19,8 @@ ghost use Rattle.ov_peer.specs.declared.input_and_output.Input.TheVariants as in
 ghost use Rattle.ov_peer.specs.declared.input_and_output.Input.TheVariants.{Boot, Receive, CrashReport, Broadcast};
 ghost use Rattle.ov_peer.specs.declared.input_and_output.Input.TheVariants.{Timer};
 
-use crate::dispatch::hear;
 use crate::fault::PeerFault;
+use crate::hyparview_message_dispatch::hear;
 use crate::input_and_output::{Input, Output};
 use crate::plan::{HyParViewChange, NextViews, Plan, follow, views_plan};
 use crate::tree_updates::{joins, tell};

@@ -7,7 +7,7 @@ ghost use Rattle.ov_split.specs.Places.{net_at, net_by_place};
 ghost use Rattle.ov_split.specs.Placed.{IsPlaced};
 
 use ov_graph::Graph;
-use ov_graph::row::{EMPTY, Row, WORDS, put};
+use ov_graph::bit_rows::{EMPTY, Row, WORDS, put};
 use std::marker::Model;
 
 /// A net: a graph in which paths are sought from one node, the source, to the targets, without the avoided nodes.

@@ -5,7 +5,7 @@ use crate::drawn::{SQUARE, graph};
 use crate::wanted::are_numbered;
 use ov_flow::{Augmentation, CutRows, Flow};
 use ov_graph::Graph;
-use ov_graph::row::{EMPTY, Row, WORDS, agree, put};
+use ov_graph::bit_rows::{EMPTY, Row, WORDS, agree, put};
 use ov_ids::{NodeId, OutOfMemory};
 use ov_lists::Paths;
 use ov_split::SplitNet;

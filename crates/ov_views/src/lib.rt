@@ -12,11 +12,11 @@
 #![tactic(auto)]
 
 mod change;
-mod picked_ids;
+mod id_sample_container;
 mod step_effects;
 mod views;
 
 pub use change::{Changes, ViewChange};
-pub use picked_ids::Sample;
+pub use id_sample_container::Sample;
 pub use step_effects::Moves;
 pub use views::{View, Views};

@@ -11,7 +11,7 @@ use Rattle.ov_graph.specs.Links.{LinkGraph, IsGraph}
 use Rattle.ov_graph.specs.Paths.{node_at}
 use Rattle.ov_graph.specs.Row.{HasBit}
 use Rattle.ov_graph.specs.Row.{picked}
-use Rattle.ov_graph.specs.declared.row.TheConstants.{EMPTY}
+use Rattle.ov_graph.specs.declared.bit_rows.TheConstants.{EMPTY}
 use Rattle.ov_graph.proofs.BitRows.Bits.{bit_moved, empty_bit}
 use Rattle.ov_graph.proofs.BitRows.Read.{picked_at, has_picked, ascends_picked, none_picked}
 use Rattle.ov_cert.specs.Code.Kept.{NodeSetState}

@@ -13,8 +13,8 @@ use Rattle.ov_ids.specs.Ascending.{is_over, ascends_after}
 use Rattle.ov_ids.proofs.Members.{has_tested, has_append_right, has_append_cases, all_member}
 use Rattle.ov_graph.specs.Links.{LinkGraph}
 use Rattle.ov_graph.specs.Joined.{IsNodeSet}
-use Rattle.ov_cert.specs.declared.flaws_apart_from_paths.SetFlaw.{SetFlaw}
-use Rattle.ov_cert.specs.declared.flaws_apart_from_paths.SetFlaw.TheVariants.{NotAbove, NoNode}
+use Rattle.ov_cert.specs.declared.flaw_types_apart_from_paths.SetFlaw.{SetFlaw}
+use Rattle.ov_cert.specs.declared.flaw_types_apart_from_paths.SetFlaw.TheVariants.{NotAbove, NoNode}
 use Rattle.ov_cert.specs.FrameFlaws.{IsFirstOut, HasSetFlaw}
 use Rattle.ov_cert.specs.Code.Kept.{NodeSetState}
 use Rattle.ov_cert.specs.Code.Tests.{is_node_set, first}

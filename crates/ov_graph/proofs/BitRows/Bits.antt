@@ -10,7 +10,7 @@ use Rattle.std.proofs.lemmas.Nat.Bits.{bit_at_above, same_from_bits_below}
 use Rattle.std.proofs.Math.ListN.{get_or-eq_default}
 use Rattle.std.proofs.Math.Nat.{div-div-eq-div-mul}
 use Rattle.std.specs.Int.{bit_at, trailing_zeros, bit_not}
-use Rattle.ov_graph.specs.declared.row.TheConstants.{EMPTY, WORDS}
+use Rattle.ov_graph.specs.declared.bit_rows.TheConstants.{EMPTY, WORDS}
 use Rattle.ov_graph.specs.Links.{most_nodes}
 use Rattle.ov_graph.specs.Row.{has_bit, HasBit, IsFirstFrom, AreWordsFor}
 use Rattle.ov_graph.specs.Code.Shifts.{IsLowest}

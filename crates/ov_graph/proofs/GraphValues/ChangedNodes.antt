@@ -14,7 +14,7 @@ use Rattle.ov_graph.specs.Links.{LinkGraph, IsGraph, Precedes, most_nodes}
 use Rattle.ov_graph.specs.Changes.{GainsNode, LosesNode}
 use Rattle.ov_graph.specs.Row.{HasBit}
 use Rattle.ov_graph.specs.Code.Shifts.{HasOpened, HasClosed}
-use Rattle.ov_graph.specs.declared.row.TheConstants.{EMPTY}
+use Rattle.ov_graph.specs.declared.bit_rows.TheConstants.{EMPTY}
 use Rattle.ov_graph.specs.Code.Kept.{row_at, links_read, graph_kept, IsKept}
 use Rattle.ov_graph.proofs.BitRows.Bits.{bit_moved, empty_bit}
 use Rattle.ov_graph.proofs.BitRows.Halving.{place_counted}

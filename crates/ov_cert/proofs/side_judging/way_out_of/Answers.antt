@@ -2,8 +2,8 @@
 use Rattle.std.proofs.Common.{◌≡◌, ◌∙◌, Bool, false, ◌||◌, cond, Option, Some, refl, sym, ap}
 use Rattle.ov_ids.specs.Sets.{has}
 use Rattle.ov_graph.proofs.EvenTest.Filtered.{neighbours_one}
-use Rattle.ov_cert.specs.declared.flaws_apart_from_paths.SideFlaw.{SideFlaw}
-use Rattle.ov_cert.specs.declared.flaws_apart_from_paths.SideFlaw.TheVariants.{WayOut}
+use Rattle.ov_cert.specs.declared.flaw_types_apart_from_paths.SideFlaw.{SideFlaw}
+use Rattle.ov_cert.specs.declared.flaw_types_apart_from_paths.SideFlaw.TheVariants.{WayOut}
 use Rattle.ov_cert.specs.Code.FrameFlaws.{way_out_of}
 use Rattle.ov_cert.proofs.side_judging.way_out_of.Goals as goal
 

@@ -1,6 +1,6 @@
 -- The source is the first node that is reached.
 use Rattle.std.proofs.Common.{◌∙◌, ℕ, List, [], ◌∷◌, ◌++◌, Option, None, ap}
-use Rattle.ov_graph.specs.declared.row.TheConstants.{EMPTY}
+use Rattle.ov_graph.specs.declared.bit_rows.TheConstants.{EMPTY}
 use Rattle.ov_graph.proofs.BitRows.Bits.{empty_bit}
 use Rattle.ov_split.specs.Places.{net_by_place}
 use Rattle.ov_flow.proofs.Reaching.{grown_first}

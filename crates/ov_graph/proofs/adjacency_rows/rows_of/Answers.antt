@@ -2,7 +2,7 @@
 use Rattle.std.proofs.Common.{◌∙◌, ℕ, [], List, sym, subst, length}
 use Rattle.std.proofs.lemmas.List.{length-replicate}
 use Rattle.std.specs.List.{each_same}
-use Rattle.ov_graph.specs.declared.row.TheConstants.{EMPTY}
+use Rattle.ov_graph.specs.declared.bit_rows.TheConstants.{EMPTY}
 use Rattle.ov_graph.specs.Code.Kept.{IsMarked}
 use Rattle.ov_graph.proofs.BitRows.Bits.{empty_bit}
 use Rattle.ov_graph.proofs.BitRows.Marked.{none_marked, empty_rows}

@@ -5,7 +5,7 @@ use Rattle.std.specs.Vec.{with_items}
 use Rattle.std.proofs.lemmas.List.{with_items_is}
 use Rattle.ov_ids.specs.Sets.{count_below}
 use Rattle.ov_ids.proofs.Sets.{count_below-le-length}
-use Rattle.ov_graph.specs.declared.row.TheConstants.{EMPTY}
+use Rattle.ov_graph.specs.declared.bit_rows.TheConstants.{EMPTY}
 use Rattle.ov_graph.specs.Row.{HasBit}
 use Rattle.ov_graph.specs.Code.Shifts.{HasOpened}
 use Rattle.ov_graph.specs.Changes.{GainsNode}

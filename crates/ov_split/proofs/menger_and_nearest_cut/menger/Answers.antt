@@ -1,5 +1,0 @@
-use Rattle.ov_split.proofs.FanTheorem.FanForm.{menger}
-use Rattle.ov_split.proofs.menger_and_nearest_cut.menger.Goals as goal
-
-pub returns : goal.returns
-returns c = menger
