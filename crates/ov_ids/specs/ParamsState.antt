@@ -1,9 +1,12 @@
 -- The parameters of a node, and their limits.
 use Rattle.std.specs.Prelude.{ℕ, ◌≤◌}
+use Rattle.ov_ids.specs.declared.refill_rule.Refill.{Refill}
+use Rattle.ov_ids.specs.declared.refill_rule.Refill.TheVariants.{Never}
 
 -- The parameters of HyParView (Leitão, Pereira, Rodrigues, DSN 2007): the sizes of the active and the passive view, the
 -- lengths of the active and the passive random walk (ARWL, PRWL), how many active and how many passive members a
--- shuffle samples, and the time to live of a shuffle.
+-- shuffle samples, and the time to live of a shuffle. The last one, an extension of ours, is the rule by which a node that
+-- is told DISCONNECT looks for another active member.
 pub record ParamsState : Type 0 where
   pub active : ℕ
   pub passive : ℕ
@@ -12,8 +15,9 @@ pub record ParamsState : Type 0 where
   pub ka : ℕ
   pub kp : ℕ
   pub shuffle_ttl : ℕ
+  pub refill : Refill
 
--- the parameters, in the order of the arguments of `Params::new`
+-- HyParView's seven parameters, in the order of the arguments of `Params::new`, with the profile's rule at DISCONNECT
 abbrev pub params_of : ℕ → ℕ → ℕ → ℕ → ℕ → ℕ → ℕ → ParamsState
 params_of active passive arwl prwl ka kp shuffle_ttl = record {
   active = active;
@@ -23,6 +27,7 @@ params_of active passive arwl prwl ka kp shuffle_ttl = record {
   ka = ka;
   kp = kp;
   shuffle_ttl = shuffle_ttl;
+  refill = Never;
 }
 
 -- the most active members of a node: chosen here

@@ -11,6 +11,7 @@ mod ids_text;
 mod out_of_memory;
 mod params;
 mod plain_list;
+mod refill_rule;
 mod worker_count;
 
 pub use ascending_order::is_ascending;
@@ -21,4 +22,5 @@ pub use ids_text::IdsText;
 pub use out_of_memory::OutOfMemory;
 pub use params::{BadParams, LONGEST_WALK, MOST_ACTIVE, MOST_PASSIVE, MOST_SAMPLED, Params};
 pub use plain_list::Seq;
+pub use refill_rule::Refill;
 pub use worker_count::Workers;

@@ -1,6 +1,7 @@
 ghost use Rattle.std.specs.Prelude.{◌≡◌, ◌≤◌, IfOk, IsOk, ◌↔◌};
-ghost use Rattle.ov_ids.specs.ParamsState.{AreWithinLimits, params_of};
+ghost use Rattle.ov_ids.specs.ParamsState.{ParamsState, AreWithinLimits, params_of};
 
+use crate::Refill;
 use std::marker::Model;
 use thiserror::Error;
 
@@ -30,7 +31,8 @@ impl BadParams {
     }
 }
 
-/// The parameters of a node in HyParView, each within its limits. Contracts see them as `ParamsState`.
+/// The parameters of a node in HyParView, each within its limits, and the rule by which a node that is told DISCONNECT
+/// looks for another active member. Contracts see them as `ParamsState`.
 #[derive(Clone, Copy, Debug, PartialEq, Eq)]
 pub struct Params {
     active: u32,
@@ -40,6 +42,7 @@ pub struct Params {
     ka: u32,
     kp: u32,
     shuffle_ttl: u32,
+    refill: Refill,
 }
 
 impl Model for Params {
@@ -48,9 +51,11 @@ impl Model for Params {
 
     ghost Value = { ParamsState };
 
-    ghost view = { λ a. params_of a.active a.passive a.arwl a.prwl a.ka a.kp a.shuffle_ttl };
+    ghost view = { λ a. record (params_of a.active a.passive a.arwl a.prwl a.ka a.kp a.shuffle_ttl)
+        { refill = a.refill } };
 
-    ghost invariant = { λ a. AreWithinLimits (params_of a.active a.passive a.arwl a.prwl a.ka a.kp a.shuffle_ttl) };
+    ghost invariant = { λ a. AreWithinLimits (record (params_of a.active a.passive a.arwl a.prwl a.ka a.kp a.shuffle_ttl)
+        { refill = a.refill }) };
 
     ghost inverse = { λ p. record {
       active = p.active;
@@ -60,11 +65,12 @@ impl Model for Params {
       ka = p.ka;
       kp = p.kp;
       shuffle_ttl = p.shuffle_ttl;
+      refill = p.refill;
     } };
 }
 
 impl Params {
-    /// The parameters. BadParams (21) if one is out of its limits.
+    /// The parameters, with the profile's rule at DISCONNECT. BadParams (21) if one is out of its limits.
     pub fn new(
         active: u32,
         passive: u32,
@@ -98,7 +104,22 @@ impl Params {
             ka,
             kp,
             shuffle_ttl,
+            refill: Refill::Never,
         })
+    }
+
+    /// The same parameters with this rule at DISCONNECT.
+    pub fn with_refill(self, refill: Refill) -> Params
+        ensures { result ≡ record self { refill = refill } }
+    {
+        Params { refill, ..self }
+    }
+
+    /// When a node that is told DISCONNECT by an active member looks for another one.
+    pub fn refill(&self) -> Refill
+        ensures { result ≡ self.now.refill }
+    {
+        self.refill
     }
 
     /// How many members the active view may have: 1 to 16.

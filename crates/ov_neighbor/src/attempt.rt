@@ -2,13 +2,14 @@ ghost use Rattle.std.specs.Prelude.{◌≡◌, ◌≤◌, ◌<◌, ◌+◌, [], 
 ghost use Rattle.ov_ids.specs.Sets.{IsSet, IsIn, adding};
 ghost use Rattle.ov_views.specs.Allowed.{hears, hears_of_crash};
 ghost use Rattle.ov_views.specs.Handling.{AttemptStep, step_words};
-ghost use Rattle.ov_views.specs.NeighborRows.{GoesOnAsking, IsAttempt};
+ghost use Rattle.ov_views.specs.NeighborRows.{GoesOnAsking, IsAttempt, ProfileDisconnect, starts_attempt};
 ghost use Rattle.ov_views.specs.Room.{HasRoom};
 ghost use Rattle.ov_wire.specs.Messages.{AreSendsInRange};
-ghost use Rattle.ov_wire.specs.declared.message.Body.TheVariants.{NeighborReply};
+ghost use Rattle.ov_ids.specs.declared.refill_rule.Refill.TheVariants.{Never};
+ghost use Rattle.ov_wire.specs.declared.message.Body.TheVariants.{NeighborReply, Disconnect};
 ghost use Rattle.ov_words.specs.Pick.{Drawn};
 
-use ov_ids::{NodeId, OutOfMemory, place_for};
+use ov_ids::{NodeId, OutOfMemory, Refill, place_for};
 use ov_views::{Moves, View, Views};
 use ov_wire::{Body, Message};
 use ov_words::Draws;
@@ -223,6 +224,56 @@ pub fn on_crash_report(
         return Ok(moves);
     }
     if attempt.awaits(crashed) {
+        attempt.asked = go_on(&mut attempt.tried, views, draws, &mut moves);
+    }
+    Ok(moves)
+}
+
+/// Whether the loss of an active member by DISCONNECT starts an attempt. `views` are those without that member.
+fn starts_attempt(views: &Views) -> bool
+    ensures { result ≡ starts_attempt views.now.params.refill views.now }
+{
+    match views.params().refill() {
+        Refill::Never => false,
+        Refill::Alone => views.active().is_empty(),
+        Refill::Always => true,
+    }
+}
+
+/// The effects of DISCONNECT from a node. If the node is active, it goes down and then becomes passive. Where the rule
+/// of the parameters says so, a new attempt then begins with nobody tried, in place of one that waits; by the profile's
+/// rule none does, and nothing is sent. At most two random words are used. OutOfMemory (99) if an allocation is refused,
+/// and then nothing has changed. (HyParView: Leitão, Pereira, Rodrigues, DSN 2007, Algorithm 1; the rules are chosen
+/// here.)
+pub fn on_disconnect(
+    alloc: Global,
+    views: &mut Views,
+    attempt: &mut Attempt,
+    draws: &mut Draws<'_>,
+    from: NodeId,
+) -> Result<Moves, OutOfMemory>
+    requires { step_words ≤ length draws.old }
+    ensures allowed { IfOk result (AttemptStep views.old attempt.old draws.old (hears from Disconnect)
+        views.new attempt.new draws.new) }
+    ensures profile { views.old.params.refill ≡ Never → IfOk result (λ m. (attempt.new ≡ attempt.old)
+        × Drawn draws.old draws.new (λ choices.
+        ProfileDisconnect views.old from choices views.new m.changes.items m.sends.items)) }
+    ensures words { length draws.old ≤ length draws.new + 2 }
+    ensures few { IfOk result (λ m. vec_len m.sends ≤ 1) }
+    ensures ranges { IfOk result (λ m. AreSendsInRange m.sends.items) }
+    ensures err { OnErr result ((views.new ≡ views.old) × (attempt.new ≡ attempt.old) × (draws.new ≡ draws.old)) }
+{
+    attempt.tried.reserve(1)?;
+    let mut moves = Moves::with_room(alloc, 1)?;
+    if from == views.me() || !views.is_active(from) {
+        return Ok(moves);
+    }
+    let changes = views.remove_active(from);
+    moves.tell_changes(changes);
+    let starts = starts_attempt(views);
+    views.add_passive(from, draws);
+    if starts {
+        attempt.tried.clear();
         attempt.asked = go_on(&mut attempt.tried, views, draws, &mut moves);
     }
     Ok(moves)

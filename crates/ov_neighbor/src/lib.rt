@@ -11,7 +11,7 @@
 #![tactic(auto)]
 
 mod attempt;
-mod neighbor_and_disconnect;
+mod neighbor_answering;
 
-pub use attempt::{Attempt, on_crash_report, on_reply};
-pub use neighbor_and_disconnect::{on_disconnect, on_neighbor};
+pub use attempt::{Attempt, on_crash_report, on_disconnect, on_reply};
+pub use neighbor_answering::on_neighbor;

@@ -42,7 +42,7 @@ pub(crate) fn hear(
         Body::NeighborReply { accepted } => {
             ov_neighbor::on_reply(alloc, views, attempt, draws, from, *accepted)
         }
-        Body::Disconnect => ov_neighbor::on_disconnect(alloc, views, draws, from),
+        Body::Disconnect => ov_neighbor::on_disconnect(alloc, views, attempt, draws, from),
         Body::Shuffle { origin, ttl, ids } => {
             ov_shuffle::on_shuffle(alloc, views, draws, from, *origin, *ttl, ids.as_slice())
         }

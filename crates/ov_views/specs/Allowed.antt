@@ -59,7 +59,7 @@ Allowed n (hears s (Neighbor high)) choices m changes sends =
 Allowed n (hears s (NeighborReply accepted)) choices m changes sends =
     (m.sent ≡ n.sent) × AllowedReply n.views n.attempt s accepted choices m.views m.attempt changes sends
 Allowed n (hears s Disconnect) choices m changes sends =
-    OnlyViews n m × AllowedDisconnect n.views s choices m.views changes sends
+    (m.sent ≡ n.sent) × AllowedDisconnect n.views n.attempt s choices m.views m.attempt changes sends
 Allowed n (hears_of_crash p) choices m changes sends =
     (m.sent ≡ n.sent) × AllowedCrashReport n.views n.attempt p choices m.views m.attempt changes sends
 Allowed n shuffles choices m changes sends =

@@ -1,10 +1,13 @@
 -- The rows of a node's behaviour at NEIGHBOR, NEIGHBORREPLY, DISCONNECT and a crash report. v are the views before
 -- the step and w those after; a is the attempt before it and b the one after. NEIGHBOR with its priorities and
 -- DISCONNECT are HyParView's (Leitão, Pereira, Rodrigues, DSN 2007). How an attempt goes on, what a reply does that
--- nobody waits for, and that a message from the node itself does nothing, are chosen here.
+-- nobody waits for, that a message from the node itself does nothing, and the rules by which DISCONNECT starts an
+-- attempt, are chosen here.
 use Rattle.std.specs.Prelude.{◌≡◌, ℕ, Bool, true, false, not, ◌||◌, ◌&&◌, ◌==◌, List, [], ◌∷◌, ◌++◌, length}
 use Rattle.std.specs.Prelude.{Option, Some, None, MatchBool, if◌then◌else◌}
 use Rattle.ov_ids.specs.Sets.{IsSet, IsIn, has, adding, without_all}
+use Rattle.ov_ids.specs.declared.refill_rule.Refill.{Refill}
+use Rattle.ov_ids.specs.declared.refill_rule.Refill.TheVariants.{Never, Alone, Always}
 use Rattle.ov_wire.specs.declared.Message.{Message}
 use Rattle.ov_wire.specs.declared.Body.TheVariants.{Neighbor, NeighborReply, Disconnect}
 use Rattle.ov_words.specs.Pick.{Choice}
@@ -86,12 +89,30 @@ AllowedReply v a s accepted choices w b changes sends =
     (Keeps v choices w × (b ≡ a) × (changes ≡ [])
     × (sends ≡ (if accepted && not (has v.active s) then (s, say v.me Disconnect) ∷ [] else []))))
 
--- DISCONNECT from s: if s is active, it goes down and then becomes passive. No attempt starts
-abbrev pub AllowedDisconnect :
+-- DISCONNECT from s by the profile's rule: if s is active, it goes down and then becomes passive. No attempt starts
+abbrev pub ProfileDisconnect :
     ViewsState → ℕ → List Choice → ViewsState → List ViewChange → List (ℕ × Message) → Type 0
-AllowedDisconnect v s choices w changes sends =
+ProfileDisconnect v s choices w changes sends =
     MatchBool ((s == v.me) || not (has v.active s)) (Idles v choices w changes sends)
     ((u : ViewsState) × RemovesActive v s u changes × AddsPassive u s choices w × (sends ≡ []))
+
+-- whether the loss of an active member by DISCONNECT starts an attempt. u are the views without that member
+abbrev pub starts_attempt : Refill → ViewsState → Bool
+starts_attempt Never u = false
+starts_attempt Alone u = length u.active == 0
+starts_attempt Always u = true
+
+-- DISCONNECT from s: if s is active, it goes down and then becomes passive. Where the rule says so, a new attempt then
+-- begins with nobody tried, in place of one that waits, as it does at a crash report
+abbrev pub AllowedDisconnect : ViewsState → AttemptState → ℕ → List Choice → ViewsState → AttemptState →
+    List ViewChange → List (ℕ × Message) → Type 0
+AllowedDisconnect v a s choices w b changes sends =
+    MatchBool ((s == v.me) || not (has v.active s)) (Idles v choices w changes sends × (b ≡ a))
+    ((u : ViewsState) × RemovesActive v s u changes
+    × MatchBool (starts_attempt v.params.refill u)
+    ((first : List Choice) × (next : List Choice) × (choices ≡ first ++ next)
+    × AddsPassive u s first w × GoesOnAsking w [] next b sends)
+    (AddsPassive u s choices w × (b ≡ a) × (sends ≡ [])))
 
 -- A crash report of p: p leaves the view that has it. If it was active, a new attempt begins with nobody tried, in
 -- place of one that waits. Otherwise, if the attempt waits for p, it goes on

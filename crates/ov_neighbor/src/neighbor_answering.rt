@@ -2,7 +2,7 @@ ghost use Rattle.std.specs.Prelude.{◌≡◌, ◌≤◌, ◌+◌, length, vec_l
 ghost use Rattle.ov_views.specs.Allowed.{hears};
 ghost use Rattle.ov_views.specs.Handling.{ViewsStep, step_words};
 ghost use Rattle.ov_views.specs.Sending.{say};
-ghost use Rattle.ov_wire.specs.declared.message.Body.TheVariants.{Neighbor, NeighborReply, Disconnect};
+ghost use Rattle.ov_wire.specs.declared.message.Body.TheVariants.{Neighbor, NeighborReply};
 ghost use Rattle.ov_wire.specs.Messages.{AreSendsInRange};
 
 use ov_ids::{NodeId, OutOfMemory};
@@ -53,30 +53,4 @@ fn reply(me: NodeId, accepted: bool) -> Message
         from: me,
         body: Body::NeighborReply { accepted },
     }
-}
-
-/// The effects of DISCONNECT from a node. If the node is active, it goes down and then becomes passive. No attempt
-/// starts, and nothing is sent. At most one random word is used. OutOfMemory (99) if an allocation is refused, and then
-/// nothing has changed. (HyParView: Leitão, Pereira, Rodrigues, DSN 2007, Algorithm 1; that no attempt starts is chosen
-/// here.)
-pub fn on_disconnect(
-    alloc: Global,
-    views: &mut Views,
-    draws: &mut Draws<'_>,
-    from: NodeId,
-) -> Result<Moves, OutOfMemory>
-    requires { step_words ≤ length draws.old }
-    ensures allowed { IfOk result (ViewsStep views.old draws.old (hears from Disconnect) views.new draws.new) }
-    ensures words { length draws.old ≤ length draws.new + 1 }
-    ensures none { IfOk result (λ m. vec_len m.sends ≡ 0) }
-    ensures err { OnErr result ((views.new ≡ views.old) × (draws.new ≡ draws.old)) }
-{
-    let mut moves = Moves::with_room(alloc, 0)?;
-    if from == views.me() || !views.is_active(from) {
-        return Ok(moves);
-    }
-    let changes = views.remove_active(from);
-    moves.tell_changes(changes);
-    views.add_passive(from, draws);
-    Ok(moves)
 }
