@@ -297,6 +297,7 @@ pub fn on_disconnect(
     views.add_passive(from, draws);
     if starts {
         attempt.asked = begin_anew(&mut attempt.tried, views, draws, &mut moves);
+        return Ok(moves);
     }
     Ok(moves)
 }
