@@ -17,7 +17,7 @@ use Rattle.ov_views.specs.Changes.{after_changes}
 use Rattle.ov_views.specs.Sampling.{TakesIn, Integrates}
 use Rattle.ov_views.specs.Sending.{Idles}
 use Rattle.ov_views.specs.JoinRows.{Remembers, walk_ends}
-use Rattle.ov_views.specs.NeighborRows.{awaits}
+use Rattle.ov_views.specs.NeighborRows.{awaits, starts_attempt}
 use Rattle.ov_views.specs.ShuffleRows.{walks_on}
 use Rattle.ov_views.specs.Allowed.{HyParViewState, HyParViewInput, boots, hears, hears_of_crash, shuffles, Allowed}
 use Rattle.ov_views.specs.declared.change.ViewChange.{ViewChange}
