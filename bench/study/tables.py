@@ -3,7 +3,8 @@
 from collections import Counter
 
 from mean_field import WALK, shares_of
-from sweeps import LARGE, SWEEPS, grouped, mean, numbers, quantile, rows, split, wilson
+from options import CHOICES
+from sweeps import LARGE, RULES, SWEEPS, grouped, mean, numbers, quantile, rows, split, wilson
 
 
 def percent(hits, count):
@@ -98,74 +99,105 @@ def splits():
     ]
 
 
-def changes():
-    """What other rules would do."""
+def rules():
+    """How often an overlay is split by each rule at DISCONNECT."""
+    found = grouped("rules", "refill", "active", "nodes")
     lines = []
-    for name, said in (
-        ("whole", "as it is"),
-        ("when-alone", "when alone"),
-        ("at-disconnect", "at each DISCONNECT"),
-        ("at-once", "as it is, reports at once"),
-    ):
-        for size in ("5", "8"):
-            some = [grouped(name, "nodes", "active")[nodes, size] for nodes in ("50", "100", "200")]
-            lines.append(
-                [
-                    said,
-                    size,
-                    *(plain(split(it, "settle") / len(it)) for it in some),
-                    median(some[-1], "settle"),
-                    f"{mean(some[-1], 'settle_entries'):,.0f}",
-                    plain(split(some[-1], "heal") / len(some[-1])),
-                    median(some[-1], "heal"),
-                ]
-            )
-    return table(
-        [
-            "rule",
-            "active size",
-            "50 nodes, % split",
-            "100 nodes",
-            "200 nodes",
-            "median k of 200",
-            "events of 200 until settled",
-            "% split after healing",
-            "median k then",
-        ],
-        lines,
-    )
+    for rule, size in dict.fromkeys(key[:2] for key in found):
+        some, large = [found[rule, size, nodes] for nodes in ("50", "100", "200")], found[rule, size, "250"]
+        lines.append(
+            [
+                rule,
+                size,
+                *(plain(split(it, "settle") / len(it)) for it in some),
+                percent(split(large, "settle"), len(large)),
+                quartiles(large, "settle"),
+                f"{mean(large, 'settle_entries'):,.0f}",
+                plain(split(large, "heal") / len(large)),
+                quartiles(large, "heal"),
+            ]
+        )
+    head = ["rule", "active size", "50 nodes, % split", "100 nodes", "200 nodes", "250 nodes", "k of 250, quartiles"]
+    return table([*head, "events of 250 until settled", "% split after healing", "k then"], lines)
 
 
-def changes_large():
-    """What other rules would do past 256 nodes."""
+def at_once():
+    """What reports do that come all at once."""
+    found, usual = grouped("at-once", "active", "nodes"), grouped("rules", "active", "nodes", "refill")
+    lines = [
+        [
+            size,
+            nodes,
+            *(
+                part
+                for some in (usual[size, nodes, "never"], found[size, nodes])
+                for part in (plain(split(some, "heal") / len(some)), median(some, "heal"))
+            ),
+        ]
+        for size, nodes in found
+    ]
+    head = ["active size", "nodes", "one by one: % split after healing", "median k", "at once: % split after healing"]
+    return table([*head, "median k"], lines)
+
+
+REFILLS = CHOICES["refill"]
+# What befalls overlays of 200 nodes: the sweep, which of its rows, and how it is said.
+HAZARDS = (
+    ("rules-crash", {"crash": "0"}, "nothing"),
+    ("rules-crash", {"crash": "20"}, "20 of 100 crash"),
+    ("rules-crash", {"crash": "50"}, "50 of 100 crash"),
+    ("rules-crash", {"crash": "cut"}, "the cut crashes"),
+    ("rules-passive", {}, "passive size 1, 20 of 100 crash"),
+    ("rules-loss", {}, "5 of 100 packets lost after all have joined, 20 of 100 crash"),
+    ("rules-loss-join", {}, "1 of 100 packets lost while nodes join, 20 of 100 crash"),
+    ("rules-pace", {}, "all are born at once, 20 of 100 crash"),
+)
+
+
+def hazards():
+    """What crashes, loss and so on do by each rule at DISCONNECT."""
     lines = []
-    for name, said in (
-        ("large-when-alone", "when alone"),
-        ("large-at-disconnect", "at each DISCONNECT"),
-    ):
-        for (size, nodes), some in grouped(name, "active", "nodes").items():
-            parts = sum(numbers(some, "components")) - len(some)
+    for name, options, said in HAZARDS:
+        found = grouped(name, "refill", *options)
+        by_rule = [found[rule, *options.values()] for rule in REFILLS]
+        cells = [(percent(split(some, "heal"), len(some)), median(some, "heal")) for some in by_rule]
+        lines.append([said, *(cell for pair in cells for cell in pair)])
+    return table(["what befalls them", *(word for rule in REFILLS for word in (f"`{rule}`: % split", "median k"))], lines)
+
+
+def large_of(rule):
+    """The rows of large overlays by a rule, by nodes and active size."""
+    found = {}
+    for name in LARGE if rule == "never" else RULES:
+        for row in rows(name):
+            if row.get("refill", "never") == rule:
+                found.setdefault((int(row["nodes"]), int(row["active"])), []).append(row)
+    return found
+
+
+def cut_off(some):
+    """How many components but the first some overlays have."""
+    return sum(numbers(some, "components")) - len(some)
+
+
+def rules_large():
+    """What the rules at DISCONNECT do past 256 nodes."""
+    lines = []
+    for rule in ("alone", "always"):
+        for (nodes, size), some in large_of(rule).items():
             lines.append(
                 [
-                    said,
+                    rule,
+                    f"{nodes:,}",
                     size,
-                    f"{int(nodes):,}",
-                    f"{sum(row['components'] != '1' for row in some)}",
-                    f"{1e5 * parts / (int(nodes) * len(some)):.1f}",
-                    f"{mean(some, 'least_degree'):.1f}",
+                    len(some),
+                    plain(sum(row["components"] != "1" for row in some) / len(some)),
+                    f"{1e5 * cut_off(some) / (nodes * len(some)):.1f}",
+                    f"{mean(some, 'least_degree'):.2f}",
                 ]
             )
-    return table(
-        [
-            "rule",
-            "active size",
-            "nodes",
-            "split of 3",
-            "components but one, of 100,000",
-            "least degree, mean",
-        ],
-        lines,
-    )
+    head = ["rule", "nodes", "active size", "overlays", "% split", "components but one, of 100,000"]
+    return table([*head, "least degree, mean"], lines)
 
 
 def crash():
@@ -406,8 +438,10 @@ TABLES = {
     "active": (active, ["active"]),
     "fates": (fates, ["fates"]),
     "splits": (splits, ["splits"]),
-    "changes": (changes, ["whole", "when-alone", "at-disconnect", "at-once"]),
-    "changes-large": (changes_large, ["large-when-alone", "large-at-disconnect"]),
+    "rules": (rules, ["rules"]),
+    "rules-large": (rules_large, list(RULES)),
+    "at-once": (at_once, ["at-once", "rules"]),
+    "hazards": (hazards, ["rules-crash", "rules-passive", "rules-loss", "rules-loss-join", "rules-pace"]),
     "crash": (crash, ["crash"]),
     "passive": (passive, ["passive"]),
     "loss": (loss, ["loss"]),
