@@ -10,7 +10,7 @@ ROWS = pathlib.Path(__file__).resolve().parent / "out"
 # Rows of `overlay sweep`, which `simulate --csv` makes too.
 SWEEPS = {
     "active": "--nodes 50,100,150,200 --active 3,4,5,6,7,8,9,10,12 --crash 20 --runs 500",
-    "rules": "--nodes 50,100,200,250 --active 3,4,5,6,8 --refill never,alone,always --crash 20 --runs 500",
+    "rules": "--nodes 50,100,200 --active 3,4,5,6,8 --refill never,alone,always --crash 20 --runs 500",
     "crash": "--nodes 200 --active 5,6,8,10 --crash 0,10,20,30,50,cut --broadcasts 5 --runs 200",
     "passive": "--nodes 200 --active 5,8 --passive 1,2,5,10,30,60 --crash 30 --runs 200",
     "loss": "--nodes 200 --active 5,8,10 --loss 0,1,5,10,20 --crash 20 --broadcasts 5 --runs 200",
@@ -34,13 +34,21 @@ SIMULATED = {
     "large-100000": "--nodes 100000 --active 3,4,5,6,7,8,9,10,12,16 --rounds 0 --heal 0 --runs 3 --fates",
     "degrees-5": "--nodes 100000 --rounds 0 --heal 0 --runs 3 --degrees",
     "degrees-8": "--nodes 100000 --active 8 --rounds 0 --heal 0 --runs 3 --degrees",
-    "rules-1000": "--nodes 1000 --active 3,4,5,6,8 --refill alone,always --rounds 0 --heal 0 --runs 100 --fates",
-    "rules-10000": "--nodes 10000 --active 3,4,5,6,8 --refill alone,always --rounds 0 --heal 0 --runs 30 --fates",
-    "rules-100000": "--nodes 100000 --active 3,4,5,6,8 --refill alone,always --rounds 0 --heal 0 --runs 3 --fates",
-    "at-once": "--nodes 50,100,200,250 --active 5,8 --crash 20 --runs 500 --csv --reports-at-once",
+    "alone-1000": "--nodes 1000 --active 4,5,6,8,10 --refill alone --rounds 0 --heal 0 --runs 100 --fates",
+    "alone-10000": "--nodes 10000 --active 4,5,6,8,10 --refill alone --rounds 0 --heal 0 --runs 30 --fates",
+    "alone-100000": "--nodes 100000 --active 4,5,6,8,10 --refill alone --rounds 0 --heal 0 --runs 3 --fates",
+    "always-1000": "--nodes 1000 --active 3,4,5,6 --refill always --rounds 0 --heal 0 --runs 100 --fates",
+    "always-10000": "--nodes 10000 --active 3,4,5,6 --refill always --rounds 0 --heal 0 --runs 30 --fates",
+    "always-100000": "--nodes 100000 --active 3,4,5,6 --refill always --rounds 0 --heal 0 --runs 3 --fates",
+    "at-once": "--nodes 50,100,200 --active 5,8 --crash 20 --runs 500 --csv --reports-at-once",
 }
 LARGE = ("large-100", "large-1000", "large-10000", "large-100000")
-RULES = ("rules-1000", "rules-10000", "rules-100000")
+# The same by each rule at DISCONNECT.
+LARGE_BY = {
+    "never": LARGE[1:],
+    "alone": ("alone-1000", "alone-10000", "alone-100000"),
+    "always": ("always-1000", "always-10000", "always-100000"),
+}
 
 
 def make(name, simulate, overlay, workers):

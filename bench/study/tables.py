@@ -4,7 +4,7 @@ from collections import Counter
 
 from mean_field import WALK, shares_of
 from options import CHOICES
-from sweeps import LARGE, RULES, SWEEPS, grouped, mean, numbers, quantile, rows, split, wilson
+from sweeps import LARGE, LARGE_BY, SWEEPS, grouped, mean, numbers, quantile, rows, split, wilson
 
 
 def percent(hits, count):
@@ -104,21 +104,21 @@ def rules():
     found = grouped("rules", "refill", "active", "nodes")
     lines = []
     for rule, size in dict.fromkeys(key[:2] for key in found):
-        some, large = [found[rule, size, nodes] for nodes in ("50", "100", "200")], found[rule, size, "250"]
+        some = [found[rule, size, nodes] for nodes in ("50", "100", "200")]
+        large = some[-1]
         lines.append(
             [
-                rule,
+                f"`{rule}`",
                 size,
                 *(plain(split(it, "settle") / len(it)) for it in some),
-                percent(split(large, "settle"), len(large)),
                 quartiles(large, "settle"),
                 f"{mean(large, 'settle_entries'):,.0f}",
                 plain(split(large, "heal") / len(large)),
                 quartiles(large, "heal"),
             ]
         )
-    head = ["rule", "active size", "50 nodes, % split", "100 nodes", "200 nodes", "250 nodes", "k of 250, quartiles"]
-    return table([*head, "events of 250 until settled", "% split after healing", "k then"], lines)
+    head = ["rule", "active size", "50 nodes, % split", "100 nodes", "200 nodes", "k of 200, quartiles"]
+    return table([*head, "events of 200 until settled", "healed: % split", "k then"], lines)
 
 
 def at_once():
@@ -141,6 +141,8 @@ def at_once():
 
 
 REFILLS = CHOICES["refill"]
+# The share of split overlays that a designer may bear.
+FEW = 0.01
 # What befalls overlays of 200 nodes: the sweep, which of its rows, and how it is said.
 HAZARDS = (
     ("rules-crash", {"crash": "0"}, "nothing"),
@@ -165,14 +167,38 @@ def hazards():
     return table(["what befalls them", *(word for rule in REFILLS for word in (f"`{rule}`: % split", "median k"))], lines)
 
 
-def large_of(rule):
+def large_by(rule):
     """The rows of large overlays by a rule, by nodes and active size."""
     found = {}
-    for name in LARGE if rule == "never" else RULES:
+    for name in LARGE_BY[rule]:
         for row in rows(name):
-            if row.get("refill", "never") == rule:
-                found.setdefault((int(row["nodes"]), int(row["active"])), []).append(row)
+            found.setdefault((int(row["nodes"]), int(row["active"])), []).append(row)
     return found
+
+
+def rules_large():
+    """What the rules at DISCONNECT do past 256 nodes."""
+    lines = []
+    for rule in ("alone", "always"):
+        for (nodes, size), some in large_by(rule).items():
+            lines.append(
+                [
+                    f"`{rule}`",
+                    f"{nodes:,}",
+                    size,
+                    len(some),
+                    plain(share_split(some)),
+                    f"{1e5 * cut_off(some) / (nodes * len(some)):.1f}",
+                    f"{mean(some, 'least_degree'):.2f}",
+                ]
+            )
+    head = ["rule", "nodes", "active size", "overlays", "% split", "components but one, of 100,000"]
+    return table([*head, "least degree, mean"], lines)
+
+
+def share_split(some):
+    """The share of large overlays that are split."""
+    return sum(row["components"] != "1" for row in some) / len(some)
 
 
 def cut_off(some):
@@ -180,24 +206,31 @@ def cut_off(some):
     return sum(numbers(some, "components")) - len(some)
 
 
-def rules_large():
-    """What the rules at DISCONNECT do past 256 nodes."""
+def advice():
+    """Which active size is enough by each rule at DISCONNECT: the least one from which on few overlays are split."""
     lines = []
-    for rule in ("alone", "always"):
-        for (nodes, size), some in large_of(rule).items():
-            lines.append(
-                [
-                    rule,
-                    f"{nodes:,}",
-                    size,
-                    len(some),
-                    plain(sum(row["components"] != "1" for row in some) / len(some)),
-                    f"{1e5 * cut_off(some) / (nodes * len(some)):.1f}",
-                    f"{mean(some, 'least_degree'):.2f}",
-                ]
-            )
-    head = ["rule", "nodes", "active size", "overlays", "% split", "components but one, of 100,000"]
-    return table([*head, "least degree, mean"], lines)
+    for rule, does, who in (
+        ("always", "looks for another neighbour", "iroh-gossip"),
+        ("alone", "looks for one if it has no other", "Partisan"),
+        ("never", "does nothing", "the profile, the paper's listing"),
+    ):
+        by_tool = grouped("active" if rule == "never" else "rules", "nodes", "active", "refill")
+        shares = {
+            (int(nodes), int(size)): split(some, "settle") / len(some)
+            for (nodes, size, by), some in by_tool.items()
+            if by == rule and nodes in ("100", "200")
+        }
+        shares |= {place: share_split(some) for place, some in large_by(rule).items()}
+        least = [enough(shares, nodes) for nodes in (100, 200, 1000, 10000, 100000)]
+        lines.append([does, f"`{rule}`", who, *least])
+    head = ["a node that is told DISCONNECT", "`--refill`", "such as", "100 nodes", "200", "1,000", "10,000"]
+    return table([*head, "100,000"], lines)
+
+
+def enough(shares, nodes):
+    """The least active size from which on few overlays of so many nodes are split."""
+    many = [size for (count, size), share in shares.items() if count == nodes and share > FEW]
+    return min((size for count, size in shares if count == nodes and size > max(many, default=0)), default="more")
 
 
 def crash():
@@ -367,15 +400,14 @@ def large():
             if size not in ("5", "8", "10"):
                 continue
             total = int(nodes) * len(some)
-            cut_off = sum(numbers(some, "components")) - len(some)
             lines.append(
                 [
                     f"{int(nodes):,}",
                     size,
                     len(some),
-                    plain(sum(row["components"] != "1" for row in some) / len(some)),
+                    plain(share_split(some)),
                     f"{1e5 * sum(numbers(some, 'alone')) / total:.1f}",
-                    f"{1e5 * cut_off / total:.1f}",
+                    f"{1e5 * cut_off(some) / total:.1f}",
                     f"{mean(some, 'least_degree'):.2f}",
                 ]
             )
@@ -439,7 +471,8 @@ TABLES = {
     "fates": (fates, ["fates"]),
     "splits": (splits, ["splits"]),
     "rules": (rules, ["rules"]),
-    "rules-large": (rules_large, list(RULES)),
+    "rules-large": (rules_large, [*LARGE_BY["alone"], *LARGE_BY["always"]]),
+    "advice": (advice, ["rules", "active", *(name for names in LARGE_BY.values() for name in names)]),
     "at-once": (at_once, ["at-once", "rules"]),
     "hazards": (hazards, ["rules-crash", "rules-passive", "rules-loss", "rules-loss-join", "rules-pace"]),
     "crash": (crash, ["crash"]),
