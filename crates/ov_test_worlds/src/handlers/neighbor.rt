@@ -1,13 +1,14 @@
 ghost use Rattle.std.specs.Prelude.{◌≤◌, length};
 
 use crate::handlers::nodes::{Change, Spelt, are_moves, has, views_with};
-use ov_ids::{NodeId, OutOfMemory};
+use ov_ids::{NodeId, OutOfMemory, Refill};
 use ov_neighbor::{Attempt, on_crash_report, on_disconnect, on_neighbor, on_reply};
 use ov_test_kit::{sized, words};
 use ov_views::{Moves, Views};
 use ov_words::{Draws, Words};
 use std::alloc::Global;
 use std::process::Abort;
+use std::slice;
 use std::test::Fail;
 
 /// A node's views and its attempt.
@@ -54,7 +55,7 @@ fn handle(
         Event::Low => on_neighbor(alloc, views, draws, from, false),
         Event::High => on_neighbor(alloc, views, draws, from, true),
         Event::No => on_reply(alloc, views, attempt, draws, from, false),
-        Event::Disconnect => on_disconnect(alloc, views, draws, from),
+        Event::Disconnect => on_disconnect(alloc, views, attempt, draws, from),
         Event::Crash => on_crash_report(alloc, views, attempt, draws, from),
     }
 }
@@ -172,5 +173,75 @@ fn who_disconnects_becomes_passive(rt: HostRuntime) -> Result<(), Fail> {
     let words = words(&[]);
     let views = views_with(7, sized(5, 30)?, &[1], &[], &words);
     goes(&rt, rt.alloc(), views, &words, &LEFT);
+    Ok(())
+}
+
+/// A node that is told DISCONNECT by 3: its rule, its active members before that, and what it does.
+struct Parted {
+    rule: Refill,
+    active: &'static [u32],
+    step: Step,
+}
+
+/// What node 1 does at DISCONNECT from 3, of which 4 is passive.
+const fn parted(sends: Spelt, active: &'static [u32], left: usize) -> Step {
+    Step {
+        from: 3,
+        event: Event::Disconnect,
+        changes: &[Change::Down(3)],
+        sends,
+        active,
+        passive: &[3, 4],
+        left,
+    }
+}
+
+/// The word 2 picks the first of two passive members, which is the sender.
+static PARTED: [Parted; 6] = [
+    Parted {
+        rule: Refill::Never,
+        active: &[3, 8],
+        step: parted(&[], &[8], 64),
+    },
+    Parted {
+        rule: Refill::Alone,
+        active: &[3, 8],
+        step: parted(&[], &[8], 64),
+    },
+    Parted {
+        rule: Refill::Always,
+        active: &[3, 8],
+        step: parted(&[(3, &[1, 4, 0, 0, 0, 1, 0])], &[8], 63),
+    },
+    Parted {
+        rule: Refill::Never,
+        active: &[3],
+        step: parted(&[], &[], 64),
+    },
+    Parted {
+        rule: Refill::Alone,
+        active: &[3],
+        step: parted(&[(3, &[1, 4, 0, 0, 0, 1, 1])], &[], 63),
+    },
+    Parted {
+        rule: Refill::Always,
+        active: &[3],
+        step: parted(&[(3, &[1, 4, 0, 0, 0, 1, 1])], &[], 63),
+    },
+];
+
+#[test]
+fn neighbor_leaves(rt: HostRuntime) -> Result<(), Fail> {
+    let words = words(&[2]);
+    for row in &PARTED {
+        let views = views_with(
+            1,
+            sized(5, 30)?.with_refill(row.rule),
+            row.active,
+            &[4],
+            &words,
+        );
+        goes(&rt, rt.alloc(), views, &words, slice::from_ref(&row.step));
+    }
     Ok(())
 }
