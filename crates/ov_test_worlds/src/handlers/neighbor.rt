@@ -8,7 +8,6 @@ use ov_views::{Moves, Views};
 use ov_words::{Draws, Words};
 use std::alloc::Global;
 use std::process::Abort;
-use std::slice;
 use std::test::Fail;
 
 /// A node's views and its attempt.
@@ -176,23 +175,27 @@ fn who_disconnects_becomes_passive(rt: HostRuntime) -> Result<(), Fail> {
     Ok(())
 }
 
-/// A node that is told DISCONNECT by 3: its rule, its active members before that, and what it does.
+/// Node 1 is told DISCONNECT by 3: its rule, who else is active, what it sends to whom, and how many of 64 words are
+/// left. Of passive members it has 4, and then 3 and 4.
 struct Parted {
     rule: Refill,
-    active: &'static [u32],
-    step: Step,
+    others: &'static [u32],
+    sends: Spelt,
+    left: usize,
 }
 
-/// What node 1 does at DISCONNECT from 3, of which 4 is passive.
-const fn parted(sends: Spelt, active: &'static [u32], left: usize) -> Step {
-    Step {
-        from: 3,
-        event: Event::Disconnect,
-        changes: &[Change::Down(3)],
-        sends,
-        active,
-        passive: &[3, 4],
-        left,
+impl Parted {
+    /// The step.
+    fn step(&self) -> Step {
+        Step {
+            from: 3,
+            event: Event::Disconnect,
+            changes: &[Change::Down(3)],
+            sends: self.sends,
+            active: self.others,
+            passive: &[3, 4],
+            left: self.left,
+        }
     }
 }
 
@@ -200,33 +203,39 @@ const fn parted(sends: Spelt, active: &'static [u32], left: usize) -> Step {
 static PARTED: [Parted; 6] = [
     Parted {
         rule: Refill::Never,
-        active: &[3, 8],
-        step: parted(&[], &[8], 64),
+        others: &[8],
+        sends: &[],
+        left: 64,
     },
     Parted {
         rule: Refill::Alone,
-        active: &[3, 8],
-        step: parted(&[], &[8], 64),
+        others: &[8],
+        sends: &[],
+        left: 64,
     },
     Parted {
         rule: Refill::Always,
-        active: &[3, 8],
-        step: parted(&[(3, &[1, 4, 0, 0, 0, 1, 0])], &[8], 63),
+        others: &[8],
+        sends: &[(3, &[1, 4, 0, 0, 0, 1, 0])],
+        left: 63,
     },
     Parted {
         rule: Refill::Never,
-        active: &[3],
-        step: parted(&[], &[], 64),
+        others: &[],
+        sends: &[],
+        left: 64,
     },
     Parted {
         rule: Refill::Alone,
-        active: &[3],
-        step: parted(&[(3, &[1, 4, 0, 0, 0, 1, 1])], &[], 63),
+        others: &[],
+        sends: &[(3, &[1, 4, 0, 0, 0, 1, 1])],
+        left: 63,
     },
     Parted {
         rule: Refill::Always,
-        active: &[3],
-        step: parted(&[(3, &[1, 4, 0, 0, 0, 1, 1])], &[], 63),
+        others: &[],
+        sends: &[(3, &[1, 4, 0, 0, 0, 1, 1])],
+        left: 63,
     },
 ];
 
@@ -234,14 +243,13 @@ static PARTED: [Parted; 6] = [
 fn neighbor_leaves(rt: HostRuntime) -> Result<(), Fail> {
     let words = words(&[2]);
     for row in &PARTED {
-        let views = views_with(
-            1,
-            sized(5, 30)?.with_refill(row.rule),
-            row.active,
-            &[4],
-            &words,
-        );
-        goes(&rt, rt.alloc(), views, &words, slice::from_ref(&row.step));
+        let mut views = views_with(1, sized(5, 30)?.with_refill(row.rule), &[3], &[4], &words);
+        for other in row.others {
+            views.add_active(NodeId(*other), &mut Draws::new(&words));
+        }
+        let attempt = Attempt::new(rt.alloc());
+        let mut node = Node { views, attempt };
+        assert!(rt; does(rt.alloc(), &mut node, &words, &row.step()));
     }
     Ok(())
 }
