@@ -62,8 +62,8 @@ impl Model for Recording {
 }
 
 impl Recording {
-    /// A recording in which nothing happened: the script has the heading as a comment, the parameters and the seed, and
-    /// no line to run. OutOfMemory (99) is returned if an allocation was refused.
+    /// A recording in which nothing happened: the script has the heading as a comment, the parameters, the seed and the
+    /// rule at DISCONNECT, and no line to run. OutOfMemory (99) is returned if an allocation was refused.
     pub fn new(
         alloc: Global,
         params: Params,
