@@ -3,7 +3,7 @@ ghost use Rattle.std.specs.Result.{result_ok};
 ghost use Rattle.ov_lines.specs.Lines.{words_of, row, two, three};
 ghost use Rattle.ov_scenario.specs.RunLines.{HasIds, HasPayload, ReadingNeedsMemory};
 ghost use Rattle.ov_scenario.specs.Scenarios.{stated_at};
-ghost use Rattle.ov_scenario.specs.Statements.{seven_numbers, crash_report_of, timer_of, boot_of};
+ghost use Rattle.ov_scenario.specs.Statements.{seven_numbers, one_rule, crash_report_of, timer_of, boot_of};
 ghost use Rattle.ov_scenario.specs.Statements.{broadcast_of, group_at, subject_at, subject_of, analysis_of};
 ghost use Rattle.ov_scenario.specs.Statements.{event_rows, look_rows, section_rows, line_rows, line_names};
 ghost use Rattle.ov_scenario.specs.Statements.{statement_of};
@@ -14,7 +14,7 @@ ghost use Rattle.ov_scenario.specs.declared.statement_reading.Unstated.TheVarian
 use crate::event_words_reading::GivenWords;
 use crate::scenario::{Look, Subject};
 use crate::statement::{Stated, Statement};
-use ov_ids::{MsgId, NodeId, OutOfMemory, Seq};
+use ov_ids::{MsgId, NodeId, OutOfMemory, Refill, Seq};
 use ov_lines::{END, ID, Kind, LineCursor, Unread, is_word};
 use ov_net::Event;
 use std::alloc::{AllocError, Global};
@@ -25,6 +25,9 @@ pub(crate) const PARAMS: &str = "params";
 /// The name of a line that gives the seed.
 pub(crate) const SEED: &str = "seed";
 
+/// The name of a line that gives the rule at DISCONNECT.
+pub(crate) const REFILL: &str = "refill";
+
 /// The names that a line of a scenario may begin with, in the order in which they are printed.
 pub fn line_names() -> &'static [&'static str]
     ensures { map (λ name. name.now) result.now ≡ line_names }
@@ -32,6 +35,7 @@ pub fn line_names() -> &'static [&'static str]
     &[
         PARAMS,
         SEED,
+        REFILL,
         "words",
         "boot",
         "deliver",
@@ -94,6 +98,12 @@ const ACTIVE_SAMPLE: &[Kind] = &[Kind::Short(ACTIVE_SAMPLED)];
 const PASSIVE_SAMPLE: &[Kind] = &[Kind::Short(PASSIVE_SAMPLED)];
 
 const SHUFFLE_TTL: &[Kind] = &[Kind::Short(TIME_TO_LIVE)];
+
+const RULES: &[Kind] = &[
+    Kind::Name("never"),
+    Kind::Name("alone"),
+    Kind::Name("always"),
+];
 
 const PLACE: &[Kind] = &[Kind::Short("the place of a packet")];
 
@@ -185,6 +195,9 @@ fn read_named<'a>(
     }
     if is_word(name, SEED.as_bytes()) {
         return Ok(Statement::Seed(cursor.last_number(&[Kind::Long("the seed")])?));
+    }
+    if is_word(name, REFILL.as_bytes()) {
+        return Ok(Statement::Refill(read_rule(cursor)?));
     }
     if is_word(name, b"words") {
         return Ok(Statement::Words(GivenWords::read(cursor)?));
@@ -401,6 +414,21 @@ fn read_boot(cursor: &mut LineCursor) -> Result<Event, Unread>
     cursor.name("by", &[Kind::Name("by"), Kind::End])?;
     let contact = NodeId::new(cursor.last_short_number(&[ID])?);
     Ok(Event::Boot(node, Some(contact)))
+}
+
+/// Reads what follows the name `refill`: the word for a rule at DISCONNECT.
+fn read_rule(cursor: &mut LineCursor) -> Result<Refill, Unread>
+    ensures { result_ok result ≡ one_rule (words_of cursor.old) }
+{
+    let unread = cursor.unread(RULES);
+    let Some(word) = cursor.word() else {
+        return Err(unread);
+    };
+    let Some(rule) = Refill::from_name(word) else {
+        return Err(unread);
+    };
+    read_end(cursor)?;
+    Ok(rule)
 }
 
 #[tactic(auto, using(crate::proofs::Lines::InTurn::seven_in_turn))]
