@@ -1,5 +1,5 @@
 use crate::clap_commands_and_help::{self, with_command};
-use crate::growing_option_table::{OPTIONS, ORDERS, OptionForm, SWEEP_OPTIONS, Takes};
+use crate::growing_option_table::{OPTIONS, ORDERS, OptionForm, REFILLS, SWEEP_OPTIONS, Takes};
 use clap::{Arg, ArgAction, Command};
 use std::alloc::{AllocError, Global};
 
@@ -178,7 +178,8 @@ fn with_argument<'a>(
 /// An option of `overlay grow`.
 fn one_value<'a>(alloc: Global, option: &'static OptionForm) -> Result<Arg<'a>, AllocError> {
     let arg = match option.takes {
-        Takes::Order => order(alloc, option, "ORDER"),
+        Takes::Order => word(alloc, option, "ORDER", ORDERS.as_slice()),
+        Takes::Refill => word(alloc, option, "RULE", REFILLS.as_slice()),
         Takes::Nothing => return flag(alloc, option.name, option.help).conflicts_with("crash"),
         _ => text(alloc, option.name, "N", option.help),
     };
@@ -188,7 +189,8 @@ fn one_value<'a>(alloc: Global, option: &'static OptionForm) -> Result<Arg<'a>, 
 /// An option of `overlay sweep`, which takes a list; but the seed is that of each first run.
 fn list<'a>(alloc: Global, option: &'static OptionForm) -> Arg<'a> {
     let arg = match option.takes {
-        Takes::Order => order(alloc, option, "ORDER,.."),
+        Takes::Order => word(alloc, option, "ORDER,..", ORDERS.as_slice()),
+        Takes::Refill => word(alloc, option, "RULE,..", REFILLS.as_slice()),
         Takes::Nothing => return flag(alloc, option.name, option.help),
         _ if option.name == SEED => {
             return with_usual(text(alloc, option.name, "N", option.help), option);
@@ -216,9 +218,14 @@ fn with_usual<'a>(arg: Arg<'a>, option: &'static OptionForm) -> Arg<'a> {
     }
 }
 
-/// An option of this name, with one of the words for whose turn is next.
-fn order<'a>(alloc: Global, option: &'static OptionForm, value: &'static str) -> Arg<'a> {
-    text(alloc, option.name, value, option.help).value_parser(ORDERS.as_slice())
+/// An option of this name, with one of these words.
+fn word<'a>(
+    alloc: Global,
+    option: &'static OptionForm,
+    value: &'static str,
+    words: &'a [&'a str],
+) -> Arg<'a> {
+    text(alloc, option.name, value, option.help).value_parser(words)
 }
 
 /// An option of this name, with a text.
