@@ -182,7 +182,7 @@ one_params_of all p q right (inl (own, numbers, has, its, are)) (inl (line, othe
     let first = only_first says.Params params_in is_params sets_params [] all own numbers right has its in
     let other = only_first says.Params params_in is_params sets_params [] all line others right also also_its in
     let same = sym first.1 ∙ other.1 in
-    one_params numbers others p q are also_are cc rule
+    one_params numbers others p q are also_are (cc) rule
 one_params_of all p q right (inl (own, numbers, has, its, are)) (inr none) rule =
     absurd (none.0 (own, numbers, has, its))
 one_params_of all p q right (inr none) (inl (line, others, also, also_its, also_are)) rule =
