@@ -1,8 +1,9 @@
 -- That the search for a crashed neighbour may go on where it was: nobody has one more than before, unless an entry tells
 -- that a node took one into its active view.
 use Rattle.std.proofs.Common.{◌≡◌, ◌≢◌, ◌<◌, ◌≤◌, ◌+◌, ◌∙◌, ℕ, zero, suc, List, [], ◌∷◌, ◌++◌, length, take, drop}
-use Rattle.std.proofs.Common.{get_or, false, Bool, Option, Some, None, refl, sym, ap, subst, append_assoc, inl, inr}
-use Rattle.std.proofs.lemmas.List.{drop_all, drop_more}
+use Rattle.std.proofs.Common.{◌-◌, get_or, Option, Some, None, refl, sym, ap, subst, append_assoc, inl, inr, arith}
+use Rattle.std.proofs.Common.{length-append}
+use Rattle.std.proofs.lemmas.List.{drop_all, drop_more, length-drop}
 use Rattle.std.proofs.Math.Seq.{drop-append_seam, take-length}
 use Rattle.std.specs.FinMap as map
 use Rattle.std.specs.Ordering.{nat_cmp}
@@ -45,9 +46,9 @@ pub change_left :
     → TakeNoCrashed w (drop (i + 1) changes) → TakeNoCrashed w (drop i changes)
 change_left w changes i d within one more =
     subst (TakeNoCrashed w) (sym (drop_more changes i d within)) (λ c has. by c has) where
-  by : (c : Change) → Has (get_or changes i d ∷ drop (i + 1) changes) c → TakesNoCrashed w c
-  by c (inl same) = subst (TakesNoCrashed w) same one
-  by c (inr has) = more c has
+      by : (c : Change) → Has (get_or changes i d ∷ drop (i + 1) changes) c → TakesNoCrashed w c
+      by c (inl same) = subst (TakesNoCrashed w) same one
+      by c (inr has) = more c has
 
 -- none is left
 pub no_change_left : (w : Net) (changes : List Change) (i : ℕ) → length changes ≤ i → TakeNoCrashed w (drop i changes)
@@ -66,6 +67,12 @@ pub no_entry_left :
     (w : Net) (entries : List Entry) (i : ℕ) → length entries ≤ i → TakeNoCrashed w (changes_of (drop i entries))
 no_entry_left w entries i past =
     subst (λ es. TakeNoCrashed w (changes_of es)) (sym (drop_all i entries past)) (λ c has. absurd has)
+
+-- the entries from a place on are all that are left
+pub tail_whole :
+    (entries : List Entry) (n : ℕ) → take (length entries - n) (drop n entries) ≡ drop n entries
+tail_whole entries n =
+    subst (λ k. take k (drop n entries) ≡ drop n entries) (length-drop n entries) (take-length (drop n entries))
 
 -- ---- nodes
 
@@ -98,8 +105,7 @@ crashed_before s u a b before after keeps none (q, lives, has, gone) =
           absurd (subst (λ es. TakeNoCrashed u.world.net (changes_of es)) later none (Up a b)
           (holds_told (changes_of keeps.more) a b taken) gone)
       | inr kept ↦ kept.0
-    ] in
-    (
+    ] in (
       p,
       living,
       (before.tells.held a b p living).1 (subst (λ es. HoldsAfter (changes_of es) a b) (sym (take-length old)) held),
@@ -107,6 +113,12 @@ crashed_before s u a b before after keeps none (q, lives, has, gone) =
     )
 
 -- ---- the search
+
+-- the journal is no shorter
+pub no_shorter : (s u : Growth) → Keeps s u → length s.world.journal ≤ length u.world.journal
+no_shorter s u keeps =
+    let long = ap (λ (es : List Entry). length es) keeps.journal ∙ length-append s.world.journal keeps.more in
+    omega (arith, long)
 
 -- the same nodes live
 pub live_kept : (s u : Growth) (ids : List ℕ) → Keeps s u → AreLive s ids → AreLive u ids

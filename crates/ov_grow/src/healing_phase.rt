@@ -19,6 +19,17 @@ use ov_grow_options::GrowOptions;
 use ov_ids::NodeId;
 use ov_net::Change;
 
+/// A live node that has a crashed node in its active view.
+#[derive(Clone, Copy)]
+struct Found {
+    /// The place of the live node among all live ones.
+    place: usize,
+    /// The live node.
+    node: NodeId,
+    /// The crashed node.
+    crashed: NodeId,
+}
+
 impl Growing {
     /// The overlay heals. Some node must live.
     pub(crate) fn heal(&mut self, options: &GrowOptions) -> Result<Phase, GrowFault>
@@ -45,30 +56,36 @@ impl Growing {
     {
         let nodes = self.live()?;
         let mut from = 0;
-        while let Some((place, node, crashed)) = self.first_with_crashed(&nodes, from) {
+        while let Some(found) = self.first_with_crashed(&nodes, from) {
             let before = self.world().journal().len();
-            self.act(Act::CrashReport(node, crashed))?;
+            self.act(Act::CrashReport(found.node, found.crashed))?;
             self.run_out(rules)?;
             let _journal = self.world().journal();
-            from = self.search_from(place, before);
+            from = self.search_from(found.place, before);
         }
         Ok(())
     }
 
     /// Of the live nodes, by ascending ids, the first that has a crashed node in its active view, with its place, and
     /// the first such. None before the place `from` may have one.
-    fn first_with_crashed(&self, nodes: &[NodeId], from: usize) -> Option<(usize, NodeId, NodeId)>
+    fn first_with_crashed(&self, nodes: &[NodeId], from: usize) -> Option<Found>
         requires live { AreLive (growth_of self.now) nodes.now }
         requires none { HaveNone (HasCrashed (growth_of self.now)) (take from nodes.now) }
-        ensures some { IfSome result (λ found. AreFirst (growth_of self.now) found.1 found.2) }
-        ensures before { IfSome result (λ found. HaveNone (HasCrashed (growth_of self.now)) (take found.0 nodes.now)) }
+        ensures some { IfSome result (λ found. AreFirst (growth_of self.now) found.node found.crashed) }
+        ensures before { IfSome result (λ found. HaveNone (HasCrashed (growth_of self.now)) (take found.place nodes.now)) }
         ensures none { IfNone result (HasNone (growth_of self.now)) }
     {
         let mut place = from;
         while place < nodes.len() {
             let node = nodes[place];
             match self.first_crashed_at(node) {
-                Some(crashed) => return Some((place, node, crashed)),
+                Some(crashed) => {
+                    return Some(Found {
+                        place,
+                        node,
+                        crashed,
+                    });
+                }
                 None => place += 1,
             }
         }

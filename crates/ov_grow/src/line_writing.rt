@@ -83,7 +83,7 @@ pub(crate) fn write_params(text: &mut Vec<u8>, params: Params)
 }
 
 /// Appends the line of this rule at DISCONNECT, or nothing if it is the profile's rule.
-#[tactic(auto, unfolding(crate::specs::WrittenLines::rule_text, crate::specs::WrittenLines::refill_line))]
+#[tactic(auto, unfolding(crate::specs::WrittenLines::rule_text))]
 pub(crate) fn write_refill(text: &mut Vec<u8>, rule: Refill)
     requires room { vec_len text.old + rule_room ≤ vec_capacity text.old }
     ensures items { text.new.items ≡ text.old.items ++ rule_text rule }

@@ -6,13 +6,13 @@ pub returns-in-Some-clause-some : goal.returns-in-Some-clause-some
 returns-in-Some-clause-some c =
     let within = c.loop-place-test.true in
     first_pair (growth_of c.args.self.now) c.args.nodes.now c.loop-place.place _ _ c.requires.live within
-    (is_item _ _ _ within c.index-nodes-node.is) c.loop-place.invariant c.in-Some.ensures.some c.in-Some.ensures.least
+    (is_item _ _ _ within c.index-nodes-place.is) c.loop-place.invariant c.in-Some.ensures.some c.in-Some.ensures.least
 
 pub loop-place-preserved : goal.loop-place-preserved
 loop-place-preserved c =
     let within = c.loop-place-test.true in
     none_next (HasCrashed (growth_of c.args.self.now)) c.args.nodes.now c.loop-place.place _ within
-    (is_item _ _ _ within c.index-nodes-node.is) c.loop-place.invariant (λ (b, has). c.in-None.ensures.none b has)
+    (is_item _ _ _ within c.index-nodes-place.is) c.loop-place.invariant (λ (b, has). c.in-None.ensures.none b has)
 
 pub returns-clause-none : goal.returns-clause-none
 returns-clause-none c =

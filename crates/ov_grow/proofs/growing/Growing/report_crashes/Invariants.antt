@@ -7,12 +7,12 @@ use Rattle.ov_grow.proofs.Going.{IsOn}
 use Rattle.ov_grow.proofs.growing.Growing.report_crashes.Given as goal
 
 -- the nodes are those that live, and none before the place has a crashed neighbour
-abbrev pub invariant-loop-place : goal.invariant-loop-place
-invariant-loop-place l = record {
+abbrev pub invariant-loop-found : goal.invariant-loop-found
+invariant-loop-found l = record {
   way : IsOn (ReportCrashes l.rules) (ReportCrashes l.rules) l.fn.self l.self;
   live : AreLive (growth_of l.self) l.nodes.items;
   none : HaveNone (HasCrashed (growth_of l.self)) (take l.from l.nodes.items);
 }
 
-abbrev pub decreases-loop-place : goal.decreases-loop-place
-decreases-loop-place l = most_entries - length l.self.recording.core.world.journal
+abbrev pub decreases-loop-found : goal.decreases-loop-found
+decreases-loop-found l = most_entries - length l.self.recording.core.world.journal
