@@ -111,7 +111,7 @@ fn write_split<R: Threads + Sync, W: Write>(
     ensures faults { sink.new.faults ≡ sink.old.faults + write_faults writing_number result }
 {
     let parts = Parts::of(alloc, split, graph, group, moment)?;
-    let mut blocks = blocks_for(alloc, workers, split)?;
+    let mut blocks = blocks_for(rt, alloc, workers, split)?;
     sink.write_all(front)?;
     write_parts(rt, sink, &mut blocks, split, &parts)?;
     Ok(())
@@ -143,12 +143,19 @@ fn write_parts<R: Threads + Sync, W: Write>(
 }
 
 /// The blocks for the entries of a certificate: one for each worker who saves time.
-fn blocks_for(alloc: Global, workers: Workers, split: &Split) -> Result<Blocks, OutOfMemory>
+fn blocks_for<R: Threads + Sync>(
+    rt: &R,
+    alloc: Global,
+    workers: Workers,
+    split: &Split,
+) -> Result<Blocks, OutOfMemory>
     ensures fans { IfOk result (λ b. AreWithin (λ e. e.paths) b.room split.now.fans) }
     ensures pairs { IfOk result (λ b. AreWithin (λ e. e.paths) b.room split.now.pairs) }
 {
     let (fans, pairs) = (split.fans.as_slice(), split.pairs.as_slice());
-    let room = largest_room(fans).max(largest_room(pairs));
+    let fan_room = largest_room(rt, alloc, workers, fans)?;
+    let pair_room = largest_room(rt, alloc, workers, pairs)?;
+    let room = fan_room.max(pair_room);
     let entries = fans.len().max(pairs.len());
     let count = block_count(workers, entries, room);
     let size = block_size(entries, count, room);
