@@ -1,10 +1,11 @@
 //! The texts of entries, made in blocks by several threads and written in order. All memory is there before the first
 //! byte is written.
-ghost use Rattle.std.specs.Prelude.{◌≡◌, ◌≤◌, ◌<◌, ◌+◌, ◌*◌, ◌^◌, ◌++◌, ◌||◌, ℕ, List, false, true, nat_lt};
-ghost use Rattle.std.specs.Prelude.{length, take, drop, OnOk, IfOk};
+ghost use Rattle.std.specs.Prelude.{◌≡◌, ◌≤◌, ◌<◌, ◌+◌, ◌*◌, ◌^◌, ◌||◌, false, true, nat_lt, length, take, drop};
+ghost use Rattle.std.specs.Prelude.{OnOk, IfOk};
 ghost use Rattle.std.specs.Io.KnownBytes.{Appends};
 ghost use Rattle.ov_io.specs.Device.{most_faults, write_faults, write_number, AppendsPrefixOf};
 ghost use Rattle.ov_certwriter.specs.Code.Blocks.{items_after, entries_room, AreWithin, block_text, HaveRoom, HoldParts};
+ghost use Rattle.ov_certwriter.specs.Code.Writing.{WritesFirst};
 
 use crate::entry_texts::Entry;
 use crate::reserved_memory::put_comma;
@@ -12,19 +13,20 @@ use ov_ids::OutOfMemory;
 use ov_io::{Sink, WriteFault};
 use std::alloc::{AllocError, Global};
 use std::io::Write;
+use std::mem;
 use std::thread;
 use std::thread::Threads;
 
 /// Memory for the texts of some entries, and how much of it they take.
 #[derive(Drop)]
-pub(crate) struct Block {
+struct Block {
     memory: Vec<u8>,
     filled: usize,
 }
 
 /// Memory that is filled with the texts of entries again and again: one block for each thread.
 #[derive(Drop)]
-pub(crate) struct Blocks {
+struct Blocks {
     blocks: Vec<Block>,
     /// How many entries each block takes.
     size: usize,
@@ -38,12 +40,7 @@ pub(crate) struct Blocks {
 impl Blocks {
     /// This many blocks, each of which takes this many entries of this room. OutOfMemory (99) if an allocation is
     /// refused.
-    pub(crate) fn new(
-        alloc: Global,
-        count: usize,
-        size: usize,
-        room: usize,
-    ) -> Result<Blocks, OutOfMemory>
+    fn new(alloc: Global, count: usize, size: usize, room: usize) -> Result<Blocks, OutOfMemory>
         requires some { 0 < count * size }
         requires few { count * size < 2 ^ 64 }
         ensures room { IfOk result (λ b. b.room ≡ room) }
@@ -68,31 +65,99 @@ fn blocks_of(alloc: Global, count: usize, bytes: usize) -> Result<Vec<Block>, Al
     Ok(blocks)
 }
 
+/// Two sets of blocks: one is written while the other is filled.
+#[derive(Drop)]
+pub(crate) struct BlockSets {
+    full: Blocks,
+    free: Blocks,
+    ghost alike: { full.room ≡ free.room },
+}
+
+impl BlockSets {
+    /// Two sets of this many blocks, each of which takes this many entries of this room. OutOfMemory (99) if an
+    /// allocation is refused.
+    pub(crate) fn new(
+        alloc: Global,
+        count: usize,
+        size: usize,
+        room: usize,
+    ) -> Result<BlockSets, OutOfMemory>
+        requires some { 0 < count * size }
+        requires few { count * size < 2 ^ 64 }
+        ensures room { IfOk result (λ s. s.full.room ≡ room) }
+        ensures small { IfOk result (λ s. s.full.room < 2 ^ 63) }
+    {
+        let full = Blocks::new(alloc, count, size, room)?;
+        let free = Blocks::new(alloc, count, size, room)?;
+        Ok(BlockSets { full, free })
+    }
+}
+
 /// Writes the texts of entries, with commas between them.
 pub(crate) fn write_entries<R: Threads + Sync, W: Write, T: Entry>(
     rt: &R,
     sink: &mut Sink<W>,
-    blocks: &mut Blocks,
+    blocks: &mut BlockSets,
     entries: &[T],
 ) -> Result<(), WriteFault>
-    requires within { AreWithin T.paths_of blocks.old.room entries.now }
+    requires within { AreWithin T.paths_of blocks.old.full.room entries.now }
     requires faults { sink.old.faults < most_faults }
     ensures bytes { OnOk result (Appends (W.contents sink.old.writer) (W.contents sink.new.writer)
         (items_after T.as_data false entries.now)) }
     ensures prefix { AppendsPrefixOf (items_after T.as_data false entries.now)
         (W.contents sink.old.writer) (W.contents sink.new.writer) }
     ensures faults { sink.new.faults ≡ sink.old.faults + write_faults write_number result }
-    ensures room { blocks.new.room ≡ blocks.old.room }
+    ensures room { blocks.new.full.room ≡ blocks.old.full.room }
 {
     let mut rest = entries;
     let mut later = false;
+    fill_blocks(rt, &mut blocks.full, later, rest);
     while !rest.is_empty() {
-        fill_blocks(rt, blocks, later, rest);
-        write_blocks(sink, blocks, later, rest)?;
-        rest = behind(rest, blocks.blocks.len() * blocks.size);
+        let next = behind(rest, blocks.full.blocks.len() * blocks.full.size);
+        write_and_fill(rt, sink, &blocks.full, later, rest, &mut blocks.free, next)?;
+        mem::swap(&mut blocks.full, &mut blocks.free);
+        rest = next;
         later = true;
     }
     Ok(())
+}
+
+/// Writes what the full blocks hold: the texts of the first of these entries. Meanwhile other threads fill the free
+/// blocks with those of the next entries, unless each set has one block alone.
+fn write_and_fill<R: Threads + Sync, W: Write, T: Entry>(
+    rt: &R,
+    sink: &mut Sink<W>,
+    full: &Blocks,
+    later: bool,
+    entries: &[T],
+    free: &mut Blocks,
+    next: &[T],
+) -> Result<(), WriteFault>
+    requires parts { HoldParts T.as_data full.now.size later entries.now full.now.blocks.items }
+    requires within { AreWithin T.paths_of free.old.room next.now }
+    requires faults { sink.old.faults < most_faults }
+    ensures written { WritesFirst T.as_data later (length full.now.blocks.items * full.now.size) entries.now
+        W.contents sink.old sink.new result }
+    ensures parts { HoldParts T.as_data free.new.size true next.now free.new.blocks.items }
+    ensures room { free.new.room ≡ free.old.room }
+{
+    if free.blocks.len() == 1 {
+        let written = write_blocks(sink, full, later, entries);
+        fill_blocks(rt, free, true, next);
+        return written;
+    }
+    let mut fill_next = ||
+        requires { AreWithin T.paths_of free.now.room next.now }
+        ensures parts { HoldParts T.as_data free.exit.now.size true next.entry.now free.exit.now.blocks.items }
+        ensures room { free.exit.now.room ≡ free.entry.now.room }
+    { fill_blocks(rt, free, true, next) };
+    let mut write_full = || -> Result<(), WriteFault>
+        requires parts { HoldParts T.as_data full.now.size later entries.now full.now.blocks.items }
+        requires faults { sink.now.faults < most_faults }
+        ensures { WritesFirst T.as_data later (length full.entry.now.blocks.items * full.entry.now.size)
+            entries.entry.now W.contents sink.entry.now sink.exit.now result }
+    { write_blocks(sink, full, later, entries) };
+    thread::join_mut(rt, &mut fill_next, &mut write_full).1
 }
 
 /// Fills each block, in a thread of its own, with the part of these entries at its place.
@@ -179,13 +244,8 @@ fn write_blocks<W: Write, T: Entry>(
 ) -> Result<(), WriteFault>
     requires parts { HoldParts T.as_data blocks.now.size later entries.now blocks.now.blocks.items }
     requires faults { sink.old.faults < most_faults }
-    ensures bytes { OnOk result ((done : List ℕ)
-        × Appends (W.contents sink.old.writer) (W.contents sink.new.writer) done
-        × (done ++ items_after T.as_data true (drop (length blocks.now.blocks.items * blocks.now.size) entries.now)
-        ≡ items_after T.as_data later entries.now)) }
-    ensures prefix { AppendsPrefixOf (items_after T.as_data later entries.now)
-        (W.contents sink.old.writer) (W.contents sink.new.writer) }
-    ensures faults { sink.new.faults ≡ sink.old.faults + write_faults write_number result }
+    ensures { WritesFirst T.as_data later (length blocks.now.blocks.items * blocks.now.size) entries.now
+        W.contents sink.old sink.new result }
 {
     for block in &blocks.blocks {
         sink.write_all(first(&block.memory, block.filled))?;

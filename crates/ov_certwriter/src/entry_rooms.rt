@@ -1,5 +1,6 @@
 //! The most bytes that the texts of entries need.
-ghost use Rattle.std.specs.Prelude.{◌≡◌, ◌<◌, ◌≤◌, ◌*◌, ℕ, length, slice_index_or, IfOk};
+ghost use Rattle.std.specs.Prelude.{◌≡◌, ◌<◌, ◌≤◌, ◌*◌, length, IfOk};
+ghost use Rattle.std.specs.List.{All};
 ghost use Rattle.ov_certwriter.specs.Code.Blocks.{entry_room, AreWithin, AreRoomsOf};
 
 use crate::entry_texts::Entry;
@@ -48,11 +49,11 @@ fn rooms_of_parts<R: Threads + Sync, T: Entry>(
 
 /// A number that none of these is above.
 fn largest(numbers: &[usize]) -> usize
-    ensures { (i d : ℕ) → i < length numbers.now → slice_index_or numbers.now i d ≤ result }
+    ensures { All (λ number. number ≤ result) numbers.now }
 {
     let mut largest = 0;
     for number in numbers {
-        largest = largest.max(*number);
+        largest = (*number).max(largest);
     }
     largest
 }
