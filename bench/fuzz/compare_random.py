@@ -13,6 +13,7 @@ import sys
 
 import random_inputs
 import second_opinion
+from nodes import REFILLS
 from named_answers import answer_named
 
 HERE = pathlib.Path(__file__).resolve().parent
@@ -40,7 +41,7 @@ def inputs(number, seed):
     for at in range(number):
         source = random.Random(f"{seed} {at}")
         yield f"random-{seed}-{at}.scenario", "run", random_inputs.scenario(source), None
-        yield f"guided-{seed}-{at}.scenario", "run", random_inputs.guided(source), None
+        yield f"guided-{seed}-{at}.scenario", "run", random_inputs.guided(source, source.choice(REFILLS)), None
         yield f"random-{seed}-{at}.graph", "analyse", *random_inputs.graph(source)
         yield f"named-{seed}-{at}.graph", "names", *random_inputs.named_graph(source)
 

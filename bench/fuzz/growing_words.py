@@ -13,7 +13,7 @@ import sys
 
 sys.path.insert(0, str(pathlib.Path(__file__).resolve().parent.parent / "study"))
 from grow import Growing  # noqa: E402
-from options import LIMITS, SEEDS, Options  # noqa: E402
+from options import CHOICES, LIMITS, SEEDS, Options  # noqa: E402
 from rows import header, row_of  # noqa: E402
 from second_opinion import Answer  # noqa: E402
 from world import Refusal  # noqa: E402
@@ -21,7 +21,7 @@ from world import Refusal  # noqa: E402
 MOST_RUNS = 1_000_000
 NUMBERS = LIMITS | {"runs": (1, MOST_RUNS), "workers": (1, 64), "list": (1, MOST_RUNS)}
 FLAGS = {"grow": {"crash_cut"}, "sweep": {"crash_cut", "summary", "progress"}}
-TEXTS = {"grow": {"order"}, "sweep": {"order", "svg", "read"}}
+TEXTS = {"grow": {*CHOICES}, "sweep": {*CHOICES, "svg", "read"}}
 # Options of a sweep that take one value; all others take a list.
 SINGLE = {"seed", "runs", "workers", "list", "svg"}
 OPTIONS = [field.name for field in dataclasses.fields(Options)]
@@ -49,9 +49,9 @@ def number(name, word):
 
 def value(name, word):
     """What a word says as the value of an option."""
-    if name == "order" and word not in ("random", "oldest"):
+    if name in CHOICES and word not in CHOICES[name]:
         raise BadArguments
-    if name == "order" or (name, word) in (("pace", "none"), ("crash", "cut")):
+    if name in CHOICES or (name, word) in (("pace", "none"), ("crash", "cut")):
         return word
     return number(name, word)
 

@@ -5,7 +5,7 @@
 #include <stdlib.h>
 #include <string.h>
 
-enum { LARGEST = 1 << 16, MOST_CHANGES = 6, MOST_SMALL = 12 };
+enum { LARGEST = 1 << 16, MOST_CHANGES = 6, MOST_SMALL = 12, RULES = 3 };
 
 struct mutator {
     uint64_t random;
@@ -56,6 +56,14 @@ static void bring(struct mutator *it, const uint8_t *bytes, size_t size) {
     replace(it, place, copy, line.to - line.from);
 }
 
+/* Brings the line of a rule at DISCONNECT in before all others, where alone it may mostly stand. */
+static void bring_rule(struct mutator *it) {
+    static const char *const lines[RULES] = {"refill never\n", "refill alone\n", "refill always\n"};
+    const char *line = lines[below(it, RULES)];
+    struct span start = {0, 0};
+    replace(it, start, (const uint8_t *)line, strlen(line));
+}
+
 static int is_digit(uint8_t byte) {
     return byte >= '0' && byte <= '9';
 }
@@ -78,6 +86,10 @@ static void renumber(struct mutator *it) {
 }
 
 static void change(struct mutator *it, const uint8_t *other, size_t size_of_other) {
+    if (below(it, 32) == 0) {
+        bring_rule(it);
+        return;
+    }
     switch (below(it, 6)) {
     case 0:
         replace(it, some_line(it, it->bytes, it->size), NULL, 0);

@@ -10,6 +10,8 @@ import struct
  PRUNE) = range(1, 13)
 LOW, HIGH, NO, YES = 0, 1, 0, 1
 LAST_ROUND = 65535
+# When a DISCONNECT from an active member starts an attempt: never, if nobody is active any more, or always.
+NEVER, ALONE, ALWAYS = REFILLS = "never", "alone", "always"
 # How the fields of each kind are written; a list or a payload at the end follows by itself.
 FIELDS = {JOIN: "", FORWARDJOIN: "IB", JOINED: "", NEIGHBOR: "B", NEIGHBORREPLY: "B", DISCONNECT: "",
           SHUFFLE: "IB", SHUFFLEREPLY: "", GOSSIP: "IIH", IHAVE: "II", GRAFT: "II", PRUNE: ""}
@@ -51,8 +53,8 @@ class Draws:
 class Node:
     """A node, and what its present step does: `sends` (receiver and message), `changes` and `delivered`."""
 
-    def __init__(self, me, params):
-        self.me = me
+    def __init__(self, me, params, refill=NEVER):
+        self.me, self.refill = me, refill
         (self.active_size, self.passive_size, self.walk, self.passive_walk, self.of_active, self.of_passive,
          self.shuffle_life) = params
         self.active, self.passive = set(), set()
@@ -184,9 +186,13 @@ class Node:
 
     def on_disconnect(self, sender):
         """DISCONNECT from a sender."""
-        if sender in self.active:
-            self.down(sender)
-            self.add_passive(sender)
+        if sender not in self.active:
+            return
+        self.down(sender)
+        self.add_passive(sender)
+        if self.refill == ALWAYS or (self.refill == ALONE and not self.active):
+            self.tried = set()
+            self.go_on()
 
     def on_report(self, crashed):
         """The report of a crash."""

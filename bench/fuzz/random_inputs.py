@@ -1,5 +1,6 @@
 """Random scenarios and graph files, most of whose lines can be read: for comparisons without a fuzzer."""
 
+from nodes import NEVER, REFILLS
 from pcg import Pcg64
 from scenario_run import WORDS, State
 
@@ -106,6 +107,8 @@ class ScenarioMaker:
                    self.random.randint(0, 4), self.random.randint(0, 4), self.random.randint(1, 5)]
         if self.random.random() < 0.7:
             yield ["seed", self.random.getrandbits(64)]
+        if self.random.random() < 0.5:
+            yield ["refill", self.random.choice(REFILLS)]
         for _ in range(size):
             pick = self.random.random()
             if pick < 0.12:
@@ -171,13 +174,13 @@ class GuidedMaker:
     """Makes a scenario beside a world of the second opinion, so that rare events come: timers that run, and reports to
     nodes that know who crashed. Views are small, and the scenario is short."""
 
-    def __init__(self, random):
-        self.random = random
+    def __init__(self, random, refill):
+        self.random, self.refill = random, refill
         walk = random.randint(0, 4)
         self.params = (random.randint(1, 3), random.randint(1, 3), walk, random.randint(0, walk), random.randint(0, 3),
                        random.randint(0, 3), random.randint(1, 4))
         self.seed = random.getrandbits(8)
-        self.state, self.generator = State(self.params), Pcg64(self.seed)
+        self.state, self.generator = State(self.params, refill), Pcg64(self.seed)
         self.most = random.randint(3, 8)
 
     def live(self):
@@ -227,6 +230,8 @@ class GuidedMaker:
     def lines(self, size):
         yield "params " + " ".join(map(str, self.params))
         yield f"seed {self.seed}"
+        if self.refill != NEVER:
+            yield f"refill {self.refill}"
         for at in range(1, size + 1):
             said = self.event()
             if said is None:
@@ -241,9 +246,9 @@ class GuidedMaker:
         yield from self.looks()
 
 
-def guided(random):
-    """The bytes of a short scenario in which rare events come."""
-    lines = GuidedMaker(random).lines(random.choice((60, 100, 140)))
+def guided(random, refill=NEVER):
+    """The bytes of a short scenario in which rare events come, with a rule at DISCONNECT."""
+    lines = GuidedMaker(random, refill).lines(random.choice((60, 100, 140)))
     return "".join(f"{line}\n" for line in lines).encode()
 
 

@@ -2,6 +2,8 @@
 
 import re
 
+from nodes import REFILLS
+
 MOST_SECTIONS = MOST_WORDS = MOST_WORKERS = 64
 MOST_NODES = 1024
 DIGITS = re.compile(rb"[0-9]+")
@@ -87,6 +89,14 @@ def broadcast(line):
     return number(match[1]), match[2] or b""
 
 
+def refill(words):
+    """The rule at DISCONNECT, which is one word."""
+    rule = words[0].decode("latin-1") if len(words) == 1 else None
+    if rule not in REFILLS:
+        raise Unreadable
+    return rule
+
+
 def statement(line):
     """What a line says that is not skipped: its kind, and what follows."""
     word, *rest = [part for part in line.split(b" ") if part]
@@ -101,6 +111,8 @@ def statement(line):
         return kind, *numbers(rest, 7, 7)
     if word == b"seed":
         return kind, *numbers(rest, 1, 1, 64)
+    if word == b"refill":
+        return kind, refill(rest)
     if word == b"words":
         return kind, *numbers(rest, 1, MOST_WORDS, 64)
     if word == b"show":
@@ -143,7 +155,7 @@ class ScenarioReader:
         self.places = [at for at, _ in every]
         self.said = [read_statement(line) for _, line in every]
         self.last_end = max((at for at, said in enumerate(self.said) if said == ("end",)), default=-1)
-        self.lines, self.params, self.seed, self.sections = [], None, None, None
+        self.lines, self.params, self.seed, self.refill, self.sections = [], None, None, None, None
         self.has_event, self.words = False, None
         for at, said in enumerate(self.said):
             self.take(at, said)
@@ -173,7 +185,7 @@ class ScenarioReader:
         elif self.sections is not None:
             self.demand(kind == "analyse" and said[2:] == (None, None), at)
             self.put(at, said)
-        elif kind in ("params", "seed"):
+        elif kind in ("params", "seed", "refill"):
             self.take_setting(at, kind, said[1:])
         else:
             self.put(at, said)
@@ -198,9 +210,9 @@ class ScenarioReader:
             self.sections = None
 
     def take_setting(self, at, kind, given):
-        """`params` and `seed`."""
+        """`params`, `seed` and `refill`."""
         self.demand(getattr(self, kind) is None and not self.has_event, at)
-        self.demand(kind == "seed" or are_in_limits(*given), at, 21)
+        self.demand(kind != "params" or are_in_limits(*given), at, 21)
         setattr(self, kind, given)
 
 

@@ -7,7 +7,7 @@ gives one output, unless there are too many.
 import math
 
 from connectivity import Analysis, listed
-from nodes import encoded
+from nodes import NEVER, encoded
 from pcg import Pcg64
 from scenario_lines import DEFAULT_PARAMS, IS_EVENT
 from world import Refusal, World, demand
@@ -57,11 +57,12 @@ class State:
     refused, in the order in which they are explained, and `events` how many events were accepted and how many refused.
     """
 
-    def __init__(self, params):
-        self.world, self.reports, self.printed, self.refused, self.events = World(params), {}, [], [], [0, 0]
+    def __init__(self, params, refill=NEVER):
+        self.world, self.reports, self.printed = World(params, refill), {}, []
+        self.refused, self.events = [], [0, 0]
 
     def copy(self):
-        other = State(self.world.params)
+        other = State(self.world.params, self.world.refill)
         other.world, other.reports, other.printed = self.world.copy(), dict(self.reports), list(self.printed)
         other.refused, other.events = list(self.refused), list(self.events)
         return other
@@ -201,7 +202,8 @@ class Run:
 
     def __init__(self, reader):
         self.generator = Pcg64(reader.seed[0] if reader.seed else 0)
-        self.states, self.is_determined = [State(reader.params or DEFAULT_PARAMS)], True
+        params, (refill,) = reader.params or DEFAULT_PARAMS, reader.refill or (NEVER,)
+        self.states, self.is_determined = [State(params, refill)], True
         for said, words, place in reader.lines:
             if said[0] == "sections":
                 self.block(said[1])

@@ -5,6 +5,7 @@ import random
 
 import corpus
 import random_inputs
+from nodes import ALONE, ALWAYS, REFILLS
 from second_opinion import answer_analyse
 
 EXAMPLES = corpus.FOLDER.parent.parent.parent / "examples"
@@ -13,6 +14,8 @@ LONGEST = {"certificate": 6000, "scenario": 2000, "graph": 2000, "arguments": 40
 RANDOM_SEEDS = {"certificate": 60, "scenario": 300, "graph": 60, "arguments": 0}
 # Random scenarios that notice rules of plant.py which few others notice.
 TELLING = (65, 217, 736, 486, 672, 877, 986, 927, 966, 974, 1037, 1043, 264, 437, 96, 237, 362, 35, 109, 159)
+# Seeds of those in which DISCONNECT may start an attempt: if nobody is active, or always where the seed is odd.
+REFILLED = (0, 2, 4, 26, 38, 50, 25, 11, 33, 45)
 TRIANGLE = b"""params 3 3 2 1 3 1 2
 boot 1
 boot 2 by 1
@@ -26,6 +29,9 @@ deliver 0
 """
 # Node 2 and node 3 become lazy to each other. Then 3 hears of a message before it comes.
 ANNOUNCED = b"broadcast 1 a\n" + b"deliver 0\n" * 6 + b"broadcast 1 b\ndeliver 0\ndeliver 1\n"
+# Node 3 takes the only place at node 1, so node 2 is told DISCONNECT, and is left alone.
+DROPPED = (b"params 1 3 0 0 0 0 1\n", b"boot 1\nboot 2 by 1\ndeliver 0\ndeliver 0\nboot 3 by 1\n" + b"deliver 0\n" * 2
+           + b"packets\nshow 2\n")
 # Rules that random scenarios hardly reach.
 DIRECTED = (
     b"boot 1\r\r\nboot 2\n", b"boot 1\nboot 2\r", b"boot 1\r\nboot 2\r\n",
@@ -33,6 +39,9 @@ DIRECTED = (
     TRIANGLE + b"words 0\nshuffle 1\npackets\n", TRIANGLE + b"words 1 1\nshuffle 1\npackets\n",
     TRIANGLE + ANNOUNCED + b"timer 3 1 1\npackets\ntimer 3 1 1\ntimer 3 1 1\n",
     TRIANGLE + ANNOUNCED + b"deliver 0\ntimer 3 1 1\nshow 3\n",
+    *(b"refill %s\n".join(DROPPED) % rule.encode() for rule in REFILLS), b"".join(DROPPED),
+    b"refill alone\nrefill alone\n", b"boot 1\nrefill always\n", b"together\nrefill alone\nend\n", b"refill\n",
+    b"refill sometimes\n", b"refill always never\n", b"refill Always\n", b"refill always\nseed 1\nboot 1\n",
 )
 # Command lines of the commands that turn one file into another, and of answers in names: a word each.
 COMMANDS = (
@@ -89,6 +98,11 @@ def scenario(source):
     return random_inputs.scenario(source) if source.random() < 0.2 else random_inputs.guided(source)
 
 
+def refilled(at):
+    """A random scenario in which DISCONNECT may start an attempt."""
+    return random_inputs.guided(random.Random(f"refilled {at}"), (ALONE, ALWAYS)[at % 2])
+
+
 MAKERS = {"certificate": certificate, "scenario": scenario, "graph": graph_with_options}
 
 
@@ -96,7 +110,8 @@ def random_ones(target):
     """The random seeds of a target, the same in each sitting; of scenarios also those that are chosen above."""
     chosen = []
     if target == "scenario":
-        chosen = [*DIRECTED, *(random_inputs.guided(random.Random(f"telling {at}")) for at in TELLING)]
+        chosen = [*DIRECTED, *(random_inputs.guided(random.Random(f"telling {at}")) for at in TELLING),
+                  *map(refilled, REFILLED)]
     return chosen + [MAKERS[target](random.Random(f"{target} {at}")) for at in range(RANDOM_SEEDS[target])]
 
 

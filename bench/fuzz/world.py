@@ -1,7 +1,7 @@
 """A world of nodes and its events, by docs/PROTOCOL.md alone."""
 
 from connectivity import Graph
-from nodes import JOIN, Node
+from nodes import JOIN, NEVER, Node
 
 MOST_BORN, MOST_ENTRIES, MOST_PACKETS, MOST_SENT = 256, 65536, 65536, 64
 MOST_BROADCASTS, LONGEST_PAYLOAD = 4096, 1024
@@ -22,13 +22,13 @@ def demand(true, number):
 class World:
     """The nodes that were born, of which a crashed one is None; the packets on their way; the number of entries."""
 
-    def __init__(self, params):
-        self.params, self.nodes, self.packets, self.entries = params, {}, [], 0
+    def __init__(self, params, refill=NEVER):
+        self.params, self.refill, self.nodes, self.packets, self.entries = params, refill, {}, [], 0
         self.moments = {}
 
     def copy(self):
         """An equal world."""
-        other = World(self.params)
+        other = World(self.params, self.refill)
         other.nodes = {name: node and node.copy() for name, node in self.nodes.items()}
         other.packets, other.entries, other.moments = list(self.packets), self.entries, dict(self.moments)
         return other
@@ -67,7 +67,7 @@ class World:
             self.live(contact)
         demand(len(self.nodes) < MOST_BORN, TOO_MANY_NODES)
         self.demand_room()
-        node = self.nodes[name] = Node(name, self.params)
+        node = self.nodes[name] = Node(name, self.params, self.refill)
         node.begin(words)
         if contact is not None:
             node.send(contact, JOIN)

@@ -1,23 +1,27 @@
 #!/usr/bin/env python3
-"""compare.py [--overlay PROGRAM] [--grows] [--simulate PROGRAM] [--count N] [--first SEED]: grows N overlays with
-options drawn at random, and holds others against grow.py:
+"""compare.py [--overlay PROGRAM] [--grows] [--simulate PROGRAM] [--rules] [--count N] [--first SEED]: grows N overlays
+with options drawn at random, and holds others against grow.py:
 
   --overlay   the scenario, run strictly by this program, prints event for event what growing saw, and no line is
               refused
   --grows     and its `overlay grow` prints the same scenario, and its `overlay sweep` the same row
   --simulate  this simulation prints the same scenario, and the same row
+  --rules     each overlay is grown by each rule at DISCONNECT, in place of one that is drawn; and then the rows of a
+              sweep of twelve settings are compared, four with each rule
 
 It ends with status 1 at the first difference. The same seeds give the same options.
 """
 
 import argparse
+import dataclasses
+import itertools
 import random
 import subprocess
 import sys
 from collections import Counter
 
 from grow import Growing
-from options import LIMITS, Options
+from options import CHOICES, LIMITS, Options
 from rows import header, row_of
 from world import Refusal
 
@@ -43,6 +47,7 @@ def drawn(seed):
     options.rounds, options.heal = draw.randint(0, 4), draw.randint(0, 3)
     options.crash, options.crash_cut = draw.choice([(0, False), (draw.randint(1, 60), False), (0, True)])
     options.broadcasts = draw.choice([0, 1, draw.randint(1, 6), draw.choice([2, 200])])
+    options.refill = draw.choice(CHOICES["refill"])
     return options
 
 
@@ -93,21 +98,52 @@ def differences(given, options):
         yield "simulate --csv", first_difference(row, run(given.simulate, [*words, "--csv"])[1].split("\n")[1])
 
 
+def settings(given):
+    """The options of each overlay."""
+    for seed in range(given.first, given.first + given.count):
+        options = drawn(seed)
+        rules = CHOICES["refill"] if given.rules else [options.refill]
+        yield from (dataclasses.replace(options, refill=rule) for rule in rules)
+
+
+def rows_of_sweep():
+    """The rows of the sweep of twelve settings, as grow.py has them."""
+    lines = [header()]
+    for nodes, active, rule, seed in itertools.product((20, 40), (3, 5), CHOICES["refill"], range(2)):
+        growing = Growing(Options(nodes=nodes, active=active, refill=rule, crash=20, seed=seed))
+        growing.grow()
+        lines.append(row_of(growing.options, growing.phases))
+    return "\n".join([*lines, ""])
+
+
+def sweep_differences(given):
+    """How the rows of the sweep of twelve settings differ, in words."""
+    rules = ",".join(CHOICES["refill"])
+    words = f"--nodes 20,40 --active 3,5 --refill {rules} --crash 20 --runs 2".split(" ")
+    rows = rows_of_sweep()
+    if given.overlay and given.grows:
+        yield "overlay sweep of lists", first_difference(rows, run(given.overlay, ["sweep", *words])[1])
+    if given.simulate:
+        yield "simulate --csv of lists", first_difference(rows, run(given.simulate, [*words, "--csv"])[1])
+
+
 def main():
     parser = argparse.ArgumentParser(description=__doc__, formatter_class=argparse.RawDescriptionHelpFormatter)
     parser.add_argument("--overlay")
     parser.add_argument("--simulate")
     parser.add_argument("--grows", action="store_true")
+    parser.add_argument("--rules", action="store_true")
     parser.add_argument("--count", type=int, default=50)
     parser.add_argument("--first", type=int, default=0)
     given = parser.parse_args()
     held = Counter()
-    for seed in range(given.first, given.first + given.count):
-        options = drawn(seed)
-        for where, difference in differences(given, options):
+    compared = [(options.heading(), differences(given, options)) for options in settings(given)]
+    compared += [("sweep of lists", sweep_differences(given))] if given.rules else []
+    for name, found in compared:
+        for where, difference in found:
             held[where] += 1
             if difference:
-                print(f"{options.heading()}\n{where}: {difference}")
+                print(f"{name}\n{where}: {difference}")
                 return 1
     print(", ".join(f"{count} times {where}" for where, count in held.items()), "agreed")
     return 0

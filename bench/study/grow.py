@@ -13,6 +13,7 @@ import sys
 sys.path.insert(0, str(pathlib.Path(__file__).resolve().parents[1] / "fuzz"))
 
 from connectivity import Analysis  # noqa: E402
+from nodes import NEVER  # noqa: E402
 from options import SEEDS, add_options, options_of  # noqa: E402
 from pcg import Pcg64  # noqa: E402
 from rows import Phase, header, row_of  # noqa: E402
@@ -49,7 +50,8 @@ class Growing:
     """An overlay that grows: its world, the lines so far, what a run of them prints, and the phases that ended."""
 
     def __init__(self, options):
-        self.options, self.world, self.choices = options, World(options.params()), Choices(options.seed)
+        self.options, self.choices = options, Choices(options.seed)
+        self.world = World(options.params(), options.refill)
         self.words, self.lines, self.printed, self.phases = Pcg64(options.seed), [], [], []
         self.loss, self.is_healing, self.deliveries = options.loss_join, False, 0
 
@@ -185,6 +187,8 @@ class Growing:
             "params {} {} {} {} {} {} {}".format(*options.params()),
             f"seed {options.seed}",
         ]
+        if options.refill != NEVER:
+            self.lines.append(f"refill {options.refill}")
         self.join()
         self.crash(self.settle())
         self.heal()

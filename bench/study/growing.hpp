@@ -16,8 +16,7 @@ struct Options {
     unsigned rounds = 3, crash = 0;
     bool crash_cut = false;
     unsigned heal = 2, broadcasts = 0;
-    // for the study alone, and no options of the tool
-    Change change = Change::None;
+    // for the study alone, and no option of the tool
     bool reports_at_once = false;
 };
 
@@ -55,7 +54,7 @@ class Growing {
   public:
     /// `most_exact`: up to so many nodes the node connectivity is found exactly.
     Growing(const Options& options, uint32_t most_exact, bool keeps_lines)
-        : world(options.params, options.seed, options.nodes, options.change),
+        : world(options.params, options.seed, options.nodes),
           options(options),
           choices(options.seed),
           most_exact(most_exact),

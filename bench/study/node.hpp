@@ -11,12 +11,14 @@ using Id = uint32_t;
 /// No node has this id.
 constexpr Id NOBODY = 0;
 
+/// When a DISCONNECT from an active member starts an attempt: never, which is the profile's rule, if nobody is active
+/// any more, or always.
+enum class Refill : uint8_t { Never, Alone, Always };
+
 struct Params {
     unsigned active = 5, passive = 30, arwl = 6, prwl = 3, ka = 3, kp = 4, ttl = 4;
+    Refill refill = Refill::Never;
 };
-
-/// A rule of the profile that is changed, to see what it does. None is part of the profile.
-enum class Change { None, AttemptAtDisconnect, AttemptWhenAlone };
 
 /// Some ids, ascending.
 class Ids {
@@ -102,8 +104,8 @@ struct Node {
 /// A node while it takes a step.
 class Step {
   public:
-    Step(const Params& params, Change change, Node& node, Pcg64 words, uint32_t entry, std::vector<Packet>& sends)
-        : params(params), change(change), node(node), words(words), entry(entry), sends(sends) {}
+    Step(const Params& params, Node& node, Pcg64 words, uint32_t entry, std::vector<Packet>& sends)
+        : params(params), node(node), words(words), entry(entry), sends(sends) {}
 
     /// Whether the step delivers a broadcast.
     bool delivers = false;
@@ -323,9 +325,7 @@ class Step {
         if (!node.active.has(sender)) return;
         down(sender, Loss::Disconnect);
         add_passive(sender);
-        bool begins =
-            change == Change::AttemptAtDisconnect || (change == Change::AttemptWhenAlone && node.active.empty());
-        if (begins) {
+        if (params.refill == Refill::Always || (params.refill == Refill::Alone && node.active.empty())) {
             node.tried.clear();
             go_on();
         }
@@ -391,7 +391,6 @@ class Step {
     }
 
     const Params& params;
-    Change change;
     Node& node;
     Pcg64 words;
     uint32_t entry;

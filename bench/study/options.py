@@ -21,6 +21,7 @@ class Options:
     ka: int = 3
     kp: int = 4
     ttl: int = 4
+    refill: str = "never"
     seed: int = 0
     loss_join: int = 0
     loss: int = 0
@@ -34,7 +35,7 @@ class Options:
     broadcasts: int = 0
 
     def params(self):
-        """The parameters of nodes, in the order of a line `params`."""
+        """The numbers among the parameters of nodes, in the order of a line `params`."""
         return self.active, self.passive, self.arwl, self.prwl, self.ka, self.kp, self.ttl
 
     def heading(self):
@@ -71,6 +72,9 @@ LIMITS = {
     "broadcasts": (0, 1000),
 }
 
+# The words of each option that takes a word.
+CHOICES = {"refill": ("never", "alone", "always"), "order": ("random", "oldest")}
+
 
 def within(least, most):
     """What reads a number within limits."""
@@ -91,8 +95,8 @@ def add_options(parser):
         name = "--" + field.name.replace("_", "-")
         if field.name == "crash_cut":
             place.add_argument(name, action="store_true")
-        elif field.name == "order":
-            place.add_argument(name, choices=["random", "oldest"], default=field.default)
+        elif field.name in CHOICES:
+            place.add_argument(name, choices=CHOICES[field.name], default=field.default)
         else:
             place.add_argument(name, type=within(*LIMITS[field.name]), default=field.default)
 

@@ -11,6 +11,7 @@ OPTIONS = (
     "ka",
     "kp",
     "ttl",
+    "refill",
     "loss_join",
     "loss",
     "repeat",

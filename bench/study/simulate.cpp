@@ -34,10 +34,8 @@ settings are grown, that of the first option of the table varying slowest, each 
                join; and one for each birth that made one component of several
   --exact N    up to N nodes the node connectivity is found exactly (512); beyond that only whether it is 0
 
-What no node of the profile does, to see what it would change:
-  --change attempt-at-disconnect   a DISCONNECT of an active member starts an attempt, as its crash does
-  --change attempt-when-alone      the same, but only if nobody is active any more
-  --reports-at-once                all reports come before a packet moves when the overlay begins to heal
+What the tool has no option for:
+  --reports-at-once   all reports come before a packet moves when the overlay begins to heal
 )";
 
 [[noreturn]] void refuse(const std::string& why) {
@@ -55,18 +53,21 @@ struct Limits {
 };
 
 constexpr uint64_t ANY = UINT64_MAX;
-constexpr Limits TABLE[] = {{"nodes", 1, 100000000}, {"active", 1, 16},      {"passive", 1, 64},  {"arwl", 0, 15},
-                            {"prwl", 0, 15},         {"ka", 0, 8},           {"kp", 0, 8},        {"ttl", 1, 15},
-                            {"seed", 0, ANY},        {"loss-join", 0, 100},  {"loss", 0, 100},    {"repeat", 0, 99},
-                            {"order", 0, 0},         {"pace", 0, 65536},     {"rounds", 0, 1000}, {"crash", 0, 99},
-                            {"heal", 0, 1000},       {"broadcasts", 0, 1000}};
+constexpr Limits TABLE[] = {{"nodes", 1, 100000000}, {"active", 1, 16}, {"passive", 1, 64},     {"arwl", 0, 15},
+                            {"prwl", 0, 15},         {"ka", 0, 8},      {"kp", 0, 8},           {"ttl", 1, 15},
+                            {"refill", 0, 0},        {"seed", 0, ANY},  {"loss-join", 0, 100},  {"loss", 0, 100},
+                            {"repeat", 0, 99},       {"order", 0, 0},   {"pace", 0, 65536},     {"rounds", 0, 1000},
+                            {"crash", 0, 99},        {"heal", 0, 1000}, {"broadcasts", 0, 1000}};
 
 using Setting = std::map<std::string, std::string>;
 
-const Setting DEFAULTS = {{"nodes", "100"}, {"active", "5"}, {"passive", "30"},   {"arwl", "6"}, {"prwl", "3"},
-                          {"ka", "3"},      {"kp", "4"},     {"ttl", "4"},        {"seed", "0"}, {"loss-join", "0"},
-                          {"loss", "0"},    {"repeat", "0"}, {"order", "random"}, {"pace", ""},  {"rounds", "3"},
-                          {"crash", "0"},   {"heal", "2"},   {"broadcasts", "0"}};
+const Setting DEFAULTS = {{"nodes", "100"},   {"active", "5"}, {"passive", "30"}, {"arwl", "6"},       {"prwl", "3"},
+                          {"ka", "3"},        {"kp", "4"},     {"ttl", "4"},      {"refill", "never"}, {"seed", "0"},
+                          {"loss-join", "0"}, {"loss", "0"},   {"repeat", "0"},   {"order", "random"}, {"pace", ""},
+                          {"rounds", "3"},    {"crash", "0"},  {"heal", "2"},     {"broadcasts", "0"}};
+
+const std::map<std::string, Refill> REFILLS = {
+    {"never", Refill::Never}, {"alone", Refill::Alone}, {"always", Refill::Always}};
 
 uint64_t number(const std::string& name, const std::string& text) {
     char* end;
@@ -81,6 +82,10 @@ std::string value_of(const Limits& option, const std::string& text) {
     std::string name = option.name;
     if (name == "order") {
         if (text != "random" && text != "oldest") refuse("--order is random or oldest");
+        return text;
+    }
+    if (name == "refill") {
+        if (!REFILLS.count(text)) refuse("--refill is never, alone or always");
         return text;
     }
     if (name == "crash" && text == "cut") return text;
@@ -105,7 +110,7 @@ Options options_of(Setting said) {
     options.nodes = as_number("nodes");
     options.params = {unsigned(as_number("active")), unsigned(as_number("passive")), unsigned(as_number("arwl")),
                       unsigned(as_number("prwl")),   unsigned(as_number("ka")),      unsigned(as_number("kp")),
-                      unsigned(as_number("ttl"))};
+                      unsigned(as_number("ttl")),    REFILLS.at(said["refill"])};
     if (options.params.prwl > options.params.arwl) refuse("--prwl is larger than --arwl");
     options.seed = as_number("seed");
     options.loss_join = as_number("loss-join");
@@ -308,13 +313,11 @@ struct Request {
     std::map<std::string, std::vector<std::string>> lists;
     uint64_t runs = 1, exact = 512;
     Mode mode = Mode::People;
-    Change change = Change::None;
     bool reports_at_once = false;
 };
 
 void run(const Request& request, const Setting& said) {
     Options options = options_of(said);
-    options.change = request.change;
     options.reports_at_once = request.reports_at_once;
     Growing growing(options, request.exact, request.mode == Mode::Scenario);
     if (request.mode == Mode::People) printf("%s\n", heading(said).c_str());
@@ -332,8 +335,9 @@ void run(const Request& request, const Setting& said) {
     if (request.mode == Mode::Csv) print_csv(said, options, growing);
     if (request.mode == Mode::Scenario) {
         const Params& p = options.params;
-        printf("# %s\nparams %u %u %u %u %u %u %u\nseed %lu\n%s", heading(said).c_str(), p.active, p.passive, p.arwl,
-               p.prwl, p.ka, p.kp, p.ttl, options.seed, growing.lines.c_str());
+        std::string rule = p.refill == Refill::Never ? "" : "refill " + said.at("refill") + "\n";
+        printf("# %s\nparams %u %u %u %u %u %u %u\nseed %lu\n%s%s", heading(said).c_str(), p.active, p.passive, p.arwl,
+               p.prwl, p.ka, p.kp, p.ttl, options.seed, rule.c_str(), growing.lines.c_str());
     }
 }
 
@@ -368,8 +372,6 @@ Request request_of(int count, char** words) {
     const std::map<std::string, Mode> modes = {
         {"csv", Mode::Csv},     {"scenario", Mode::Scenario}, {"fates", Mode::Fates}, {"degrees", Mode::Degrees},
         {"alone", Mode::Alone}, {"splits", Mode::Splits},     {"graph", Mode::Graph}};
-    const std::map<std::string, Change> changes = {{"attempt-at-disconnect", Change::AttemptAtDisconnect},
-                                                   {"attempt-when-alone", Change::AttemptWhenAlone}};
     for (int at = 1; at < count; at++) {
         std::string word = words[at], name = word.substr(0, 2) == "--" ? word.substr(2) : "";
         auto next = [&] { return ++at < count ? std::string(words[at]) : (refuse(word + " lacks its value"), ""); };
@@ -386,10 +388,6 @@ Request request_of(int count, char** words) {
             request.mode = modes.at(name);
         } else if (name == "reports-at-once") {
             request.reports_at_once = true;
-        } else if (name == "change") {
-            auto change = changes.find(next());
-            if (change == changes.end()) refuse("no such change");
-            request.change = change->second;
         } else {
             refuse("no option " + word);
         }

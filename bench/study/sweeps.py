@@ -10,6 +10,7 @@ ROWS = pathlib.Path(__file__).resolve().parent / "out"
 # Rows of `overlay sweep`, which `simulate --csv` makes too.
 SWEEPS = {
     "active": "--nodes 50,100,150,200 --active 3,4,5,6,7,8,9,10,12 --crash 20 --runs 500",
+    "rules": "--nodes 50,100,200 --active 3,4,5,6,8 --refill never,alone,always --crash 20 --runs 500",
     "crash": "--nodes 200 --active 5,6,8,10 --crash 0,10,20,30,50,cut --broadcasts 5 --runs 200",
     "passive": "--nodes 200 --active 5,8 --passive 1,2,5,10,30,60 --crash 30 --runs 200",
     "loss": "--nodes 200 --active 5,8,10 --loss 0,1,5,10,20 --crash 20 --broadcasts 5 --runs 200",
@@ -17,6 +18,11 @@ SWEEPS = {
     "walks": "--nodes 200 --active 5,8 --arwl 3,4,6,10,15 --runs 500",
     "pace": "--nodes 200 --active 5,8 --pace 0,5,20,50,100 --runs 200",
     "rounds": "--nodes 200 --active 5,8 --rounds 0,1,3,10 --crash 30 --heal 0,2 --runs 200",
+    "rules-crash": "--nodes 200 --refill never,alone,always --crash 0,20,50,cut --runs 200",
+    "rules-passive": "--nodes 200 --passive 1 --refill never,alone,always --crash 20 --runs 200",
+    "rules-loss-join": "--nodes 200 --refill never,alone,always --loss-join 1 --crash 20 --runs 200",
+    "rules-loss": "--nodes 200 --refill never,alone,always --loss 5 --crash 20 --runs 200",
+    "rules-pace": "--nodes 200 --refill never,alone,always --pace 0 --crash 20 --runs 200",
 }
 # Rows of `simulate` alone.
 SIMULATED = {
@@ -28,16 +34,21 @@ SIMULATED = {
     "large-100000": "--nodes 100000 --active 3,4,5,6,7,8,9,10,12,16 --rounds 0 --heal 0 --runs 3 --fates",
     "degrees-5": "--nodes 100000 --rounds 0 --heal 0 --runs 3 --degrees",
     "degrees-8": "--nodes 100000 --active 8 --rounds 0 --heal 0 --runs 3 --degrees",
-    "whole": "--nodes 50,100,200 --active 5,8 --crash 20 --runs 500 --csv",
-    "at-disconnect": "--nodes 50,100,200 --active 5,8 --crash 20 --runs 500 --csv --change attempt-at-disconnect",
-    "when-alone": "--nodes 50,100,200 --active 5,8 --crash 20 --runs 500 --csv --change attempt-when-alone",
-    "large-when-alone": "--nodes 10000,100000 --active 5,8 --rounds 0 --heal 0 --runs 3 --fates"
-    " --change attempt-when-alone",
-    "large-at-disconnect": "--nodes 10000,100000 --active 5,8 --rounds 0 --heal 0 --runs 3 --fates"
-    " --change attempt-at-disconnect",
+    "alone-1000": "--nodes 1000 --active 4,5,6,8,10 --refill alone --rounds 0 --heal 0 --runs 100 --fates",
+    "alone-10000": "--nodes 10000 --active 4,5,6,8,10 --refill alone --rounds 0 --heal 0 --runs 30 --fates",
+    "alone-100000": "--nodes 100000 --active 4,5,6,8,10 --refill alone --rounds 0 --heal 0 --runs 3 --fates",
+    "always-1000": "--nodes 1000 --active 3,4,5,6 --refill always --rounds 0 --heal 0 --runs 100 --fates",
+    "always-10000": "--nodes 10000 --active 3,4,5,6 --refill always --rounds 0 --heal 0 --runs 30 --fates",
+    "always-100000": "--nodes 100000 --active 3,4,5,6 --refill always --rounds 0 --heal 0 --runs 3 --fates",
     "at-once": "--nodes 50,100,200 --active 5,8 --crash 20 --runs 500 --csv --reports-at-once",
 }
 LARGE = ("large-100", "large-1000", "large-10000", "large-100000")
+# The same by each rule at DISCONNECT.
+LARGE_BY = {
+    "never": LARGE[1:],
+    "alone": ("alone-1000", "alone-10000", "alone-100000"),
+    "always": ("always-1000", "always-10000", "always-100000"),
+}
 
 
 def make(name, simulate, overlay, workers):

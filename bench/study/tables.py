@@ -3,7 +3,8 @@
 from collections import Counter
 
 from mean_field import WALK, shares_of
-from sweeps import LARGE, SWEEPS, grouped, mean, numbers, quantile, rows, split, wilson
+from options import CHOICES
+from sweeps import LARGE, LARGE_BY, SWEEPS, grouped, mean, numbers, quantile, rows, split, wilson
 
 
 def percent(hits, count):
@@ -98,74 +99,139 @@ def splits():
     ]
 
 
-def changes():
-    """What other rules would do."""
+def rules():
+    """How often an overlay is split by each rule at DISCONNECT."""
+    found = grouped("rules", "refill", "active", "nodes")
     lines = []
-    for name, said in (
-        ("whole", "as it is"),
-        ("when-alone", "when alone"),
-        ("at-disconnect", "at each DISCONNECT"),
-        ("at-once", "as it is, reports at once"),
-    ):
-        for size in ("5", "8"):
-            some = [grouped(name, "nodes", "active")[nodes, size] for nodes in ("50", "100", "200")]
-            lines.append(
-                [
-                    said,
-                    size,
-                    *(plain(split(it, "settle") / len(it)) for it in some),
-                    median(some[-1], "settle"),
-                    f"{mean(some[-1], 'settle_entries'):,.0f}",
-                    plain(split(some[-1], "heal") / len(some[-1])),
-                    median(some[-1], "heal"),
-                ]
-            )
-    return table(
-        [
-            "rule",
-            "active size",
-            "50 nodes, % split",
-            "100 nodes",
-            "200 nodes",
-            "median k of 200",
-            "events of 200 until settled",
-            "% split after healing",
-            "median k then",
-        ],
-        lines,
-    )
+    for rule, size in dict.fromkeys(key[:2] for key in found):
+        some = [found[rule, size, nodes] for nodes in ("50", "100", "200")]
+        large = some[-1]
+        lines.append(
+            [
+                f"`{rule}`",
+                size,
+                *(plain(split(it, "settle") / len(it)) for it in some),
+                quartiles(large, "settle"),
+                f"{mean(large, 'settle_entries'):,.0f}",
+                plain(split(large, "heal") / len(large)),
+                quartiles(large, "heal"),
+            ]
+        )
+    head = ["rule", "active size", "50 nodes, % split", "100 nodes", "200 nodes", "k of 200, quartiles"]
+    return table([*head, "events of 200 until settled", "healed: % split", "k then"], lines)
 
 
-def changes_large():
-    """What other rules would do past 256 nodes."""
+def at_once():
+    """What reports do that come all at once."""
+    found, usual = grouped("at-once", "active", "nodes"), grouped("rules", "active", "nodes", "refill")
+    lines = [
+        [
+            size,
+            nodes,
+            *(
+                part
+                for some in (usual[size, nodes, "never"], found[size, nodes])
+                for part in (plain(split(some, "heal") / len(some)), median(some, "heal"))
+            ),
+        ]
+        for size, nodes in found
+    ]
+    head = ["active size", "nodes", "one by one: % split after healing", "median k", "at once: % split after healing"]
+    return table([*head, "median k"], lines)
+
+
+REFILLS = CHOICES["refill"]
+# The share of split overlays that a designer may bear.
+FEW = 0.01
+# What befalls overlays of 200 nodes: the sweep, which of its rows, and how it is said.
+HAZARDS = (
+    ("rules-crash", {"crash": "0"}, "nothing"),
+    ("rules-crash", {"crash": "20"}, "20 of 100 crash"),
+    ("rules-crash", {"crash": "50"}, "50 of 100 crash"),
+    ("rules-crash", {"crash": "cut"}, "the cut crashes"),
+    ("rules-passive", {}, "passive size 1, 20 of 100 crash"),
+    ("rules-loss", {}, "5 of 100 packets lost after all have joined, 20 of 100 crash"),
+    ("rules-loss-join", {}, "1 of 100 packets lost while nodes join, 20 of 100 crash"),
+    ("rules-pace", {}, "all are born at once, 20 of 100 crash"),
+)
+
+
+def hazards():
+    """What crashes, loss and so on do by each rule at DISCONNECT."""
     lines = []
-    for name, said in (
-        ("large-when-alone", "when alone"),
-        ("large-at-disconnect", "at each DISCONNECT"),
-    ):
-        for (size, nodes), some in grouped(name, "active", "nodes").items():
-            parts = sum(numbers(some, "components")) - len(some)
+    for name, options, said in HAZARDS:
+        found = grouped(name, "refill", *options)
+        by_rule = [found[rule, *options.values()] for rule in REFILLS]
+        cells = [(plain(split(some, "heal") / len(some)), median(some, "heal")) for some in by_rule]
+        lines.append([said, *(cell for pair in cells for cell in pair)])
+    head = [word for rule in REFILLS for word in (f"`{rule}`: % split", "median k")]
+    return table(["what befalls them", *head], lines)
+
+
+def large_by(rule):
+    """The rows of large overlays by a rule, by nodes and active size."""
+    found = {}
+    for name in LARGE_BY[rule]:
+        for row in rows(name):
+            found.setdefault((int(row["nodes"]), int(row["active"])), []).append(row)
+    return found
+
+
+def rules_large():
+    """What the rules at DISCONNECT do past 256 nodes."""
+    lines = []
+    for rule in ("alone", "always"):
+        for (nodes, size), some in large_by(rule).items():
             lines.append(
                 [
-                    said,
+                    f"`{rule}`",
+                    f"{nodes:,}",
                     size,
-                    f"{int(nodes):,}",
-                    f"{sum(row['components'] != '1' for row in some)}",
-                    f"{1e5 * parts / (int(nodes) * len(some)):.1f}",
-                    f"{mean(some, 'least_degree'):.1f}",
+                    len(some),
+                    plain(share_split(some)),
+                    f"{1e5 * cut_off(some) / (nodes * len(some)):.1f}",
+                    f"{mean(some, 'least_degree'):.2f}",
                 ]
             )
-    return table(
-        [
-            "rule",
-            "active size",
-            "nodes",
-            "split of 3",
-            "components but one, of 100,000",
-            "least degree, mean",
-        ],
-        lines,
-    )
+    head = ["rule", "nodes", "active size", "overlays", "% split", "components but one, of 100,000"]
+    return table([*head, "least degree, mean"], lines)
+
+
+def share_split(some):
+    """The share of large overlays that are split."""
+    return sum(row["components"] != "1" for row in some) / len(some)
+
+
+def cut_off(some):
+    """How many components but the first some overlays have."""
+    return sum(numbers(some, "components")) - len(some)
+
+
+def advice():
+    """Which active size is enough by each rule at DISCONNECT: the least one from which on few overlays are split."""
+    lines = []
+    for rule, does, who in (
+        ("always", "looks for another neighbour", "iroh-gossip"),
+        ("alone", "looks for one if it has no other", "Partisan"),
+        ("never", "does nothing", "the profile, the paper's listing"),
+    ):
+        by_tool = grouped("active" if rule == "never" else "rules", "nodes", "active", "refill")
+        shares = {
+            (int(nodes), int(size)): split(some, "settle") / len(some)
+            for (nodes, size, by), some in by_tool.items()
+            if by == rule and nodes in ("100", "200")
+        }
+        shares |= {place: share_split(some) for place, some in large_by(rule).items()}
+        least = [enough(shares, nodes) for nodes in (100, 200, 1000, 10000, 100000)]
+        lines.append([does, f"`{rule}`", who, *least])
+    head = ["a node that is told DISCONNECT", "`--refill`", "such as", "100 nodes", "200", "1,000", "10,000"]
+    return table([*head, "100,000"], lines)
+
+
+def enough(shares, nodes):
+    """The least active size from which on few overlays of so many nodes are split."""
+    many = [size for (count, size), share in shares.items() if count == nodes and share > FEW]
+    return min((size for count, size in shares if count == nodes and size > max(many, default=0)), default="more")
 
 
 def crash():
@@ -335,15 +401,14 @@ def large():
             if size not in ("5", "8", "10"):
                 continue
             total = int(nodes) * len(some)
-            cut_off = sum(numbers(some, "components")) - len(some)
             lines.append(
                 [
                     f"{int(nodes):,}",
                     size,
                     len(some),
-                    plain(sum(row["components"] != "1" for row in some) / len(some)),
+                    plain(share_split(some)),
                     f"{1e5 * sum(numbers(some, 'alone')) / total:.1f}",
-                    f"{1e5 * cut_off / total:.1f}",
+                    f"{1e5 * cut_off(some) / total:.1f}",
                     f"{mean(some, 'least_degree'):.2f}",
                 ]
             )
@@ -406,8 +471,11 @@ TABLES = {
     "active": (active, ["active"]),
     "fates": (fates, ["fates"]),
     "splits": (splits, ["splits"]),
-    "changes": (changes, ["whole", "when-alone", "at-disconnect", "at-once"]),
-    "changes-large": (changes_large, ["large-when-alone", "large-at-disconnect"]),
+    "rules": (rules, ["rules"]),
+    "rules-large": (rules_large, [*LARGE_BY["alone"], *LARGE_BY["always"]]),
+    "advice": (advice, ["rules", "active", *(name for names in LARGE_BY.values() for name in names)]),
+    "at-once": (at_once, ["at-once", "rules"]),
+    "hazards": (hazards, ["rules-crash", "rules-passive", "rules-loss", "rules-loss-join", "rules-pace"]),
     "crash": (crash, ["crash"]),
     "passive": (passive, ["passive"]),
     "loss": (loss, ["loss"]),

@@ -16,8 +16,8 @@ constexpr int TOO_MANY_PACKETS = 15, TOO_MANY_ENTRIES = 16;
 
 class World {
   public:
-    World(const Params& params, uint64_t seed, uint32_t most_nodes, Change change)
-        : params(params), change(change), words(seed), has_limits(most_nodes <= MOST_BORN) {
+    World(const Params& params, uint64_t seed, uint32_t most_nodes)
+        : params(params), words(seed), has_limits(most_nodes <= MOST_BORN) {
         nodes.reserve(most_nodes);
     }
 
@@ -84,14 +84,13 @@ class World {
     template <class Deed>
     void act(Id id, Pcg64 drawn, Deed deed) {
         sends.clear();
-        Step step(params, change, node(id), drawn, entries, sends);
+        Step step(params, node(id), drawn, entries, sends);
         deed(step);
         deliveries += step.delivers;
         for (const Packet& packet : sends) packets.push(packet);
     }
 
     Params params;
-    Change change;
     EventWords words;
     bool has_limits;
     std::vector<Packet> sends;

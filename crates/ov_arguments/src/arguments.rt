@@ -2,9 +2,9 @@ ghost use Rattle.std.specs.Prelude.{◌≡◌, ◌≢◌, ◌<◌, length, map, 
 ghost use Rattle.std.specs.Prelude.{option_map, IfOk, IfSome, IsErrOf};
 ghost use Rattle.std.specs.IoError.{error_kind};
 ghost use Rattle.clap.specs.Words.{found_of, first_value};
-ghost use Rattle.ov_arguments.specs.Arguments.{AreReadable, AreReadableFor, AreTaken, HasGroupOfIds, IsAsked};
+ghost use Rattle.ov_arguments.specs.Arguments.{AreReadable, AreReadableFor, AreTaken, HasGroupOfIds, IsAsked, entry_of};
 ghost use Rattle.ov_arguments.specs.Arguments.{IsOfGiven, file_asked, group_asked, group_names_asked, is_flagged};
-ghost use Rattle.ov_arguments.specs.Arguments.{workers_asked, fault_of_parse, fault_of_text, number_of};
+ghost use Rattle.ov_arguments.specs.Arguments.{workers_asked, fault_of_parse, fault_of_text, format_of, number_of};
 ghost use Rattle.ov_arguments.specs.declared.arguments.ArgumentsFault.TheVariants.{BadArguments};
 ghost use Rattle.ov_arguments.specs.declared.arguments.ArgumentsFault.TheVariants.{OutOfMemory as out_of_memory};
 
@@ -203,27 +203,53 @@ fn request_of(alloc: Global, command: &str, found: &ArgMatches) -> Result<Reques
         return analysis_of(alloc, found);
     }
     if command == "import" {
-        let dump = import_of(found)?;
-        let file = file_of(alloc, found)?;
-        return Ok(Request::Import { file, dump });
+        return dump_of(alloc, found);
     }
     if command == "picture" {
-        let picture = picture_of(alloc, found)?;
-        let file = file_of(alloc, found)?;
-        return Ok(Request::Picture { file, picture });
+        return drawing_of(alloc, found);
     }
     if command == "graph" {
         let file = file_of(alloc, found)?;
         return Ok(Request::Graph { file });
     }
-    Ok(Request::Run {
-        file: file_of(alloc, found)?,
-        run: RunRequest {
-            explain: has_flag(found, "explain"),
-            strict: has_flag(found, "strict"),
-            progress: has_flag(found, "progress"),
-        },
-    })
+    let file = file_of(alloc, found)?;
+    let run = run_of(found);
+    Ok(Request::Run { file, run })
+}
+
+/// The run that is asked for, by what was found after the command.
+fn run_of(found: &ArgMatches) -> RunRequest
+    ensures explain { is_flagged (first_value (found_of found.now) (codes "explain")) ≡ result.explain }
+    ensures strict { is_flagged (first_value (found_of found.now) (codes "strict")) ≡ result.strict }
+    ensures progress { is_flagged (first_value (found_of found.now) (codes "progress")) ≡ result.progress }
+{
+    RunRequest {
+        explain: has_flag(found, "explain"),
+        strict: has_flag(found, "strict"),
+        progress: has_flag(found, "progress"),
+    }
+}
+
+/// The import that is asked for and its file, by what was found after the command.
+fn dump_of(alloc: Global, found: &ArgMatches) -> Result<Request, ArgumentsFault>
+    ensures group { IfOk result HasGroupOfIds }
+    ensures asked { IfOk result (IsAsked (Some (codes "import")) (first_value (found_of found.now))) }
+    ensures readable { format_of (first_value (found_of found.now)) ≢ None → (result ≢ Err BadArguments) }
+{
+    let dump = import_of(found)?;
+    let file = file_of(alloc, found)?;
+    Ok(Request::Import { file, dump })
+}
+
+/// The picture that is asked for and its file, by what was found after the command.
+fn drawing_of(alloc: Global, found: &ArgMatches) -> Result<Request, ArgumentsFault>
+    ensures group { IfOk result HasGroupOfIds }
+    ensures asked { IfOk result (IsAsked (Some (codes "picture")) (first_value (found_of found.now))) }
+    ensures readable { entry_of (first_value (found_of found.now)) ≢ None → (result ≢ Err BadArguments) }
+{
+    let file = file_of(alloc, found)?;
+    let picture = picture_of(alloc, found)?;
+    Ok(Request::Picture { file, picture })
 }
 
 /// The analysis that is asked for, by what was found after the command.

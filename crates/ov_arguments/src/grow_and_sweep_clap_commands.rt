@@ -1,5 +1,5 @@
 use crate::clap_commands_and_help::{self, with_command};
-use crate::growing_option_table::{OPTIONS, ORDERS, OptionForm, SWEEP_OPTIONS, Takes};
+use crate::growing_option_table::{OPTIONS, ORDERS, OptionForm, REFILLS, SWEEP_OPTIONS, Takes};
 use clap::{Arg, ArgAction, Command};
 use std::alloc::{AllocError, Global};
 
@@ -7,6 +7,11 @@ use std::alloc::{AllocError, Global};
 const GROW: &str = "grow";
 
 const SWEEP: &str = "sweep";
+
+/// The commands, as usage begins.
+const GROW_NAME: &str = "overlay grow";
+
+const SWEEP_NAME: &str = "overlay sweep";
 
 /// What help of `overlay grow` says, with examples first.
 const GROW_EXAMPLES: &str = "\
@@ -92,43 +97,89 @@ pub(crate) fn command<'a>(alloc: Global, name: CommandName) -> Result<Command<'a
 
 /// The words after `overlay grow`.
 fn grow_command<'a>(alloc: Global) -> Result<Command<'a>, AllocError> {
-    let mut command = Command::new(alloc, GROW)
-        .bin_name("overlay grow")?
-        .no_binary_name(true)
-        .before_help(GROW_EXAMPLES)
-        .about(GROW_ABOUT)
-        .after_help(GROW_BELOW);
+    let mut command = alone(
+        alloc,
+        GROW,
+        GROW_NAME,
+        GROW_EXAMPLES,
+        GROW_ABOUT,
+        GROW_BELOW,
+    )?;
     for option in &OPTIONS {
-        command = command.arg(one_value(alloc, option)?)?;
+        command = with_argument(command, one_value(alloc, option))?;
     }
     Ok(command)
 }
 
 /// The words after `overlay sweep`.
 fn sweep_command<'a>(alloc: Global) -> Result<Command<'a>, AllocError> {
-    let mut command = Command::new(alloc, SWEEP)
-        .bin_name("overlay sweep")?
-        .no_binary_name(true)
-        .before_help(SWEEP_EXAMPLES)
-        .about(SWEEP_ABOUT)
-        .after_help(SWEEP_BELOW);
+    let numbers = with_numbers(alloc, with_lists(alloc))?;
+    let summary = with_argument(numbers, unlisted(flag(alloc, "summary", SUMMARY)))?;
+    let svg = with_argument(summary, unlisted(text(alloc, "svg", "FILE", SVG)))?;
+    let read = with_argument(svg, files(alloc))?;
+    with_argument(read, Ok(flag(alloc, "progress", PROGRESS)))
+}
+
+/// `overlay sweep` with the options that take lists.
+fn with_lists<'a>(alloc: Global) -> Result<Command<'a>, AllocError> {
+    let mut command = alone(
+        alloc,
+        SWEEP,
+        SWEEP_NAME,
+        SWEEP_EXAMPLES,
+        SWEEP_ABOUT,
+        SWEEP_BELOW,
+    )?;
     for option in &OPTIONS {
-        command = command.arg(list(alloc, option))?;
+        command = with_argument(command, Ok(list(alloc, option)))?;
     }
+    Ok(command)
+}
+
+/// The command with the numbers that only `overlay sweep` takes.
+fn with_numbers<'a>(
+    alloc: Global,
+    lists: Result<Command<'a>, AllocError>,
+) -> Result<Command<'a>, AllocError> {
+    let mut command = lists?;
     for option in &SWEEP_OPTIONS {
-        command = command.arg(with_usual(text(alloc, option.name, "N", option.help), option))?;
+        command = with_argument(command, Ok(number(alloc, option)))?;
     }
-    command
-        .arg(flag(alloc, "summary", SUMMARY).conflicts_with("list")?)?
-        .arg(text(alloc, "svg", "FILE", SVG).conflicts_with("list")?)?
-        .arg(files(alloc)?)?
-        .arg(flag(alloc, "progress", PROGRESS))
+    Ok(command)
+}
+
+/// A command without its options.
+fn alone<'a>(
+    alloc: Global,
+    name: &'a str,
+    whole_name: &'a str,
+    examples: &'a str,
+    about: &'a str,
+    below: &'a str,
+) -> Result<Command<'a>, AllocError> {
+    Ok(
+        Command::new(alloc, name)
+            .bin_name(whole_name)?
+            .no_binary_name(true)
+            .before_help(examples)
+            .about(about)
+            .after_help(below),
+    )
+}
+
+/// With one option more.
+fn with_argument<'a>(
+    command: Command<'a>,
+    more: Result<Arg<'a>, AllocError>,
+) -> Result<Command<'a>, AllocError> {
+    command.arg(more?)
 }
 
 /// An option of `overlay grow`.
 fn one_value<'a>(alloc: Global, option: &'static OptionForm) -> Result<Arg<'a>, AllocError> {
     let arg = match option.takes {
-        Takes::Order => order(alloc, option, "ORDER"),
+        Takes::Order => word(alloc, option, "ORDER", ORDERS.as_slice()),
+        Takes::Refill => word(alloc, option, "RULE", REFILLS.as_slice()),
         Takes::Nothing => return flag(alloc, option.name, option.help).conflicts_with("crash"),
         _ => text(alloc, option.name, "N", option.help),
     };
@@ -138,7 +189,8 @@ fn one_value<'a>(alloc: Global, option: &'static OptionForm) -> Result<Arg<'a>, 
 /// An option of `overlay sweep`, which takes a list; but the seed is that of each first run.
 fn list<'a>(alloc: Global, option: &'static OptionForm) -> Arg<'a> {
     let arg = match option.takes {
-        Takes::Order => order(alloc, option, "ORDER,.."),
+        Takes::Order => word(alloc, option, "ORDER,..", ORDERS.as_slice()),
+        Takes::Refill => word(alloc, option, "RULE,..", REFILLS.as_slice()),
         Takes::Nothing => return flag(alloc, option.name, option.help),
         _ if option.name == SEED => {
             return with_usual(text(alloc, option.name, "N", option.help), option);
@@ -146,6 +198,16 @@ fn list<'a>(alloc: Global, option: &'static OptionForm) -> Arg<'a> {
         _ => text(alloc, option.name, "N,..", option.help),
     };
     with_usual(arg.value_delimiter(','), option)
+}
+
+/// An option that only `overlay sweep` has, and that takes a number.
+fn number<'a>(alloc: Global, option: &'static OptionForm) -> Arg<'a> {
+    with_usual(text(alloc, option.name, "N", option.help), option)
+}
+
+/// The option, which does not stand beside `--list`.
+fn unlisted<'a>(arg: Arg<'a>) -> Result<Arg<'a>, AllocError> {
+    arg.conflicts_with("list")
 }
 
 /// The option, with the text that stands for it if it is not given.
@@ -156,9 +218,14 @@ fn with_usual<'a>(arg: Arg<'a>, option: &'static OptionForm) -> Arg<'a> {
     }
 }
 
-/// An option of this name, with one of the words for whose turn is next.
-fn order<'a>(alloc: Global, option: &'static OptionForm, value: &'static str) -> Arg<'a> {
-    text(alloc, option.name, value, option.help).value_parser(ORDERS.as_slice())
+/// An option of this name, with one of these words.
+fn word<'a>(
+    alloc: Global,
+    option: &'static OptionForm,
+    value: &'static str,
+    words: &'a [&'a str],
+) -> Arg<'a> {
+    text(alloc, option.name, value, option.help).value_parser(words)
 }
 
 /// An option of this name, with a text.
@@ -172,13 +239,20 @@ fn text<'a>(alloc: Global, name: &'static str, value: &'static str, help: &'stat
 
 /// The files of rows that are read.
 fn files<'a>(alloc: Global) -> Result<Arg<'a>, AllocError> {
-    let mut arg = text(alloc, "read", "FILE", READ)
+    let names = growing_names(alloc)?;
+    text(alloc, "read", "FILE", READ)
         .num_args(1..)
-        .conflicts_with("progress")?;
+        .conflicts_with_all(&names)
+}
+
+/// The names of the options that say what grows, or how that is told.
+fn growing_names(alloc: Global) -> Result<Vec<&'static str>, AllocError> {
+    let mut names = Vec::new(alloc);
+    names.push("progress")?;
     for option in OPTIONS.iter().chain(&SWEEP_OPTIONS) {
-        arg = arg.conflicts_with(option.name)?;
+        names.push(option.name)?;
     }
-    Ok(arg)
+    Ok(names)
 }
 
 /// An option of this name, without a text.

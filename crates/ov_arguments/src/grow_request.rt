@@ -54,8 +54,9 @@ fn params_of(alloc: Global, found: &ArgMatches<'_>) -> Result<Params, GrowArgume
     let ka = value(alloc, found, "ka")?;
     let kp = value(alloc, found, "kp")?;
     let ttl = value(alloc, found, "ttl")?;
+    let refill = value(alloc, found, "refill")?;
     match Params::new(active, passive, arwl, prwl, ka, kp, ttl) {
-        Ok(params) => Ok(params),
+        Ok(params) => Ok(params.with_refill(refill)),
         Err(_) => Err(long_walk(alloc, arwl, prwl)?),
     }
 }

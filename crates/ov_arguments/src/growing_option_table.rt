@@ -21,6 +21,8 @@ pub(crate) enum Takes {
     Number(u64, u64),
     /// Whose turn is next.
     Order,
+    /// When a node looks for another active member.
+    Refill,
     /// The turns between two births, or `none`.
     Pace,
     /// How many nodes crash of 100, or `cut`.
@@ -31,6 +33,9 @@ pub(crate) enum Takes {
 
 /// The words that `--order` takes.
 pub(crate) static ORDERS: [&str; 2] = ["random", "oldest"];
+
+/// The words that `--refill` takes.
+pub(crate) static REFILLS: [&str; 3] = ["never", "alone", "always"];
 
 /// The options that `overlay sweep` has besides, and that take a number.
 pub(crate) static SWEEP_OPTIONS: [OptionForm; 3] = [
@@ -54,8 +59,13 @@ pub(crate) static SWEEP_OPTIONS: [OptionForm; 3] = [
     },
 ];
 
+/// What help says of `--refill`.
+const REFILL: &str = "\
+What a node does that an active member sends DISCONNECT: never looks for another one (the profile), looks if it is \
+alone, looks always";
+
 /// The options of growing, in the order of their table.
-pub(crate) static OPTIONS: [OptionForm; 19] = [
+pub(crate) static OPTIONS: [OptionForm; 20] = [
     OptionForm {
         name: "nodes",
         takes: Takes::Number(1, 256),
@@ -103,6 +113,12 @@ pub(crate) static OPTIONS: [OptionForm; 19] = [
         takes: Takes::Number(1, 15),
         usual: Some("4"),
         help: "1 to 15: how far a SHUFFLE walks",
+    },
+    OptionForm {
+        name: "refill",
+        takes: Takes::Refill,
+        usual: Some("never"),
+        help: REFILL,
     },
     OptionForm {
         name: "seed",

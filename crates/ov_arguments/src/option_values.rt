@@ -3,7 +3,7 @@ use crate::clap_parsing_and_faults::{bad_value, bad_value_since};
 use crate::growing_option_table::limits_of;
 use clap::ArgMatches;
 use ov_grow_options::{Chance, Count, Crash, NodeCount, Order, Pace, Share};
-use ov_ids::Workers;
+use ov_ids::{Refill, Workers};
 use std::alloc::{AllocError, Global};
 use std::fmt::Write;
 
@@ -72,6 +72,12 @@ impl OptionValue for Order {
             "oldest" => Some(Order::Oldest),
             _ => None,
         }
+    }
+}
+
+impl OptionValue for Refill {
+    fn read(_name: &str, text: &str) -> Option<Refill> {
+        Refill::from_name(text.as_bytes())
     }
 }
 

@@ -1,7 +1,7 @@
 ghost use Rattle.std.specs.Prelude.{◌≡◌, IfSome};
 
 use ov_grow_options::{Chance, Count, Crash, GrowOptions, NodeCount, Order, Pace, Share};
-use ov_ids::Params;
+use ov_ids::{Params, Refill};
 
 /// The values of each option in a sweep. Every combination of them is one setting; the value of the first option varies
 /// slowest.
@@ -23,6 +23,7 @@ pub(crate) struct ParamLists {
     pub(crate) ka: Vec<u32>,
     pub(crate) kp: Vec<u32>,
     pub(crate) ttl: Vec<u32>,
+    pub(crate) refill: Vec<Refill>,
 }
 
 /// The values of the options that say what becomes of packets, and when.
@@ -115,10 +116,12 @@ impl ParamLists {
             .saturating_mul(self.ka.len() as u64)
             .saturating_mul(self.kp.len() as u64)
             .saturating_mul(self.ttl.len() as u64)
+            .saturating_mul(self.refill.len() as u64)
     }
 
     /// The combination at a place, which is left for the slower options.
     fn at(&self, place: &mut Place) -> Option<Params> {
+        let refill = place.take(&self.refill)?;
         let ttl = place.take(&self.ttl)?;
         let kp = place.take(&self.kp)?;
         let ka = place.take(&self.ka)?;
@@ -126,7 +129,8 @@ impl ParamLists {
         let arwl = place.take(&self.arwl)?;
         let passive = place.take(&self.passive)?;
         let active = place.take(&self.active)?;
-        Params::new(active, passive, arwl, prwl, ka, kp, ttl).ok()
+        let params = Params::new(active, passive, arwl, prwl, ka, kp, ttl).ok()?;
+        Some(params.with_refill(refill))
     }
 }
 

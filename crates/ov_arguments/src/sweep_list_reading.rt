@@ -33,6 +33,7 @@ fn params_of(alloc: Global, found: &ArgMatches<'_>) -> Result<ParamLists, GrowAr
     let ka = values(alloc, found, "ka")?;
     let kp = values(alloc, found, "kp")?;
     let ttl = values(alloc, found, "ttl")?;
+    let refill = values(alloc, found, "refill")?;
     Ok(ParamLists {
         active,
         passive,
@@ -41,6 +42,7 @@ fn params_of(alloc: Global, found: &ArgMatches<'_>) -> Result<ParamLists, GrowAr
         ka,
         kp,
         ttl,
+        refill,
     })
 }
 

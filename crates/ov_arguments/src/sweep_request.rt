@@ -108,13 +108,10 @@ pub fn read_sweep_arguments(
 }
 
 fn request_of(alloc: Global, found: &ArgMatches<'_>) -> Result<SweepRequest, GrowArgumentsFault> {
-    let runs = value(alloc, found, "runs")?;
-    let first_seed = value(alloc, found, "seed")?;
-    let workers = value(alloc, found, "workers")?;
+    let (runs, first_seed, workers) = numbers_of(alloc, found)?;
     let printed = printed_of(alloc, found)?;
+    let (svg, read) = names_of(alloc, found)?;
     let settings = lists_of(alloc, found)?;
-    let svg = svg_of(alloc, found)?;
-    let read = files_of(alloc, found)?;
     Ok(SweepRequest {
         settings,
         runs,
@@ -125,6 +122,27 @@ fn request_of(alloc: Global, found: &ArgMatches<'_>) -> Result<SweepRequest, Gro
         read,
         progress: has_flag(found, "progress"),
     })
+}
+
+/// How many runs each setting has, the seed of the first of them, and how many runs go on at once.
+fn numbers_of(
+    alloc: Global,
+    found: &ArgMatches<'_>,
+) -> Result<(u32, u64, Workers), GrowArgumentsFault> {
+    let runs = value(alloc, found, "runs")?;
+    let first_seed = value(alloc, found, "seed")?;
+    let workers = value(alloc, found, "workers")?;
+    Ok((runs, first_seed, workers))
+}
+
+/// The name of the file for a picture, and those of the files that are read, as far as they are given.
+fn names_of(
+    alloc: Global,
+    found: &ArgMatches<'_>,
+) -> Result<(Option<String>, Option<Vec<String>>), AllocError> {
+    let read = files_of(alloc, found)?;
+    let svg = svg_of(alloc, found)?;
+    Ok((svg, read))
 }
 
 /// Why a sweep is refused that has too many runs.

@@ -11,7 +11,8 @@ use Rattle.ov_lines.specs.Lines.{kept_lines}
 use Rattle.std.specs.Str.Lines.{lines}
 use Rattle.ov_scenario.specs.Draws.{seeded}
 use Rattle.ov_scenario.specs.RunLines.{drivers_for, lines_that_run}
-use Rattle.ov_scenario.specs.Scenarios.{AreFaultless, AreParamsOf, IsScenario, IsSeedOf, stated_at, stated_lines}
+use Rattle.ov_scenario.specs.Scenarios.{AreFaultless, AreParamsOf, IsRefillOf, IsScenario, IsSeedOf}
+use Rattle.ov_scenario.specs.Scenarios.{stated_at, stated_lines}
 use Rattle.ov_scenario.specs.Statements.{Stated, statement_of, told}
 use Rattle.ov_scenario.specs.Code.RunnableLines.{outputs, to_run}
 use Rattle.ov_scenario.specs.declared.scenario.Line.{Line}
@@ -28,8 +29,7 @@ use Rattle.ov_grow.specs.declared.recordable_event.Act.{Act}
 use Rattle.ov_grow.proofs.OneLine.{comment_clean, comment_skipped, ends_line, kept_last, kept_skipped}
 use Rattle.ov_grow.proofs.Statements.{act_said, analysis_said}
 use Rattle.ov_grow.proofs.TellingLines.{analysis_right, drivers_more, event_right, faultless_more, left_more}
-use Rattle.ov_grow.proofs.TellingLines.{params_more}
-use Rattle.ov_grow.proofs.TellingLines.{plain_more, run_more, seed_more}
+use Rattle.ov_grow.proofs.TellingLines.{params_more, plain_more, refill_more, run_more, seed_more}
 
 -- ---- the lines that are not skipped
 
@@ -99,6 +99,9 @@ told_event kept p seed next later behind left n text event before said drawn_the
       params =
           subst (λ ls. AreParamsOf ls p) (sym stated)
           (params_more (map stated_at kept) new p before.params (λ numbers is. absurd cc));
+      refill_said =
+          subst (λ ls. IsRefillOf ls p.refill) (sym stated)
+          (refill_more (map stated_at kept) new p.refill before.refill_said (λ r is. absurd cc));
       seed_said =
           subst (λ ls. IsSeedOf ls seed) (sym stated)
           (seed_more (map stated_at kept) new seed before.seed_said (λ m is. absurd cc));
@@ -141,6 +144,9 @@ told_analysis kept p seed next behind n text moment before said =
       params =
           subst (λ ls. AreParamsOf ls p) (sym stated)
           (params_more (map stated_at kept) new p before.params (λ numbers is. absurd cc));
+      refill_said =
+          subst (λ ls. IsRefillOf ls p.refill) (sym stated)
+          (refill_more (map stated_at kept) new p.refill before.refill_said (λ r is. absurd cc));
       seed_said =
           subst (λ ls. IsSeedOf ls seed) (sym stated)
           (seed_more (map stated_at kept) new seed before.seed_said (λ m is. absurd cc));
@@ -257,6 +263,7 @@ unfolding lines_of stated_lines
 script_says text p seed next behind is = record {
   faultless = is.said.faultless;
   params = is.said.params;
+  refill = is.said.refill_said;
   seed = is.said.seed_said;
   lines = are_to_run (kept_lines text) seed (lines_of seed text) refl;
   drivers = sym is.said.no_block;

@@ -30,6 +30,7 @@ pub mod NoPhase
 pub mod NoGrowth
 pub mod Full
 pub mod Keeping
+pub mod LookingOn
 pub mod Made
 pub mod Making
 pub mod Crashing

@@ -7,6 +7,9 @@ use Rattle.ov_net.specs.declared.event.Event.{Event}
 use Rattle.ov_net.specs.declared.event.Event.TheVariants as event
 use Rattle.ov_ids.specs.Limits.{number_limit}
 use Rattle.ov_ids.specs.ParamsState.{ParamsState, AreWithinLimits}
+use Rattle.ov_ids.specs.RefillNames.{refill_name}
+use Rattle.ov_ids.specs.declared.refill_rule.Refill.{Refill}
+use Rattle.ov_ids.specs.declared.refill_rule.Refill.TheVariants.{Never, Alone, Always}
 use Rattle.ov_ids.specs.Options.{◌>>=◌}
 use Rattle.ov_lines.specs.Lines.{behind_word, each_number, is_skipped, long_bits, number_within, short_bits, skips, two}
 use Rattle.ov_lines.specs.Lines.{without_space}
@@ -17,7 +20,7 @@ use Rattle.ov_scenario.specs.Statements.{workers_named}
 use Rattle.ov_scenario.specs.declared.statement.Statement.{Statement}
 use Rattle.ov_scenario.specs.declared.statement.Statement.TheVariants as says
 use Rattle.ov_grow.specs.Acts.{act_line, event_of}
-use Rattle.ov_grow.specs.WrittenLines.{analysis_line, line_of, numerals, params_line, seed_line, spaced}
+use Rattle.ov_grow.specs.WrittenLines.{analysis_line, line_of, numerals, params_line, refill_line, seed_line, spaced}
 use Rattle.ov_grow.specs.Code.Writing.{IsShort}
 use Rattle.ov_grow.specs.declared.recordable_event.Act.{Act}
 use Rattle.ov_grow.specs.declared.recordable_event.Act.TheVariants as act
@@ -227,3 +230,9 @@ seed_said seed fits =
     written (codes "seed") (numerals (seed ∷ [])) (says.Seed seed) refl
     (and_from (is_word (decimal seed)) true (numeral_word seed fits) refl) refl
     (ap (option_map says.Seed) (numeral_read long_bits seed fits fits))
+
+pub refill_said : (rule : Refill) → Says (refill_line rule) (says.Refill rule)
+unfolding refill_line
+refill_said Never = written (codes "refill") (refill_name Never ∷ []) (says.Refill Never) refl refl refl refl
+refill_said Alone = written (codes "refill") (refill_name Alone ∷ []) (says.Refill Alone) refl refl refl refl
+refill_said Always = written (codes "refill") (refill_name Always ∷ []) (says.Refill Always) refl refl refl refl

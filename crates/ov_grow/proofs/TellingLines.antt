@@ -5,10 +5,12 @@ use Rattle.std.proofs.lemmas.List.{append-nil}
 use Rattle.rand_core.specs.Stream.{Stream}
 use Rattle.ov_ids.specs.Members.{Has}
 use Rattle.ov_ids.specs.ParamsState.{ParamsState}
+use Rattle.ov_ids.specs.declared.refill_rule.Refill.{Refill}
 use Rattle.ov_ids.proofs.Members.{has_append_cases, has_append_left}
 use Rattle.ov_net.specs.declared.event.Event.{Event}
 use Rattle.ov_scenario.specs.RunLines.{drivers_for}
-use Rattle.ov_scenario.specs.Scenarios.{AreFaulty, AreParamsOf, HasKind, IsSeedOf, IsWrong, before_of}
+use Rattle.ov_scenario.specs.Scenarios.{AreFaulty, AreParamsOf, HasKind, IsRefillOf, IsSeedOf, IsWrong}
+use Rattle.ov_scenario.specs.Scenarios.{before_of}
 use Rattle.ov_scenario.specs.Statements.{Stated, ToldLine}
 use Rattle.ov_scenario.specs.Code.RunnableLines.{later_words, next_words, to_run}
 use Rattle.ov_scenario.specs.declared.line_judging.Before.{Before}
@@ -50,6 +52,8 @@ same_fault before said after other f plain wrong = by said before.block plain wr
   by (Some (says.Params numbers)) (Some block) plain wrong = wrong
   by (Some (says.Seed seed)) None plain wrong = wrong
   by (Some (says.Seed seed)) (Some block) plain wrong = wrong
+  by (Some (says.Refill rule)) None plain wrong = wrong
+  by (Some (says.Refill rule)) (Some block) plain wrong = wrong
   by (Some (says.Event event)) None plain wrong = wrong
   by (Some (says.Event event)) (Some block) plain wrong = wrong
   by (Some (says.Analyse subject workers)) None plain wrong = wrong
@@ -92,7 +96,7 @@ analysis_right before moment after f = by before.block where
   by None wrong = wrong
   by (Some block) wrong = wrong.0 (refl, refl)
 
--- ---- parameters and seed
+-- ---- parameters, seed and rule at DISCONNECT
 
 kind_more :
     {A : Type 0} (kind : A → Statement) (lines : List Stated) (next : Stated) → ¬ HasKind kind lines
@@ -122,6 +126,15 @@ seed_more lines next seed (inl (line, has, is)) other =
     inl (line, has_append_left lines (next ∷ []) line has, is)
 seed_more lines next seed (inr (none, zero)) other = inr (kind_more says.Seed lines next none other, zero)
 
+pub refill_more :
+    (lines : List Stated) (next : Stated) (rule : Refill) → IsRefillOf lines rule
+    → ((r : Refill) → ¬ (next.says ≡ Some (says.Refill r)))
+    → IsRefillOf (lines ++ next ∷ []) rule
+unfolding IsRefillOf
+refill_more lines next rule (inl (line, has, is)) other =
+    inl (line, has_append_left lines (next ∷ []) line has, is)
+refill_more lines next rule (inr (none, never)) other = inr (kind_more says.Refill lines next none other, never)
+
 -- ---- lines to run
 
 -- what plain lines ask for, and then what those after them ask for
@@ -138,6 +151,7 @@ run_more stream ((own, Some says.Also) ∷ lines) behind plain = absurd plain.0
 run_more stream ((own, Some says.End) ∷ lines) behind plain = absurd plain.0
 run_more stream ((own, Some (says.Params numbers)) ∷ lines) behind plain = run_more stream lines behind plain.1
 run_more stream ((own, Some (says.Seed seed)) ∷ lines) behind plain = run_more stream lines behind plain.1
+run_more stream ((own, Some (says.Refill rule)) ∷ lines) behind plain = run_more stream lines behind plain.1
 run_more stream ((own, Some (says.Event event)) ∷ lines) behind plain =
     ap (λ ls. line.Event event (next_words stream) ∷ ls) (run_more (later_words stream) lines behind plain.1)
 run_more stream ((own, Some (says.Analyse subject workers)) ∷ lines) behind plain =
@@ -158,6 +172,7 @@ left_more stream ((own, Some says.Also) ∷ lines) behind plain = absurd plain.0
 left_more stream ((own, Some says.End) ∷ lines) behind plain = absurd plain.0
 left_more stream ((own, Some (says.Params numbers)) ∷ lines) behind plain = left_more stream lines behind plain.1
 left_more stream ((own, Some (says.Seed seed)) ∷ lines) behind plain = left_more stream lines behind plain.1
+left_more stream ((own, Some (says.Refill rule)) ∷ lines) behind plain = left_more stream lines behind plain.1
 left_more stream ((own, Some (says.Event event)) ∷ lines) behind plain =
     left_more (later_words stream) lines behind plain.1
 left_more stream ((own, Some (says.Analyse subject workers)) ∷ lines) behind plain =

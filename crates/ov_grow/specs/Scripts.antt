@@ -1,11 +1,11 @@
--- A script: a scenario that is written line by line. It begins with a comment, the parameters and the seed, and each
--- line that is added is an act, an analysis or a comment.
+-- A script: a scenario that is written line by line. It begins with a comment and with settings, and each line that is
+-- added is an act, an analysis or a comment.
 use Rattle.std.specs.Prelude.{ℕ, List, ◌++◌}
 use Rattle.ov_ids.specs.ParamsState.{ParamsState}
 use Rattle.ov_scenario.specs.RunLines.{lines_that_run}
 use Rattle.ov_scenario.specs.declared.scenario.Line.{Line}
 use Rattle.ov_scenario.specs.declared.scenario.Scenario.{Scenario}
-use Rattle.ov_grow.specs.WrittenLines.{comment_line, ended, params_line, seed_line}
+use Rattle.ov_grow.specs.WrittenLines.{comment_line, ended, params_line, rule_text, seed_line}
 
 -- a script: the parameters of all nodes, the seed, the text so far, the lines to run that it asks for, the random words
 -- that the scenario gives to its next event, and how many more bytes the text has memory for
@@ -17,9 +17,12 @@ pub record ScriptState : Type 0 where
   pub next : List ℕ
   pub room : ℕ
 
--- the text with which a script begins: a comment, the parameters and the seed
+-- the text with which a script begins: a comment, the parameters and the seed, and the rule at DISCONNECT unless it is
+-- the profile's
 unfoldable pub opening : List ℕ → ParamsState → ℕ → List ℕ
-opening heading params seed = ended (comment_line heading) ++ (ended (params_line params) ++ ended (seed_line seed))
+opening heading params seed =
+    ended (comment_line heading)
+    ++ (ended (params_line params) ++ (ended (seed_line seed) ++ rule_text params.refill))
 
 -- how many bytes of room are enough for one line more, of any act or analysis: chosen here
 abbrev pub line_room : ℕ

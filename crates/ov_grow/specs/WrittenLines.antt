@@ -2,6 +2,9 @@
 -- are written in this way is chosen here.
 use Rattle.std.specs.Prelude.{ℕ, ◌==◌, ◌||◌, List, [], ◌∷◌, ◌++◌, map, codes, decimal, if◌then◌else◌}
 use Rattle.ov_ids.specs.ParamsState.{ParamsState}
+use Rattle.ov_ids.specs.RefillNames.{refill_name}
+use Rattle.ov_ids.specs.declared.refill_rule.Refill.{Refill}
+use Rattle.ov_ids.specs.declared.refill_rule.Refill.TheVariants.{Never}
 
 -- each of these words, with a space before it
 unfoldable pub spaced : List (List ℕ) → List ℕ
@@ -29,6 +32,15 @@ params_line p =
 -- the line of this seed
 unfoldable pub seed_line : ℕ → List ℕ
 seed_line seed = line_of (codes "seed") (numerals (seed ∷ []))
+
+-- the line of this rule at DISCONNECT
+unfoldable pub refill_line : Refill → List ℕ
+refill_line rule = line_of (codes "refill") (refill_name rule ∷ [])
+
+-- the line of this rule with its line feed, or nothing if it is the profile's rule
+unfoldable pub rule_text : Refill → List ℕ
+rule_text Never = []
+rule_text rule = ended (refill_line rule)
 
 -- the line that analyses a moment, for all nodes and by one worker
 unfoldable pub analysis_line : ℕ → List ℕ

@@ -1,11 +1,14 @@
-ghost use Rattle.std.specs.Prelude.{◌+◌, ◌≤◌, ℕ, IfErr, IfNone, IfOk, IfSome, OnOk};
+ghost use Rattle.std.specs.Prelude.{◌≡◌, ◌≢◌, ◌+◌, ◌≤◌, ℕ, false, drop, length, take, IfErr, IfNone, IfOk, IfSome};
+ghost use Rattle.std.specs.Prelude.{OnOk};
 ghost use Rattle.ov_ids.specs.Members.{Ascends};
+ghost use Rattle.ov_net.specs.Journal.{changes_of};
 ghost use Rattle.ov_net.specs.Net.{IsGone};
 ghost use Rattle.ov_grow_options.specs.Limits.{most_rounds};
 ghost use Rattle.ov_grow.specs.Faults.{IsFull};
-ghost use Rattle.ov_grow.specs.Growth.{SomebodyLives};
+ghost use Rattle.ov_grow.specs.Growth.{AreLive, SomebodyLives};
 ghost use Rattle.ov_grow.specs.Phases.{AreFirst, HasNone, Heal, IsCrashedNeighbour, ReportCrashes};
-ghost use Rattle.ov_grow.specs.Code.Standing.{Goes, HaveMade, HaveNone, IsAnswered, IsFirstOf, IsNoWay, growth_of};
+ghost use Rattle.ov_grow.specs.Code.Standing.{Goes, HasCrashed, HaveMade, HaveNone, IsAnswered, IsFirstOf, IsNoWay};
+ghost use Rattle.ov_grow.specs.Code.Standing.{TakeNoCrashed, TakesNoCrashed, growth_of};
 
 use crate::fault::GrowFault;
 use crate::growing::Growing;
@@ -14,6 +17,7 @@ use crate::phase_moment_and_deliveries::Phase;
 use crate::recordable_event::Act;
 use ov_grow_options::GrowOptions;
 use ov_ids::NodeId;
+use ov_net::Change;
 
 impl Growing {
     /// The overlay heals. Some node must live.
@@ -32,32 +36,93 @@ impl Growing {
         self.end_phase(options.broadcasts.count(), &rules)
     }
 
-    /// Crash reports, one after the other, until no live node has a crashed node in its active view.
+    /// Crash reports, one after the other, until no live node has a crashed node in its active view. After a report and
+    /// its packets the search goes on where it was, unless the journal says that a node took in a crashed one.
     fn report_crashes(&mut self, rules: &TurnRules) -> Result<(), GrowFault>
         ensures goes { OnOk result (Goes (ReportCrashes rules.now) self.old self.new) }
         ensures refused { IfErr result (IsNoWay (ReportCrashes rules.now) self.old) }
         ensures full { IfErr result IsFull }
     {
-        while let Some((node, crashed)) = self.first_with_crashed() {
+        let nodes = self.live()?;
+        let mut from = 0;
+        while let Some((place, node, crashed)) = self.first_with_crashed(&nodes, from) {
+            let before = self.world().journal().len();
             self.act(Act::CrashReport(node, crashed))?;
             self.run_out(rules)?;
+            let _journal = self.world().journal();
+            from = self.search_from(place, before);
         }
         Ok(())
     }
 
-    /// The first live node that has a crashed node in its active view, and the first such, by ascending ids.
-    fn first_with_crashed(&self) -> Option<(NodeId, NodeId)>
-        ensures some { IfSome result (λ found. AreFirst (growth_of self.now) found.0 found.1) }
+    /// Of the live nodes, by ascending ids, the first that has a crashed node in its active view, with its place, and
+    /// the first such. None before the place `from` may have one.
+    fn first_with_crashed(&self, nodes: &[NodeId], from: usize) -> Option<(usize, NodeId, NodeId)>
+        requires live { AreLive (growth_of self.now) nodes.now }
+        requires none { HaveNone (HasCrashed (growth_of self.now)) (take from nodes.now) }
+        ensures some { IfSome result (λ found. AreFirst (growth_of self.now) found.1 found.2) }
+        ensures before { IfSome result (λ found. HaveNone (HasCrashed (growth_of self.now)) (take found.0 nodes.now)) }
         ensures none { IfNone result (HasNone (growth_of self.now)) }
     {
-        let _journal = self.world().journal();
-        for node in self.world().graph().nodes() {
-            match self.first_crashed_at(*node) {
-                Some(crashed) => return Some((*node, crashed)),
-                None => {}
+        let mut place = from;
+        while place < nodes.len() {
+            let node = nodes[place];
+            match self.first_crashed_at(node) {
+                Some(crashed) => return Some((place, node, crashed)),
+                None => place += 1,
             }
         }
         None
+    }
+
+    /// From which place on the search goes on, when the journal has entries behind so many: from the same one, or from
+    /// the first one if an entry tells that a node took in a crashed one.
+    fn search_from(&self, place: usize, before: usize) -> usize
+        requires { before ≤ length self.now.recording.core.world.journal }
+        ensures kept { result ≢ 0 → result ≡ place }
+        ensures quiet { result ≢ 0 → TakeNoCrashed self.now.recording.core.world.net
+            (changes_of (drop before self.now.recording.core.world.journal)) }
+    {
+        if self.took_crashed(before) {
+            return 0;
+        }
+        place
+    }
+
+    /// Whether an entry behind so many tells that a node took a crashed one into its active view.
+    fn took_crashed(&self, before: usize) -> bool
+        requires { before ≤ length self.now.recording.core.world.journal }
+        ensures { result ≡ false → TakeNoCrashed self.now.recording.core.world.net
+            (changes_of (drop before self.now.recording.core.world.journal)) }
+    {
+        for entry in &self.world().journal()[before..] {
+            if self.take_crashed(entry.changes.as_slice()) {
+                return true;
+            }
+        }
+        false
+    }
+
+    /// Whether one of these changes is that a node took a crashed one into its active view.
+    fn take_crashed(&self, changes: &[Change]) -> bool
+        ensures { result ≡ false → TakeNoCrashed self.now.recording.core.world.net changes.now }
+    {
+        for change in changes {
+            if self.takes_crashed(*change) {
+                return true;
+            }
+        }
+        false
+    }
+
+    /// Whether a change is that a node took a crashed one into its active view.
+    fn takes_crashed(&self, change: Change) -> bool
+        ensures { result ≡ false → TakesNoCrashed self.now.recording.core.world.net change }
+    {
+        match change {
+            Change::Up(_, taken) => self.has_crashed(taken),
+            Change::Born(_) | Change::Down(_, _) | Change::Gone(_) => false,
+        }
     }
 
     /// The first crashed node in the active view of a live node, by ascending ids.

@@ -3,14 +3,14 @@ ghost use Rattle.std.specs.Prelude.{◌≡◌, ◌≤◌, ◌+◌, ◌∷◌, �
 ghost use Rattle.ov_ids.specs.ParamsState.{AreWithinLimits};
 ghost use Rattle.ov_grow.specs.Acts.{act_line};
 ghost use Rattle.ov_grow.specs.Scripts.{line_room};
-ghost use Rattle.ov_grow.specs.WrittenLines.{comment_line, ended, line_of, numerals, params_line};
+ghost use Rattle.ov_grow.specs.WrittenLines.{comment_line, ended, line_of, numerals, params_line, rule_text};
 ghost use Rattle.ov_grow.specs.WrittenLines as spec;
-ghost use Rattle.ov_grow.specs.Code.Writing.{IsShort, number_room, params_room, room_of};
+ghost use Rattle.ov_grow.specs.Code.Writing.{IsShort, number_room, params_room, room_of, rule_room};
 ghost use Rattle.ov_grow.specs.declared.recordable_event.Act.TheVariants as act;
 
 use crate::recordable_event::Act;
 use itoa::Buffer;
-use ov_ids::{NodeId, Params};
+use ov_ids::{NodeId, Params, Refill};
 
 /// Appends these bytes.
 fn append(text: &mut Vec<u8>, bytes: &[u8])
@@ -80,6 +80,19 @@ pub(crate) fn write_params(text: &mut Vec<u8>, params: Params)
         params.shuffle_ttl() as u64,
     ];
     write_line(text, b"params", &numbers);
+}
+
+/// Appends the line of this rule at DISCONNECT, or nothing if it is the profile's rule.
+#[tactic(auto, unfolding(crate::specs::WrittenLines::rule_text, crate::specs::WrittenLines::refill_line))]
+pub(crate) fn write_refill(text: &mut Vec<u8>, rule: Refill)
+    requires room { vec_len text.old + rule_room ≤ vec_capacity text.old }
+    ensures items { text.new.items ≡ text.old.items ++ rule_text rule }
+{
+    match rule {
+        Refill::Never => (),
+        Refill::Alone => append(text, b"refill alone\n"),
+        Refill::Always => append(text, b"refill always\n"),
+    }
 }
 
 /// Appends the line of the birth of a node, which joins by a contact if there is one.

@@ -5,7 +5,7 @@ ghost use Rattle.ov_grow.specs.Acts.{act_line, event_of};
 ghost use Rattle.ov_grow.specs.Scripts.{line_room, opening, scenario_of};
 ghost use Rattle.ov_grow.specs.WrittenLines.{analysis_line, comment_line, ended};
 
-use crate::line_writing::{write_act, write_comment, write_line, write_params};
+use crate::line_writing::{write_act, write_comment, write_line, write_params, write_refill};
 use crate::recordable_event::Act;
 use ov_ids::{OutOfMemory, Params};
 use ov_words::Words;
@@ -18,7 +18,7 @@ use std::marker::Model;
 pub const LINE_ROOM: usize = 80;
 
 /// How many bytes a script begins with at most, besides what its heading says.
-const OPENING_ROOM: usize = 200;
+const OPENING_ROOM: usize = 220;
 
 /// A scenario that is written line by line. Its text says at any time a scenario whose lines to run are those that were
 /// added, each event with the next random words that the seed gives. Contracts see it as `ScriptState`. (Chosen here.)
@@ -54,8 +54,9 @@ impl Model for Script {
 }
 
 impl Script {
-    /// A script without a line to run: the heading as a comment, the parameters, and the seed of the random words of
-    /// all events. OutOfMemory (99) is returned if an allocation was refused.
+    /// A script without a line to run: the heading as a comment, the parameters, the seed of the random words of all
+    /// events, and the rule at DISCONNECT unless it is the profile's. OutOfMemory (99) is returned if an allocation was
+    /// refused.
     pub fn new(
         alloc: Global,
         params: Params,
@@ -71,6 +72,7 @@ impl Script {
         write_comment(&mut text, heading.as_bytes());
         write_params(&mut text, params);
         write_line(&mut text, b"seed", &[seed]);
+        write_refill(&mut text, params.refill());
         let mut generator = Pcg64::seed_from_u64(seed);
         let next = Words::from_rng(&mut generator);
         Ok(Script {

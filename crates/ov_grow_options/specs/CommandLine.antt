@@ -1,6 +1,9 @@
 -- The command that grows an overlay with given options.
 use Rattle.std.specs.Prelude.{ℕ, List, [], ◌++◌, Option, Some, None, codes, decimal, ◌==◌, if◌then◌else◌}
 use Rattle.ov_ids.specs.ParamsState.{ParamsState}
+use Rattle.ov_ids.specs.RefillNames.{refill_name}
+use Rattle.ov_ids.specs.declared.refill_rule.Refill.{Refill}
+use Rattle.ov_ids.specs.declared.refill_rule.Refill.TheVariants.{Never}
 use Rattle.ov_grow_options.specs.declared.options.GrowOptions.{GrowOptions}
 use Rattle.ov_grow_options.specs.declared.options.Order.{Order}
 use Rattle.ov_grow_options.specs.declared.options.Order.TheVariants.{Random, Oldest}
@@ -27,6 +30,11 @@ shuffles_text p =
     number_text (codes "kp") 4 p.kp ++
     number_text (codes "ttl") 4 p.shuffle_ttl)
 
+-- the option that says when a node that is told DISCONNECT looks for another active member
+abbrev pub refill_text : Refill → List ℕ
+refill_text Never = []
+refill_text rule = codes " --refill " ++ refill_name rule
+
 -- the option that says whose turn is next
 abbrev pub order_text : Order → List ℕ
 order_text Random = []
@@ -48,8 +56,9 @@ beginning_text o =
     number_text (codes "nodes") 100 o.nodes ++ (
     views_text o.params ++ (
     walks_text o.params ++ (
-    shuffles_text o.params ++
-    number_text (codes "seed") 0 o.seed)))
+    shuffles_text o.params ++ (
+    refill_text o.params.refill ++
+    number_text (codes "seed") 0 o.seed))))
 
 -- the options that say what becomes of packets, and when
 abbrev pub packets_text : GrowOptions → List ℕ

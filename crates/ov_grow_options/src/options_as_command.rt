@@ -1,7 +1,7 @@
 ghost use Rattle.std.specs.Prelude.{◌≡◌};
 
 use crate::{Crash, GrowOptions, Order, Pace};
-use ov_ids::Params;
+use ov_ids::{Params, Refill};
 use std::fmt::{Display, Formatter, Result, Write};
 
 /// An option that takes a number, or nothing if it has its default.
@@ -80,6 +80,24 @@ impl Display for ShufflesText {
     }
 }
 
+/// The option that says when a node that is told DISCONNECT looks for another active member.
+#[derive(Drop)]
+struct RefillText(Refill);
+
+impl Display for RefillText {
+    ghost use Rattle.std.specs.Prelude.{Some};
+    ghost use Rattle.ov_grow_options.specs.CommandLine.{refill_text};
+
+    ghost output = { λ t. Some (refill_text t.0) };
+
+    fn fmt<W: Write>(&self, f: &mut Formatter<W>) -> Result {
+        match self.0 {
+            Refill::Never => Ok(()),
+            rule => write!(f, " --refill {rule}"),
+        }
+    }
+}
+
 /// The option that says whose turn is next.
 #[derive(Drop)]
 struct OrderText(Order);
@@ -155,8 +173,9 @@ impl Display for BeginningText {
         let views = ViewsText(self.0.params);
         let walks = WalksText(self.0.params);
         let shuffles = ShufflesText(self.0.params);
+        let refill = RefillText(self.0.params.refill());
         let seed = number_text("seed", 0, self.0.seed);
-        write!(f, "{nodes}{views}{walks}{shuffles}{seed}")
+        write!(f, "{nodes}{views}{walks}{shuffles}{refill}{seed}")
     }
 }
 

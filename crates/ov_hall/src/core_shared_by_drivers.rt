@@ -2,6 +2,7 @@ ghost use Rattle.std.specs.Prelude.{◌≡◌, ◌<◌, length, IfOk, IfErr, OnO
 ghost use Rattle.ov_ids.specs.FaultOrder.{IsRefusedBy};
 ghost use Rattle.ov_net.specs.Refusals.{IsRefusal};
 ghost use Rattle.ov_net.specs.declared.event.Event.TheVariants as told;
+ghost use Rattle.ov_net.specs.declared.journal_entry_and_changes.Entry.{Entry as EntryOf};
 ghost use Rattle.ov_snap.specs.Refusals.{FilingJudged};
 ghost use Rattle.ov_snap.specs.declared.core_fault.CoreFault.TheVariants.{OutOfMemory as out_of_memory};
 ghost use Rattle.ov_hall.specs.Histories.{IsHistory};
@@ -103,6 +104,28 @@ impl<N: HallName> Hall<N> {
             .state
             .lock(rt)
             .step(&self.table.shared, &mut pass.stand, driver, event, words);
+        (answer, pass)
+    }
+
+    /// Takes one event as `step` does, with the same faults, and copies nothing of its entry.
+    pub fn take_event(
+        &self,
+        rt: &impl Wait,
+        mut pass: Pass<N>,
+        event: Event,
+        words: &Words,
+    ) -> (Result<(), NetFault>, Pass<N>)
+        ensures happened { OnOk result.0 ((e : EntryOf) × HasStepped N.params pass event words.now e result.1) }
+        ensures refused { IfErr result.0 (λ f. IsRefusal (core_made N.params result.1.seen).world.net
+            (length (core_made N.params result.1.seen).world.journal) event f) }
+        ensures err { OnErr result.0 (HasLooked pass result.1) }
+        ensures log { IsLog N.params N.drivers result.1.seen }
+    {
+        let driver = pass.driver;
+        let answer = self
+            .state
+            .lock(rt)
+            .take_event(&self.table.shared, &mut pass.stand, driver, event, words);
         (answer, pass)
     }
 

@@ -2,6 +2,7 @@ ghost use Rattle.std.specs.Prelude.{◌≡◌, [], ◌∷◌, ◌++◌, false, t
 ghost use Rattle.ov_ids.specs.FaultOrder.{IsRefusedBy};
 ghost use Rattle.ov_net.specs.Refusals.{IsRefusal};
 ghost use Rattle.ov_net.specs.declared.event.Event.TheVariants as told;
+ghost use Rattle.ov_net.specs.declared.journal_entry_and_changes.Entry.{Entry as EntryOf};
 ghost use Rattle.ov_snap.specs.Filing.{WasFiled};
 ghost use Rattle.ov_snap.specs.Refusals.{FilingJudged};
 ghost use Rattle.ov_snap.specs.Run.{Happened, TookSnapshot};
@@ -102,6 +103,20 @@ impl<N: HallName> Whole<N> {
     {
         self.state
             .step(&self.table.shared, &mut self.stand, 0, event, words)
+    }
+
+    /// Takes one event as `step` does, with the same faults, and copies nothing of its entry, which is the last of the
+    /// journal then.
+    pub fn take_event(&mut self, event: Event, words: &Words) -> Result<(), NetFault>
+        ensures happened { OnOk result ((e : EntryOf)
+            × Happened (core_made N.params self.old) event words.now e (core_made N.params self.new)) }
+        ensures marked { OnOk result (self.new ≡ self.old ++ mark 0 false (core_made N.params self.new) ∷ []) }
+        ensures refused { IfErr result (IsRefusal (core_made N.params self.old).world.net
+            (length (core_made N.params self.old).world.journal) event) }
+        ensures err { OnErr result (self.new ≡ self.old) }
+    {
+        self.state
+            .take_event(&self.table.shared, &mut self.stand, 0, event, words)
     }
 
     /// Takes a snapshot by driver 0, as `Core::snapshot` does, with the same faults. Returns its moment. What is

@@ -1,6 +1,7 @@
 ghost use Rattle.std.specs.Prelude.{◌≡◌, ◌<◌, [], ◌∷◌, ◌++◌, length, IfOk, IfErr, OnOk, OnErr, false, true};
 ghost use Rattle.ov_ids.specs.FaultOrder.{IsRefusedBy};
 ghost use Rattle.ov_net.specs.Refusals.{IsRefusal};
+ghost use Rattle.ov_net.specs.declared.journal_entry_and_changes.Entry.{Entry as EntryOf};
 ghost use Rattle.ov_snap.specs.CoreState.{CoreState};
 ghost use Rattle.ov_snap.specs.Filing.{WasFiled};
 ghost use Rattle.ov_snap.specs.Refusals.{FilingJudged};
@@ -134,6 +135,53 @@ impl<N: HallName> State<N> {
         }
     }
 
+    /// One event by a driver of a seat, as `step` does. Nothing is copied of its entry.
+    pub fn take_event(
+        &mut self,
+        count: &Count,
+        stand: &mut Stand<N>,
+        driver: u64,
+        event: Event,
+        words: &Words,
+    ) -> Result<(), NetFault>
+        requires count { (count.now.table_id ≡ N.table) × (0 < count.now.table_id.words) }
+        requires stands { 0 < standing_for driver stand.old }
+        ensures happened { OnOk result ((e : EntryOf) × (u : CoreState)
+            × Happened (core_made N.params self.old) event words.now e u
+            × (self.new ≡ self.old ++ mark driver false u ∷ [])) }
+        ensures refused { IfErr result (λ f. IsRefusal (core_made N.params self.old).world.net
+            (length (core_made N.params self.old).world.journal) event f) }
+        ensures err { OnErr result (self.new ≡ self.old) }
+        ensures seen { stand.new ≡ having_seen self.new stand.old }
+        ensures began { AllBegin stand.old self.old }
+        ensures log { IsLog N.params N.drivers self.old }
+        ensures after { IsLog N.params N.drivers self.new }
+    {
+        match drive_event(
+            &mut self.core,
+            &mut self.entry_drivers,
+            driver,
+            event,
+            words,
+        ) {
+            Ok(()) => {
+                add(
+                    count,
+                    &mut self.place,
+                    &mut stand.place,
+                    driver,
+                    false,
+                    &self.core,
+                );
+                Ok(())
+            }
+            Err(fault) => {
+                look(count, &mut self.place, &mut stand.place);
+                Err(fault)
+            }
+        }
+    }
+
     /// Files a report by a driver of a seat.
     pub fn file(
         &mut self,
@@ -174,7 +222,8 @@ impl<N: HallName> State<N> {
     }
 }
 
-/// One event of the core, with its driver beside it. It is judged, then room is made, and then it happens.
+/// One event of the core, with its driver beside it. Room for the driver is made first, so that an event which happened
+/// can't lack it.
 fn write_event(
     core: &mut Core,
     drivers: &mut Vec<u64>,
@@ -187,13 +236,43 @@ fn write_event(
     ensures refused { IfErr result (IsRefusal core.old.world.net (length core.old.world.journal) event) }
     ensures err { OnErr result ((core.new ≡ core.old) × (drivers.new.items ≡ drivers.old.items)) }
 {
-    core.world().judge(&event)?;
     if drivers.reserve(1).is_err() {
-        return Err(NetFault::OutOfMemory);
+        return Err(fault_without_room(core, &event));
     }
     let entry = core.step(event, words)?;
     drivers.push_reserved(driver);
     Ok(entry)
+}
+
+/// One event of the core, with its driver beside it, likewise. Nothing is copied of its entry.
+fn drive_event(
+    core: &mut Core,
+    drivers: &mut Vec<u64>,
+    driver: u64,
+    event: Event,
+    words: &Words,
+) -> Result<(), NetFault>
+    ensures happened { OnOk result ((e : EntryOf) × Happened core.old event words.now e core.new) }
+    ensures driver { OnOk result (drivers.new.items ≡ drivers.old.items ++ driver ∷ []) }
+    ensures refused { IfErr result (IsRefusal core.old.world.net (length core.old.world.journal) event) }
+    ensures err { OnErr result ((core.new ≡ core.old) × (drivers.new.items ≡ drivers.old.items)) }
+{
+    if drivers.reserve(1).is_err() {
+        return Err(fault_without_room(core, &event));
+    }
+    core.take_event(event, words)?;
+    drivers.push_reserved(driver);
+    Ok(())
+}
+
+/// Why an event is refused for which there is no room: the first applicable refusal, or else out of memory.
+fn fault_without_room(core: &Core, event: &Event) -> NetFault
+    ensures { IsRefusal core.now.world.net (length core.now.world.journal) event.now result }
+{
+    match core.world().judge(event) {
+        Ok(()) => NetFault::OutOfMemory,
+        Err(fault) => fault,
+    }
 }
 
 /// One report of the core, likewise.
@@ -208,11 +287,20 @@ fn write_report(
     ensures refused { IfErr result (IsRefusedBy out_of_memory (FilingJudged core.old report)) }
     ensures err { OnErr result ((core.new ≡ core.old) × (drivers.new.items ≡ drivers.old.items)) }
 {
-    core.judge_report(&report)?;
     if drivers.reserve(1).is_err() {
-        return Err(CoreFault::OutOfMemory);
+        return Err(report_fault_without_room(core, &report));
     }
     core.file(report)?;
     drivers.push_reserved(driver);
     Ok(())
+}
+
+/// Why a report is refused for which there is no room: the first applicable refusal, or else out of memory.
+fn report_fault_without_room(core: &Core, report: &Report) -> CoreFault
+    ensures { IsRefusedBy out_of_memory (FilingJudged core.now report.now) result }
+{
+    match core.judge_report(report) {
+        Ok(()) => CoreFault::OutOfMemory,
+        Err(fault) => fault,
+    }
 }

@@ -7,3 +7,4 @@ pub mod ParamsState
 pub mod FaultOrder
 pub mod Text
 pub mod Workers
+pub mod RefillNames

@@ -5,8 +5,8 @@ use Rattle.ov_ids.specs.declared.refill_rule.Refill.TheVariants.{Never}
 
 -- The parameters of HyParView (Leitão, Pereira, Rodrigues, DSN 2007): the sizes of the active and the passive view, the
 -- lengths of the active and the passive random walk (ARWL, PRWL), how many active and how many passive members a
--- shuffle samples, and the time to live of a shuffle. The last one, an extension of ours, is the rule by which a node that
--- is told DISCONNECT looks for another active member.
+-- shuffle samples, and the time to live of a shuffle. The last one, an extension of ours, is the rule by which a node
+-- that is told DISCONNECT looks for another active member.
 pub record ParamsState : Type 0 where
   pub active : ℕ
   pub passive : ℕ

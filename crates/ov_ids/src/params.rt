@@ -54,8 +54,8 @@ impl Model for Params {
     ghost view = { λ a. record (params_of a.active a.passive a.arwl a.prwl a.ka a.kp a.shuffle_ttl)
         { refill = a.refill } };
 
-    ghost invariant = { λ a. AreWithinLimits (record (params_of a.active a.passive a.arwl a.prwl a.ka a.kp a.shuffle_ttl)
-        { refill = a.refill }) };
+    ghost invariant = { λ a. AreWithinLimits (record (params_of a.active a.passive a.arwl a.prwl a.ka a.kp
+        a.shuffle_ttl) { refill = a.refill }) };
 
     ghost inverse = { λ p. record {
       active = p.active;

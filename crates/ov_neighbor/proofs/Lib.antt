@@ -1,1 +1,2 @@
 pub mod AttemptState
+pub mod Parting

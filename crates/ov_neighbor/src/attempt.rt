@@ -146,6 +146,30 @@ fn go_on(
     }
 }
 
+/// Begins a new attempt, which has tried nobody yet. Room for one tried node must be there. Returns the node that it
+/// asked.
+fn begin_anew(
+    tried: &mut Vec<NodeId>,
+    views: &Views,
+    draws: &mut Draws<'_>,
+    moves: &mut Moves,
+) -> Option<NodeId>
+    requires words { 0 < length draws.old }
+    requires room { 0 < vec_capacity tried.old }
+    requires sends { HasRoom moves.old 1 0 }
+    requires none { moves.old.sends.items ≡ [] }
+    ensures allowed { Drawn draws.old draws.new (λ choices. GoesOnAsking views.now [] choices
+        (record { asked = result; tried = tried.new.items }) moves.new.sends.items) }
+    ensures attempt { IsAttempt (record { asked = result; tried = tried.new.items }) }
+    ensures changes { moves.new.changes ≡ moves.old.changes }
+    ensures words { length draws.old ≤ length draws.new + 1 }
+    ensures few { vec_len moves.new.sends ≤ 1 }
+    ensures ranges { AreSendsInRange moves.new.sends.items }
+{
+    tried.clear();
+    go_on(tried, views, draws, moves)
+}
+
 /// The effects of NEIGHBORREPLY from a node. If the attempt waits for that node, its yes ends the attempt and makes it
 /// active, and after its no the attempt goes on. A yes from any other node that is not active is answered by
 /// DISCONNECT. Any other reply does nothing. At most two random words are used. OutOfMemory (99) if an allocation is
@@ -219,8 +243,7 @@ pub fn on_crash_report(
     let changes = views.forget(crashed);
     moves.tell_changes(changes);
     if was_active {
-        attempt.tried.clear();
-        attempt.asked = go_on(&mut attempt.tried, views, draws, &mut moves);
+        attempt.asked = begin_anew(&mut attempt.tried, views, draws, &mut moves);
         return Ok(moves);
     }
     if attempt.awaits(crashed) {
@@ -273,8 +296,8 @@ pub fn on_disconnect(
     let starts = starts_attempt(views);
     views.add_passive(from, draws);
     if starts {
-        attempt.tried.clear();
-        attempt.asked = go_on(&mut attempt.tried, views, draws, &mut moves);
+        attempt.asked = begin_anew(&mut attempt.tried, views, draws, &mut moves);
+        return Ok(moves);
     }
     Ok(moves)
 }

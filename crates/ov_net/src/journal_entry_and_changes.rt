@@ -61,17 +61,6 @@ pub(crate) struct Told {
 }
 
 impl Told {
-    /// The same told once more, or out of memory (99).
-    pub(crate) fn copy(&self, alloc: Global) -> Result<Told, OutOfMemory>
-        ensures { IfOk result (λ t. t ≡ self.now) }
-    {
-        Ok(Told {
-            event: self.event.copy(alloc)?,
-            changes: self.changes.copy(alloc)?,
-            delivery: copy_delivery(alloc, &self.delivery)?,
-        })
-    }
-
     /// The entry that tells this, with this number and these random words.
     pub(crate) fn entry(self, number: u32, words: &Words) -> Entry
         ensures { result ≡ record {

@@ -1,13 +1,15 @@
-ghost use Rattle.std.specs.Prelude.{◌≡◌, OnOk, OnErr};
+ghost use Rattle.std.specs.Prelude.{◌≡◌, IfOk, OnOk, OnErr};
 ghost use Rattle.ov_net.specs.Code.Effects.{CanChange, NodeChanges};
 
 use crate::boxed_live_peer::LivePeer;
-use crate::journal_entry_and_changes::Change;
+use crate::event::Event;
+use crate::journal_entry_and_changes::{Change, Told, copy_delivery};
 use crate::member::Member;
 use crate::nodes::Nodes;
 use crate::packet::Packet;
 use ov_ids::{NodeId, OutOfMemory, Seq};
 use ov_peer::{Delivery, Plan};
+use std::alloc::Global;
 
 /// How an event changes a node.
 pub(crate) enum NodeChange {
@@ -58,4 +60,18 @@ pub(crate) struct Effects {
     pub(crate) changes: Seq<Change>,
     /// What a node delivers.
     pub(crate) delivery: Option<Delivery>,
+}
+
+impl Effects {
+    /// A copy of what the entry of this event is to tell if these are its effects, or out of memory (99).
+    pub(crate) fn told(&self, alloc: Global, event: &Event) -> Result<Told, OutOfMemory>
+        ensures { IfOk result (λ t. t
+            ≡ record { event = event.now; changes = self.now.changes; delivery = self.now.delivery }) }
+    {
+        Ok(Told {
+            event: event.copy(alloc)?,
+            changes: self.changes.copy(alloc)?,
+            delivery: copy_delivery(alloc, &self.delivery)?,
+        })
+    }
 }

@@ -2,10 +2,11 @@ ghost use Rattle.std.specs.Prelude.{◌≡◌, ◌≢◌, ◌≤◌, ◌<◌, �
 ghost use Rattle.std.specs.Prelude.{IfOk, IfErr, IfSome, IfNone, OnOk, OnErr, IsTrue};
 ghost use Rattle.ov_graph.specs.Links.{IsGraph};
 ghost use Rattle.ov_peer.specs.PeerState.{PeerState};
-ghost use Rattle.ov_net.specs.Code.Effects.{AreEffects, HaveRoom, IsWithin, taking};
+ghost use Rattle.ov_net.specs.Code.Effects.{AreEffects, HaveRoom, IsWithin, entry_of, taking};
 ghost use Rattle.ov_net.specs.Code.Effects.{NamedCanChange, NamedNodeChanges};
 ghost use Rattle.ov_net.specs.Code.LinkChanges.{Gains, MayGain, newborn_of};
 ghost use Rattle.ov_net.specs.Journal.{AreLinks, AreSameSince, DeliversOnce};
+ghost use Rattle.ov_net.specs.declared.journal_entry_and_changes.Entry.{Entry as EntryOf};
 ghost use Rattle.ov_net.specs.Limits.{most_packets, most_entries};
 ghost use Rattle.ov_net.specs.Net.{LivesAs};
 ghost use Rattle.ov_net.specs.NetStep.{NetStep};
@@ -174,20 +175,48 @@ impl World {
         ensures refused { IfErr result (IsRefusal self.old.net (length self.old.journal) event) }
         ensures err { OnErr result (self.new ≡ self.old) }
     {
-        self.judge(&event)?;
-        let effects = self.effects_of(&event, words)?;
-        Ok(self.apply(event, words, effects)?)
+        let effects = self.judged_effects(&event, words)?;
+        let answer = effects.told(self.alloc, &event)?;
+        let number = self.apply(event, words, effects)?;
+        Ok(answer.entry(number, words))
     }
 
-    /// Puts the effects of an event into effect, and appends the event's entry. Returns an equal entry. Out of
+    /// Takes one event as `step` does, with the same faults, and copies nothing of its entry, which is the last of the
+    /// journal then.
+    pub fn take_event(&mut self, event: Event, words: &Words) -> Result<(), NetFault>
+        ensures judged { OnOk result (MayHappen self.old.net (length self.old.journal) event) }
+        ensures step { OnOk result ((e : EntryOf) × NetStep self.old.net event words.now self.new.net e
+            × (self.new.journal ≡ self.old.journal ++ e ∷ []) × (e.number ≡ length self.new.journal)) }
+        ensures refused { IfErr result (IsRefusal self.old.net (length self.old.journal) event) }
+        ensures err { OnErr result (self.new ≡ self.old) }
+    {
+        let effects = self.judged_effects(&event, words)?;
+        self.apply(event, words, effects)?;
+        Ok(())
+    }
+
+    /// The effects of an event, if no refusal applies; else the first applicable one. Nothing changes.
+    fn judged_effects(&self, event: &Event, words: &Words) -> Result<Effects, NetFault>
+        ensures judged { IfOk result (λ _. MayHappen self.now.net (length self.now.journal) event.now) }
+        ensures effects { IfOk result (AreEffects self.now.net event.now words.now) }
+        ensures few { IfOk result (HaveRoom self.now.net) }
+        ensures refused { IfErr result (IsRefusal self.now.net (length self.now.journal) event.now) }
+    {
+        self.judge(event)?;
+        Ok(self.effects_of(event, words)?)
+    }
+
+    /// Puts the effects of an event into effect, and appends the event's entry, whose number is returned. Out of
     /// memory, nothing changes.
-    fn apply(&mut self, event: Event, words: &Words, effects: Effects) -> Result<Entry, OutOfMemory>
+    fn apply(&mut self, event: Event, words: &Words, effects: Effects) -> Result<u32, OutOfMemory>
         requires judged { MayHappen self.old.net (length self.old.journal) event }
         requires effects { AreEffects self.old.net event words.now effects }
         requires few { HaveRoom self.old.net effects }
-        ensures step { IfOk result (λ e. NetStep self.old.net event words.now self.new.net e) }
-        ensures journal { IfOk result (λ e. self.new.journal ≡ self.old.journal ++ e ∷ []) }
-        ensures number { IfOk result (λ e. e.number ≡ length self.new.journal) }
+        ensures step { IfOk result
+            (λ n. NetStep self.old.net event words.now self.new.net (entry_of event words.now effects n)) }
+        ensures journal { IfOk result
+            (λ n. self.new.journal ≡ self.old.journal ++ entry_of event words.now effects n ∷ []) }
+        ensures number { IfOk result (λ n. n ≡ length self.new.journal) }
         ensures err { OnErr result (self.new ≡ self.old) }
     {
         let Effects {
@@ -203,42 +232,39 @@ impl World {
             delivery,
         };
         let number = next_number(&self.journal);
-        let answer = reserve_and_change(
-            self.alloc,
+        reserve_and_change(
             &mut self.nodes,
             &mut self.graph,
             &mut self.packets,
             &mut self.journal,
             node,
             packets.len(),
-            &told,
+            &told.event,
         )?;
         change_graph(&mut self.graph, &self.nodes, told.changes.as_slice());
         update_packets(&mut self.packets, taken, packets);
         self.since = since_after(self.since, &told, number);
         self.journal.push_reserved(told.entry(number, words));
-        Ok(answer.entry(number, words))
+        Ok(number)
     }
 }
 
-/// Reserves room for an entry and `count` packets, copies what the entry tells, adds its newborn node to the graph, and
-/// changes the named node, if there is one. Returns the copy. Out of memory, nothing changes.
+/// Reserves room for an entry and `count` packets, adds the node that is born at the event to the graph, and changes the
+/// named node, if there are any. Out of memory, nothing changes.
 fn reserve_and_change(
-    alloc: Global,
     nodes: &mut Nodes,
     graph: &mut Graph,
     packets: &mut BlockList<Packet>,
     journal: &mut Vec<Entry>,
     node: Option<(NodeId, NodeChange)>,
     count: usize,
-    told: &Told,
-) -> Result<Told, OutOfMemory>
+    event: &Event,
+) -> Result<(), OutOfMemory>
     requires change { NamedCanChange node nodes.old }
     requires graph { IsGraph graph.old }
-    requires newborn { MayGain (newborn_of told.now.event) graph.old }
-    ensures copy { IfOk result (λ t. t ≡ told.now) }
+    requires newborn { MayGain (newborn_of event.now) graph.old }
     ensures ok { OnOk result (NamedNodeChanges node nodes.old nodes.new) }
-    ensures gains { OnOk result (Gains (newborn_of told.now.event) graph.old graph.new) }
+    ensures gains { OnOk result (Gains (newborn_of event.now) graph.old graph.new) }
     ensures graph { OnOk result (IsGraph graph.new) }
     ensures err { OnErr result (nodes.new ≡ nodes.old) }
     ensures same { OnErr result (graph.new ≡ graph.old) }
@@ -247,9 +273,9 @@ fn reserve_and_change(
     ensures places { OnOk result (count ≤ packets.new.room) }
     ensures place { OnOk result (vec_len journal.new < vec_capacity journal.new) }
 {
-    let answer = reserve_and_copy(alloc, packets, journal, count, told)?;
-    change_nodes(nodes, graph, &told.event, node)?;
-    Ok(answer)
+    reserve(packets, journal, count)?;
+    change_nodes(nodes, graph, event, node)?;
+    Ok(())
 }
 
 /// Adds the node that is born at an event to the graph, and changes the named node, if there are any. Out of memory,
@@ -279,16 +305,12 @@ fn change_nodes(
     }
 }
 
-/// Reserves room for an entry and `count` packets, and returns a copy of what the entry tells. Packets and journal stay
-/// the same.
-fn reserve_and_copy(
-    alloc: Global,
+/// Reserves room for an entry and `count` packets. Packets and journal stay the same.
+fn reserve(
     packets: &mut BlockList<Packet>,
     journal: &mut Vec<Entry>,
     count: usize,
-    told: &Told,
-) -> Result<Told, OutOfMemory>
-    ensures copy { IfOk result (λ t. t ≡ told.now) }
+) -> Result<(), OutOfMemory>
     ensures packets { packets.new.items ≡ packets.old.items }
     ensures journal { journal.new.items ≡ journal.old.items }
     ensures places { OnOk result (count ≤ packets.new.room) }
@@ -296,7 +318,7 @@ fn reserve_and_copy(
 {
     packets.reserve(count)?;
     journal.reserve(1)?;
-    told.copy(alloc)
+    Ok(())
 }
 
 /// The number of the next entry.

@@ -2,4 +2,5 @@ pub mod Blocks
 pub mod OfReader
 pub mod Printing
 pub mod Recent
+pub mod Recorded
 pub mod Refused

@@ -1,8 +1,9 @@
 //! The hall of a run while one hand has it: what lines outside sections need of it.
-ghost use Rattle.std.specs.Prelude.{◌≡◌, length, IfOk, IfErr, OnOk, OnErr};
+ghost use Rattle.std.specs.Prelude.{◌≡◌, length, IfErr, OnOk, OnErr};
 ghost use Rattle.ov_snap.specs.Logs.{core_made};
 ghost use Rattle.ov_ids.specs.FaultOrder.{IsRefusedBy};
 ghost use Rattle.ov_net.specs.Refusals.{IsRefusal};
+ghost use Rattle.ov_net.specs.declared.journal_entry_and_changes.Entry.{Entry};
 ghost use Rattle.ov_snap.specs.CoreState.{opening_core};
 ghost use Rattle.ov_snap.specs.Filing.{WasFiled};
 ghost use Rattle.ov_snap.specs.Refusals.{FilingJudged};
@@ -11,7 +12,7 @@ ghost use Rattle.ov_snap.specs.declared.core_fault.CoreFault.TheVariants.{OutOfM
 
 use ov_hall::{HallName, Opening, Whole};
 use ov_ids::Params;
-use ov_net::{Entry, Event, NetFault};
+use ov_net::{Event, NetFault};
 use ov_snap::{Core, CoreFault, Report};
 use ov_words::Words;
 use std::alloc::Global;
@@ -70,13 +71,13 @@ impl<N: HallName> RunHall<N> {
         self.hall.core()
     }
 
-    /// Takes one event, as `Core::step` does.
-    pub(crate) fn step(&mut self, event: Event, words: &Words) -> Result<Entry, NetFault>
-        ensures happened { IfOk result (λ e. Happened self.old event words.now e self.new) }
+    /// Takes one event, as `Core::take_event` does.
+    pub(crate) fn take_event(&mut self, event: Event, words: &Words) -> Result<(), NetFault>
+        ensures happened { OnOk result ((e : Entry) × Happened self.old event words.now e self.new) }
         ensures refused { IfErr result (IsRefusal self.old.world.net (length self.old.world.journal) event) }
         ensures err { OnErr result (self.new ≡ self.old) }
     {
-        self.hall.step(event, words)
+        self.hall.take_event(event, words)
     }
 
     /// Files a report, as `Core::file` does.

@@ -1,6 +1,7 @@
-ghost use Rattle.std.specs.Prelude.{◌≡◌, ◌<◌, ◌≤◌, ◌+◌, length, None, IfOk, IfErr, OnErr, IsErrOf};
+ghost use Rattle.std.specs.Prelude.{◌≡◌, ◌<◌, ◌≤◌, ◌+◌, ◌-◌, length, slice_get, None, Some, IfOk, IfErr, OnErr};
+ghost use Rattle.std.specs.Prelude.{IsErrOf};
 ghost use Rattle.ov_io.specs.Device.{AppendsPrefixOf, most_faults, write_faults as sink_faults, write_number};
-ghost use Rattle.ov_net.specs.declared.journal_entry_and_changes.Entry.{Entry};
+ghost use Rattle.ov_net.specs.declared.journal_entry_and_changes.Entry.{Entry as EntryOf};
 ghost use Rattle.ov_snap.specs.Run.{Happened};
 ghost use Rattle.ov_run_meaning.specs.Accepting.{DoesEvent, FilesReport, RefusesAnalysis, RefusesEvent};
 ghost use Rattle.ov_run_meaning.specs.Faults.{write_faults};
@@ -20,7 +21,7 @@ use crate::sections_at_once::{BlockRan, run_together};
 use ov_hall::HallName;
 use ov_ids::{OutOfMemory, Seq, Workers};
 use ov_io::{Sink, WriteFault};
-use ov_net::Event;
+use ov_net::{Entry, Event};
 use ov_run_meaning::{Outcome, Refusal, RunFault, Strictness, write_done, write_entry, write_look};
 use ov_scenario::{Line, LineToRun, LinesToRun, SectionLine, Subject};
 use ov_snap::Core;
@@ -240,14 +241,25 @@ fn run_event<N: HallName, W: Write>(
     ensures begun { OnErr result (WritesPrefix (DoesEvent hall.old event words.now hall.new)
         (W.contents sink.old.writer) (W.contents sink.new.writer)) }
     ensures happened { IsErrOf result RunFault.OutOfMemory
-        → (entry : Entry) × Happened hall.old event words.now entry hall.new }
+        → (entry : EntryOf) × Happened hall.old event words.now entry hall.new }
     ensures nothing { IsErrOf result RunFault.OutOfMemory → sink.new ≡ sink.old }
     ensures faults { sink.new.faults ≡ sink.old.faults + write_faults result }
     ensures kind { IfErr result IsOfWriting }
 {
-    match hall.step(event, words) {
-        Ok(entry) => write_entry(alloc, &entry, sink),
+    match hall.take_event(event, words) {
+        Ok(_) => write_entry(alloc, last_entry(hall.core()), sink),
         Err(fault) => Ok(Outcome::Refused(Refusal::World(fault))),
+    }
+}
+
+/// The last entry of the journal, which has one.
+fn last_entry(core: &Core) -> &Entry
+    requires { 0 < length core.now.world.journal }
+    ensures { slice_get core.now.world.journal (length core.now.world.journal - 1) ≡ Some result.now }
+{
+    match core.world().journal().last() {
+        Some(entry) => entry,
+        None => unreachable!(),
     }
 }
 

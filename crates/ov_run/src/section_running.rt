@@ -155,9 +155,9 @@ fn run_event<N: HallName>(
 ) -> (Outcome, Pass<N>)
     ensures { RunsLine N.params pass (deed.Event event words.now) result.0 result.1 }
 {
-    let (answer, pass) = hall.step(rt, pass, event, words);
+    let (answer, pass) = hall.take_event(rt, pass, event, words);
     match answer {
-        Ok(_) => (Outcome::Accepted, pass),
+        Ok(()) => (Outcome::Accepted, pass),
         Err(fault) => (Outcome::Refused(Refusal::World(fault)), pass),
     }
 }

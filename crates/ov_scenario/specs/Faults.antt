@@ -11,6 +11,7 @@ use Rattle.ov_scenario.specs.declared.scenario_fault.Setting.TheVariants as sets
 abbrev pub name_of : Setting → List ℕ
 name_of sets.Params = codes "params"
 name_of sets.Seed = codes "seed"
+name_of sets.Refill = codes "refill"
 
 -- the number of a fault of a line: parameters out of their limits have one of their own
 abbrev pub line_fault_number : LineFault → ℕ

@@ -5,6 +5,8 @@ use Rattle.std.specs.Prelude.{if◌then◌else◌, Option, Some, None}
 use Rattle.rand_core.specs.Stream.{Stream}
 use Rattle.ov_ids.specs.ParamsState.{ParamsState, AreWithinLimits}
 use Rattle.ov_ids.specs.Members.{Has}
+use Rattle.ov_ids.specs.declared.refill_rule.Refill.{Refill}
+use Rattle.ov_ids.specs.declared.refill_rule.Refill.TheVariants.{Never}
 use Rattle.ov_net.specs.declared.event.Event.{Event}
 use Rattle.ov_scenario.specs.Draws.{AreDraws, seeded}
 use Rattle.ov_lines.specs.Lines.{kept_lines, long_bits}
@@ -56,6 +58,11 @@ abbrev pub is_seed : Option Statement → Bool
 is_seed (Some (says.Seed seed)) = true
 is_seed other = false
 
+-- a line that says this gives a rule at DISCONNECT
+abbrev pub is_refill : Option Statement → Bool
+is_refill (Some (says.Refill rule)) = true
+is_refill other = false
+
 -- the number of the first of these lines that is of a kind
 abbrev pub first_of : (Option Statement → Bool) → List Stated → Option ℕ
 first_of is_kind [] = None
@@ -71,12 +78,22 @@ abbrev pub BeginWithEvent : List Stated → Type 0
 BeginWithEvent [] = ⊥
 BeginWithEvent (line ∷ more) = (event : Event) × (line.says ≡ Some (says.Event event))
 
--- the parameters if no line gives any: those of the experiments of HyParView (Leitão, Pereira, Rodrigues, DSN 2007),
--- and a time to live of a shuffle that is chosen here
+-- the parameters if no line gives any: those of the experiments of HyParView (Leitão, Pereira, Rodrigues, DSN 2007), a
+-- time to live of a shuffle that is chosen here, and the profile's rule at DISCONNECT
 abbrev pub default_params : ParamsState
-default_params = record { active = 5; passive = 30; arwl = 6; prwl = 3; ka = 3; kp = 4; shuffle_ttl = 4 }
+default_params = record {
+  active = 5;
+  passive = 30;
+  arwl = 6;
+  prwl = 3;
+  ka = 3;
+  kp = 4;
+  shuffle_ttl = 4;
+  refill = Never;
+}
 
--- these are the parameters with these numbers, in the order of the line, and they are within their limits
+-- these are parameters with these numbers, in the order of the line, and they are within their limits. The line leaves
+-- the rule at DISCONNECT open, which a line of its own gives
 abbrev pub AreParams : List ℕ → ParamsState → Type 0
 AreParams numbers p =
     (numbers ≡ p.active ∷ p.passive ∷ p.arwl ∷ p.prwl ∷ p.ka ∷ p.kp ∷ p.shuffle_ttl ∷ []) × AreWithinLimits p
@@ -85,13 +102,14 @@ AreParams numbers p =
 abbrev pub AreWithin : List ℕ → Type 0
 AreWithin numbers = (p : ParamsState) × AreParams numbers p
 
--- what matters of the lines before a line: the numbers of the first event, the first parameters and the first seed, and
--- the block that is open
+-- what matters of the lines before a line: the numbers of the first event, the first parameters, the first seed and the
+-- first rule at DISCONNECT, and the block that is open
 abbrev pub before_of : List Stated → Before
 before_of lines = record {
   event = first_of is_event lines;
   params = first_of is_params lines;
   seed = first_of is_seed lines;
+  refill = first_of is_refill lines;
   block = open_after lines;
 }
 
@@ -113,6 +131,8 @@ abbrev pub IsWrongOutside : Before → Statement → List Stated → LineFault �
 IsWrongOutside before (says.Words words) after f = IsNoEventNext after f
 -- a seed that comes too late
 IsWrongOutside before (says.Seed seed) after f = IsTooLate sets.Seed before.event before.seed f
+-- a rule at DISCONNECT that comes too late
+IsWrongOutside before (says.Refill rule) after f = IsTooLate sets.Refill before.event before.refill f
 -- parameters that come too late, or else are out of their limits
 IsWrongOutside before (says.Params numbers) after f =
     IsTooLate sets.Params before.event before.params f
@@ -141,9 +161,10 @@ IsWrongInside block says.Also after f =
     (block.sections ≡ most_sections) × (f ≡ fault.TooManySections block.together)
 -- the end of the block is never at fault
 IsWrongInside block says.End after f = ⊥
--- parameters, a seed, a look, and another block
+-- parameters, a seed, a rule at DISCONNECT, a look, and another block
 IsWrongInside block (says.Params numbers) after f = f ≡ fault.NotHeld block.together
 IsWrongInside block (says.Seed seed) after f = f ≡ fault.NotHeld block.together
+IsWrongInside block (says.Refill rule) after f = f ≡ fault.NotHeld block.together
 IsWrongInside block (says.Look look) after f = f ≡ fault.NotHeld block.together
 IsWrongInside block says.Together after f = f ≡ fault.NotHeld block.together
 
@@ -216,18 +237,25 @@ IsFirstFault lines refused.OutOfMemory = Unit {0}
 abbrev pub IsReadingFault : List ℕ → ScenarioFault → Type 0
 IsReadingFault bytes fault = IsFirstFault (stated_lines bytes) fault
 
--- these are the parameters of these lines: those that one of them gives, or the default ones if none gives any
+-- these are the parameters of these lines, whatever the rule at DISCONNECT: those that one of them gives, or the default
+-- ones if none gives any
 unfoldable pub AreParamsOf : List Stated → ParamsState → Type 0
 AreParamsOf lines p =
     ((line : Stated) × (numbers : List ℕ) × Has lines line × (line.says ≡ Some (says.Params numbers))
     × AreParams numbers p)
-    ⊎ ((¬ HasKind says.Params lines) × (p ≡ default_params))
+    ⊎ ((¬ HasKind says.Params lines) × (p ≡ record default_params { refill = p.refill }))
 
 -- this is the seed of these lines: the one that one of them gives, or 0 if none does
 unfoldable pub IsSeedOf : List Stated → ℕ → Type 0
 IsSeedOf lines seed =
     ((line : Stated) × Has lines line × (line.says ≡ Some (says.Seed seed)))
     ⊎ ((¬ HasKind says.Seed lines) × (seed ≡ 0))
+
+-- this is the rule at DISCONNECT of these lines: the one that one of them gives, or the profile's if none does
+unfoldable pub IsRefillOf : List Stated → Refill → Type 0
+IsRefillOf lines rule =
+    ((line : Stated) × Has lines line × (line.says ≡ Some (says.Refill rule)))
+    ⊎ ((¬ HasKind says.Refill lines) × (rule ≡ Never))
 
 unfoldable mutual
   -- lines that say this run as these lines: the events, the looks, the analyses and the blocks of sections in order,
@@ -271,11 +299,12 @@ abbrev pub AreToRun : List (ℕ × List ℕ) → ℕ → List Line → Type 0
 AreToRun lines seed to_run =
     (drawn : List (List ℕ)) × (left : Stream) × AreDraws (seeded seed) drawn left × RunAs (told lines) drawn to_run
 
--- the bytes of a file say this scenario: no line is at fault, the parameters and the seed are those of the lines, the
--- lines ask for those to run, and the drivers are as many as these need
+-- the bytes of a file say this scenario: no line is at fault, the parameters with their rule at DISCONNECT and the seed
+-- are those of the lines, the lines ask for those to run, and the drivers are as many as these need
 pub record IsScenario (bytes : List ℕ) (s : Scenario) : Type 0 where
   pub faultless : AreFaultless (stated_lines bytes)
   pub params : AreParamsOf (stated_lines bytes) s.params
+  pub refill : IsRefillOf (stated_lines bytes) s.params.refill
   pub seed : IsSeedOf (stated_lines bytes) s.seed
   pub lines : AreToRun (kept_lines bytes) s.seed s.lines.items
   pub drivers : s.drivers ≡ drivers_for s.lines.items

@@ -5,6 +5,8 @@ use Rattle.std.specs.Prelude.{Some, None, option_map, if◌then◌else◌}
 use Rattle.ov_net.specs.declared.event.Event.{Event}
 use Rattle.ov_net.specs.declared.event.Event.TheVariants as event
 use Rattle.ov_ids.specs.Options.{◌>>=◌}
+use Rattle.ov_ids.specs.RefillNames.{refill_named}
+use Rattle.ov_ids.specs.declared.refill_rule.Refill.{Refill}
 use Rattle.ov_lines.specs.Lines.{words_of, behind_word, without_space, same, row, number_within, one, two, three}
 use Rattle.ov_lines.specs.Lines.{each_number, short_bits, one_list, long_bits, workers_first}
 use Rattle.ov_scenario.specs.EventWords.{event_words}
@@ -28,6 +30,12 @@ timer_of p = event.Timer p.0 (record { origin = p.1.0; seq = p.1.1 })
 -- the numbers of seven parameters
 abbrev pub seven_numbers : List (List ℕ) → Option (List ℕ)
 seven_numbers words = each_number short_bits words >>= seven
+
+-- one word, which is the word for a rule at DISCONNECT, and no further word
+abbrev pub one_rule : List (List ℕ) → Option Refill
+one_rule [] = None
+one_rule (v ∷ []) = refill_named v
+one_rule (v ∷ w ∷ more) = None
 
 -- `boot N` and `boot N by C`, after the name
 abbrev pub boot_of : List (List ℕ) → Option Event
@@ -90,6 +98,7 @@ abbrev pub setting_rows : List (List ℕ) → List (List ℕ × Option Statement
 setting_rows words =
     (codes "params", option_map says.Params (seven_numbers words))
     ∷ (codes "seed", option_map says.Seed (one long_bits words))
+    ∷ (codes "refill", option_map says.Refill (one_rule words))
     ∷ (codes "words", option_map says.Words (event_words words))
     ∷ []
 

@@ -12,13 +12,14 @@ use crate::section_judging::fault_of_words;
 use crate::statement::{Stated, Statement};
 use ov_ids::Params;
 
-/// What is known of the lines before a line: the numbers of the first event, the first parameters and the first seed,
-/// whether or not these are at fault, and the block that is open.
+/// What is known of the lines before a line: the numbers of the first event, the first parameters, the first seed and the
+/// first rule at DISCONNECT, whether or not these are at fault, and the block that is open.
 #[derive(Clone, Copy)]
 pub(crate) struct Before {
     event: Option<usize>,
     params: Option<usize>,
     seed: Option<usize>,
+    refill: Option<usize>,
     block: Option<OpenBlock>,
 }
 
@@ -32,6 +33,7 @@ impl Before {
             event: None,
             params: None,
             seed: None,
+            refill: None,
             block: None,
         }
     }
@@ -63,6 +65,7 @@ impl Before {
         match said {
             Statement::Params(numbers) => self.fault_of_params(*numbers),
             Statement::Seed(_) => self.fault_of_setting(Setting::Seed, self.seed),
+            Statement::Refill(_) => self.fault_of_setting(Setting::Refill, self.refill),
             Statement::Words(_) => fault_of_words(after),
             Statement::Event(_) => None,
             Statement::Look(_) => None,
@@ -109,6 +112,7 @@ impl Before {
             Ok(Statement::Event(_)) => before.event = before.event.or(Some(line.number)),
             Ok(Statement::Params(_)) => before.params = before.params.or(Some(line.number)),
             Ok(Statement::Seed(_)) => before.seed = before.seed.or(Some(line.number)),
+            Ok(Statement::Refill(_)) => before.refill = before.refill.or(Some(line.number)),
             Ok(
                 Statement::Words(_)
                 | Statement::Look(_)
@@ -133,7 +137,8 @@ fn fault_of_block(after: &LinesAhead) -> Option<LineFault>
     Some(LineFault::NoEnd)
 }
 
-/// The parameters with these numbers, in the order of a line of parameters, if they are within their limits.
+/// The parameters with these numbers, in the order of a line of parameters, if they are within their limits, with the
+/// profile's rule at DISCONNECT.
 pub(crate) fn params_within_limits(numbers: [u32; 7]) -> Option<Params>
     ensures within { IfSome result (λ params. AreParams numbers params) }
     ensures beyond { IfNone result (¬ AreWithin numbers) }

@@ -2,7 +2,7 @@ ghost use Rattle.std.specs.Prelude.{◌≡◌};
 ghost use Rattle.ov_scenario.specs.Faults.{name_of, line_fault_number, number_of};
 ghost use Rattle.ov_scenario.specs.declared.scenario_fault.ScenarioFault.TheVariants.{OutOfMemory as out_of_memory};
 
-use crate::statement_reading::{PARAMS, SEED};
+use crate::statement_reading::{PARAMS, REFILL, SEED};
 use ov_ids::OutOfMemory;
 use ov_lines::Unread;
 use std::alloc::AllocError;
@@ -16,6 +16,8 @@ pub enum Setting {
     Params,
     /// The seed of the random words that no line gives.
     Seed,
+    /// The rule at DISCONNECT of all nodes.
+    Refill,
 }
 
 impl Setting {
@@ -26,6 +28,7 @@ impl Setting {
         match self {
             Setting::Params => PARAMS,
             Setting::Seed => SEED,
+            Setting::Refill => REFILL,
         }
     }
 }

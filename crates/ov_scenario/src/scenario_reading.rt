@@ -1,5 +1,5 @@
 ghost use Rattle.std.specs.Prelude.{◌≡◌, None, max, IfOk, IfErr};
-ghost use Rattle.ov_scenario.specs.Code.Judging.{drivers_from, first_in, params_in, seed_in};
+ghost use Rattle.ov_scenario.specs.Code.Judging.{drivers_from, first_in, params_in, refill_in, seed_in};
 ghost use Rattle.ov_scenario.specs.RunLines.{lines_that_run};
 ghost use Rattle.ov_scenario.specs.Scenarios.{AreFaultless, IsReadingFault, IsScenario, stated_lines};
 
@@ -40,6 +40,7 @@ fn read_settings(alloc: Global, bytes: &[u8]) -> Result<Settings, ScenarioFault>
     ensures faultless { IfOk result (λ _. AreFaultless (stated_lines bytes.now)) }
     ensures params { IfOk result (λ settings. settings.params ≡ first_in params_in (stated_lines bytes.now)) }
     ensures seed { IfOk result (λ settings. settings.seed ≡ first_in seed_in (stated_lines bytes.now)) }
+    ensures refill { IfOk result (λ settings. settings.refill ≡ first_in refill_in (stated_lines bytes.now)) }
     ensures drivers { IfOk result (λ settings. settings.drivers ≡ max 1 (drivers_from None (stated_lines bytes.now))) }
     ensures fault { IfErr result (λ fault. IsReadingFault bytes.now fault) }
 {

@@ -24,6 +24,7 @@ impl OpenBlock {
             Statement::Analyse { subject, workers } => self.fault_of_analysis(subject, *workers),
             Statement::Params(_) => Some(self.not_held()),
             Statement::Seed(_) => Some(self.not_held()),
+            Statement::Refill(_) => Some(self.not_held()),
             Statement::Look(_) => Some(self.not_held()),
             Statement::Together => Some(self.not_held()),
         }

@@ -3,7 +3,7 @@ ghost use Rattle.ov_scenario.specs.Sections.{is_end, is_together};
 
 use crate::event_words_reading::GivenWords;
 use crate::scenario::{Look, Subject};
-use ov_ids::Workers;
+use ov_ids::{Refill, Workers};
 use ov_lines::Unread;
 use ov_net::Event;
 use std::marker::Model;
@@ -15,6 +15,8 @@ pub(crate) enum Statement<'a> {
     Params([u32; 7]),
     /// The seed of the random words that no line gives.
     Seed(u64),
+    /// The rule at DISCONNECT of all nodes.
+    Refill(Refill),
     /// The random words of the next event.
     Words(GivenWords<'a>),
     Event(Event),

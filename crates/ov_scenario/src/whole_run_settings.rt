@@ -1,20 +1,21 @@
 ghost use Rattle.std.specs.Prelude.{◌≡◌, List, None, max};
 ghost use Rattle.std.specs.Option.{option_or};
-ghost use Rattle.ov_scenario.specs.Code.Judging.{first_in, params_in, sections_of, seed_in};
+ghost use Rattle.ov_scenario.specs.Code.Judging.{first_in, params_in, refill_in, sections_of, seed_in};
 ghost use Rattle.ov_scenario.specs.Statements.{Stated as StatedLine};
-ghost use Rattle.ov_scenario.specs.Scenarios.{AreFaultless, AreParamsOf, IsSeedOf, default_params};
+ghost use Rattle.ov_scenario.specs.Scenarios.{AreFaultless, AreParamsOf, IsRefillOf, IsSeedOf, default_params};
 
 use crate::line_judging::params_within_limits;
 use crate::open_block::{OpenBlock, sections_of};
 use crate::statement::{Stated, Statement};
-use ov_ids::{Params, Workers};
+use ov_ids::{Params, Refill, Workers};
 
-/// What lines give for the whole run: the numbers of the first parameters, and the first seed, if they give any, and
-/// how many drivers they need.
+/// What lines give for the whole run: the numbers of the first parameters, the first seed, and the first rule at
+/// DISCONNECT, if they give any, and how many drivers they need.
 #[derive(Clone, Copy)]
 pub(crate) struct Settings {
     params: Option<[u32; 7]>,
     seed: Option<u64>,
+    refill: Option<Refill>,
     drivers: Workers,
 }
 
@@ -23,11 +24,13 @@ impl Settings {
     pub(crate) fn nothing() -> Settings
         ensures params { result.params ≡ None }
         ensures seed { result.seed ≡ None }
+        ensures refill { result.refill ≡ None }
         ensures drivers { result.drivers ≡ 1 }
     {
         Settings {
             params: None,
             seed: None,
+            refill: None,
             drivers: Workers::ONE,
         }
     }
@@ -36,6 +39,7 @@ impl Settings {
     pub(crate) fn with(self, line: &Stated, block: Option<OpenBlock>) -> Settings
         ensures params { result.params ≡ option_or self.params (params_in line.now.says) }
         ensures seed { result.seed ≡ option_or self.seed (seed_in line.now.says) }
+        ensures refill { result.refill ≡ option_or self.refill (refill_in line.now.says) }
         ensures drivers { result.drivers ≡ max self.drivers (sections_of block) }
     {
         let mut settings = self;
@@ -43,6 +47,7 @@ impl Settings {
         match &line.says {
             Ok(Statement::Params(numbers)) => settings.params = settings.params.or(Some(*numbers)),
             Ok(Statement::Seed(seed)) => settings.seed = settings.seed.or(Some(*seed)),
+            Ok(Statement::Refill(rule)) => settings.refill = settings.refill.or(Some(*rule)),
             Ok(
                 Statement::Words(_)
                 | Statement::Event(_)
@@ -57,8 +62,19 @@ impl Settings {
         settings
     }
 
-    /// The parameters that lines without a fault give, or the default ones.
+    /// The parameters that lines without a fault give, or the default ones, with the rule at DISCONNECT that they give,
+    /// or the profile's.
     pub(crate) fn params(&self) -> Params
+        ensures params { (lines : List StatedLine) → AreFaultless lines → self.now.params ≡ first_in params_in lines
+            → AreParamsOf lines result }
+        ensures refill { (lines : List StatedLine) → self.now.refill ≡ first_in refill_in lines
+            → IsRefillOf lines result.refill }
+    {
+        self.numbers().with_refill(self.refill())
+    }
+
+    /// The parameters whose numbers lines without a fault give, or the default ones.
+    fn numbers(&self) -> Params
         ensures { (lines : List StatedLine) → AreFaultless lines → self.now.params ≡ first_in params_in lines
             → AreParamsOf lines result }
     {
@@ -68,6 +84,16 @@ impl Settings {
         match params_within_limits(numbers) {
             Some(params) => params,
             None => default_params(),
+        }
+    }
+
+    /// The rule at DISCONNECT that lines give, or the profile's.
+    fn refill(&self) -> Refill
+        ensures { (lines : List StatedLine) → self.now.refill ≡ first_in refill_in lines → IsRefillOf lines result }
+    {
+        match self.refill {
+            Some(rule) => rule,
+            None => Refill::Never,
         }
     }
 

@@ -1,6 +1,6 @@
 -- A core stays sound, whatever happens and whatever is filed.
 use Rattle.std.proofs.Common.{◌≡◌, ◌≢◌, ◌⊎◌, ℕ, ◌<◌, List, [], ◌∷◌, ◌++◌, length, length-append, Option, Some, None}
-use Rattle.std.proofs.Common.{IfSome, IfNone, Result, Ok, Err, IfOk, OnErr, true≢false, Bool, IsTrue, ◌↔◌, false, inl}
+use Rattle.std.proofs.Common.{IfSome, IfNone, Result, Ok, Err, IfOk, OnOk, OnErr, true≢false, Bool, IsTrue, ◌↔◌, false, inl}
 use Rattle.std.proofs.Common.{◌≤◌, slice_get, inr, refl, sym, ap, ap₂, ◌∙◌, subst, arith}
 use Rattle.std.proofs.lemmas.Option.{none-some}
 use Rattle.ov_ids.specs.ParamsState.{ParamsState}
@@ -357,5 +357,41 @@ other_sound old world snapshots desks reports what words (Ok e) b isnt test judg
       reports = refl;
     })
 other_sound old world snapshots desks reports what words (Err f) b isnt test judged step journal number err sound =
+    subst (λ (x : WorldState). IsSound (record { world = x; snapshots = snapshots; desks = desks; reports = reports }))
+    (sym err) sound
+
+-- so it is if no entry is returned: another event that was accepted happened
+pub other_happened : {T : Type 0} (old world : WorldState) (snapshots : List Snapshot) (desks : List GroupDeskState)
+    (reports : List ReportState) (what : Event) (words : List ℕ) (r : Result T NetFault) (b : Bool) → b ≡ false
+    → (IsTrue b ↔ (what ≡ event.Snapshot)) → OnOk r (StepJudged old.net (length old.journal) what None)
+    → OnOk r ((e : Entry) × NetStep old.net what words world.net e × (world.journal ≡ old.journal ++ e ∷ [])
+    × (e.number ≡ length world.journal))
+    → OnOk r ((e : Entry) × Happened (record { world = old; snapshots = snapshots; desks = desks; reports = reports })
+    what words e (record { world = world; snapshots = snapshots; desks = desks; reports = reports }))
+other_happened old world snapshots desks reports what words (Ok t) b isnt test judged (e, step, journal, number) = (
+  e,
+  record {
+    judged = judged;
+    step = step;
+    journal = journal;
+    number = number;
+    snapshots = inr ((λ s. true≢false (sym (test.1 s) ∙ isnt)), refl);
+    desks = refl;
+    reports = refl;
+  },
+)
+other_happened old world snapshots desks reports what words (Err f) b isnt test judged went = tt
+
+-- and the core after it is sound
+pub other_kept : {T : Type 0} (old world : WorldState) (snapshots : List Snapshot) (desks : List GroupDeskState)
+    (reports : List ReportState) (what : Event) (words : List ℕ) (r : Result T NetFault)
+    → OnOk r ((e : Entry) × Happened (record { world = old; snapshots = snapshots; desks = desks; reports = reports })
+    what words e (record { world = world; snapshots = snapshots; desks = desks; reports = reports }))
+    → OnErr r (world ≡ old) → IsSound (record { world = old; snapshots = snapshots; desks = desks; reports = reports })
+    → IsSound (record { world = world; snapshots = snapshots; desks = desks; reports = reports })
+other_kept old world snapshots desks reports what words (Ok t) (e, happened) err sound =
+    sound_happened (record { world = old; snapshots = snapshots; desks = desks; reports = reports }) what words e
+    (record { world = world; snapshots = snapshots; desks = desks; reports = reports }) sound happened
+other_kept old world snapshots desks reports what words (Err f) went err sound =
     subst (λ (x : WorldState). IsSound (record { world = x; snapshots = snapshots; desks = desks; reports = reports }))
     (sym err) sound

@@ -5,6 +5,7 @@ ghost use Rattle.ov_cert.specs.Valid.{IsValidForGroup};
 ghost use Rattle.ov_net.specs.Journal.{AreLinks};
 ghost use Rattle.ov_net.specs.Refusals.{IsRefusal};
 ghost use Rattle.ov_net.specs.declared.event.Event.TheVariants as told;
+ghost use Rattle.ov_net.specs.declared.journal_entry_and_changes.Entry.{Entry as EntryOf};
 ghost use Rattle.ov_snap.specs.CoreState.{HasReport, HasReportOfAll, IsSound, opening_core};
 ghost use Rattle.ov_snap.specs.ReportState.{IsTrueReport, ReportState};
 ghost use Rattle.ov_snap.specs.Filing.{WasFiled};
@@ -103,6 +104,20 @@ impl Core {
             return self.take_snapshot(words);
         }
         self.world.step(event, words)
+    }
+
+    /// Takes one event as `step` does, with the same faults, and copies nothing of its entry, which is the last of the
+    /// journal then.
+    pub fn take_event(&mut self, event: Event, words: &Words) -> Result<(), NetFault>
+        ensures happened { OnOk result ((e : EntryOf) × Happened self.old event words.now e self.new) }
+        ensures refused { IfErr result (λ f. IsRefusal self.old.world.net (length self.old.world.journal) event f) }
+        ensures err { OnErr result (self.new ≡ self.old) }
+    {
+        if is_snapshot(&event) {
+            self.take_snapshot(words)?;
+            return Ok(());
+        }
+        self.world.take_event(event, words)
     }
 
     /// Takes a snapshot: the event of that name, with random words that are all zero. Returns the snapshot's moment,

@@ -63,7 +63,7 @@ pub next_unread : (text : List ℕ) (a b : Reader (Bor (List ℕ))) (left : ℕ)
     → IsRowRefusal text fault
 next_unread text a b left rows (kind.UnequalLengths pos expected len) fault reads explains is =
     let (flexible, expects, other, fields, took, long) = explains in
-    let same : 36 ≡ expected = ap (λ (o : Option ℕ). unwrap_or o 36) (sym reads.lengths ∙ expects) in
+    let same : 37 ≡ expected = ap (λ (o : Option ℕ). unwrap_or o 37) (sym reads.lengths ∙ expects) in
     rw is.1 (
       fields,
       comes_next text a b left rows fields reads took,

@@ -16,7 +16,7 @@ use Rattle.ov_sweep_rows.proofs.Said.{header_said, is_header_test, is_row_test, 
 pub record Reads (text : List ℕ) (reader : Reader (Bor (List ℕ))) (left : ℕ) (rows : List Row) : Type 0 where
   pub records : List (List (List ℕ))
   pub stands : Stands text reader left (columns ∷ records)
-  pub lengths : reader.expected ≡ Some 36
+  pub lengths : reader.expected ≡ Some 37
   pub said : SayRows (filter is_no_header records) rows
 
 -- the header comes first

@@ -2,6 +2,8 @@
 use Rattle.std.specs.Prelude.{◌≡◌, ℕ, ◌+◌, List, [], codes, Option, Some, None, IfSome}
 use Rattle.std.specs.Prelude.{slice_get}
 use Rattle.ov_ids.specs.ParamsState.{ParamsState}
+use Rattle.ov_ids.specs.RefillNames.{refill_name}
+use Rattle.ov_ids.specs.declared.refill_rule.Refill.{Refill}
 use Rattle.csv.specs.Records.{field_at}
 use Rattle.ov_grow_options.specs.declared.options.Crash.{Crash}
 use Rattle.ov_grow_options.specs.declared.options.Crash.TheVariants.{Share, Cut}
@@ -21,6 +23,10 @@ or_empty (Some text) = text
 -- the text in the column at a place, counted from 0; behind the last column it is empty
 abbrev pub text_at : List (List ℕ) → ℕ → List ℕ
 text_at fields place = or_empty (field_at fields place)
+
+-- the word for the rule at DISCONNECT
+abbrev pub SpellsRefill : List ℕ → Refill → Type 0
+SpellsRefill text rule = text ≡ refill_name rule
 
 -- the word for whose turn is next
 abbrev pub SpellsOrder : List ℕ → Order → Type 0
@@ -42,8 +48,8 @@ abbrev pub SpellsDelivered : List ℕ → Option DeliveredShare → Type 0
 SpellsDelivered text None = text ≡ []
 SpellsDelivered text (Some share) = SpellsParts text share.parts
 
--- the fields behind the first one say these parameters
-pub record SayParams (fields : List (List ℕ)) (p : ParamsState) : Type 0 where
+-- the seven fields behind the first one say HyParView's seven parameters
+pub record SayNumbers (fields : List (List ℕ)) (p : ParamsState) : Type 0 where
   pub active : Spells (text_at fields 1) p.active
   pub passive : Spells (text_at fields 2) p.passive
   pub arwl : Spells (text_at fields 3) p.arwl
@@ -52,20 +58,25 @@ pub record SayParams (fields : List (List ℕ)) (p : ParamsState) : Type 0 where
   pub kp : Spells (text_at fields 6) p.kp
   pub ttl : Spells (text_at fields 7) p.shuffle_ttl
 
--- the first 18 fields of a row say these options
+-- the eight fields behind the first one say these parameters
+pub record SayParams (fields : List (List ℕ)) (p : ParamsState) : Type 0 where
+  pub numbers : SayNumbers fields p
+  pub rule : SpellsRefill (text_at fields 8) p.refill
+
+-- the first 19 fields of a row say these options
 pub record SayOptions (fields : List (List ℕ)) (options : GrowOptions) : Type 0 where
   pub nodes : Spells (text_at fields 0) options.nodes
   pub parameters : SayParams fields options.params
-  pub loss_joining : Spells (text_at fields 8) options.loss_join
-  pub loss_later : Spells (text_at fields 9) options.loss
-  pub repeated : Spells (text_at fields 10) options.repeat
-  pub turn : SpellsOrder (text_at fields 11) options.order
-  pub birth : SpellsPace (text_at fields 12) options.pace
-  pub settling : Spells (text_at fields 13) options.rounds
-  pub crashing : SpellsCrash (text_at fields 14) options.crash
-  pub healing : Spells (text_at fields 15) options.heal
-  pub told : Spells (text_at fields 16) options.broadcasts
-  pub seeded : Spells (text_at fields 17) options.seed
+  pub loss_joining : Spells (text_at fields 9) options.loss_join
+  pub loss_later : Spells (text_at fields 10) options.loss
+  pub repeated : Spells (text_at fields 11) options.repeat
+  pub turn : SpellsOrder (text_at fields 12) options.order
+  pub birth : SpellsPace (text_at fields 13) options.pace
+  pub settling : Spells (text_at fields 14) options.rounds
+  pub crashing : SpellsCrash (text_at fields 15) options.crash
+  pub healing : Spells (text_at fields 16) options.heal
+  pub told : Spells (text_at fields 17) options.broadcasts
+  pub seeded : Spells (text_at fields 18) options.seed
 
 -- the six fields from a place on say what a run came to after a phase
 pub record SayPhase (fields : List (List ℕ)) (first : ℕ) (phase : PhaseRow) : Type 0 where
@@ -79,6 +90,6 @@ pub record SayPhase (fields : List (List ℕ)) (first : ℕ) (phase : PhaseRow) 
 -- the fields say this row: its options, and what it came to after each of its phases
 pub record SayRow (fields : List (List ℕ)) (row : Row) : Type 0 where
   pub setting : SayOptions fields row.options
-  pub settled : IfSome (slice_get row.phases 0) (SayPhase fields 18)
-  pub crashed : IfSome (slice_get row.phases 1) (SayPhase fields 24)
-  pub healed : IfSome (slice_get row.phases 2) (SayPhase fields 30)
+  pub settled : IfSome (slice_get row.phases 0) (SayPhase fields 19)
+  pub crashed : IfSome (slice_get row.phases 1) (SayPhase fields 25)
+  pub healed : IfSome (slice_get row.phases 2) (SayPhase fields 31)

@@ -7,6 +7,8 @@ use Rattle.csv.specs.Reading.{Reached, default_config, strip_bom}
 use Rattle.csv.specs.declared.parser.State.{State}
 use Rattle.csv.specs.declared.parser.State.TheVariants as st
 use Rattle.ov_ids.specs.ParamsState.{AreWithinLimits, ParamsState}
+use Rattle.ov_ids.specs.RefillNames.{refill_name}
+use Rattle.ov_ids.specs.declared.refill_rule.Refill.{Refill}
 use Rattle.ov_grow_options.specs.Limits.{MayBeGrown, most_of_hundred, most_rounds, most_share, most_turns}
 use Rattle.ov_sweep_rows.specs.declared.row.Row.{Row}
 use Rattle.ov_sweep_rows.specs.declared.row_fault.FieldForm.{FieldForm}
@@ -14,7 +16,7 @@ use Rattle.ov_sweep_rows.specs.declared.row_fault.FieldForm.TheVariants as form
 use Rattle.ov_sweep_rows.specs.declared.row_fault.RowFault.{RowFault}
 use Rattle.ov_sweep_rows.specs.declared.row_fault.RowFault.TheVariants.{Header, FieldCount, Field, OutOfMemory}
 use Rattle.ov_sweep_rows.specs.Columns.{columns}
-use Rattle.ov_sweep_rows.specs.Fields.{SayParams, text_at}
+use Rattle.ov_sweep_rows.specs.Fields.{SayNumbers, text_at}
 use Rattle.ov_sweep_rows.specs.Reading.{SayRows, is_no_header}
 use Rattle.ov_sweep_rows.specs.RowTexts.{Spells}
 
@@ -26,11 +28,12 @@ first_record text = option_map (λ p. p.0) (next_record default_config st.StartR
 abbrev pub SpellsNone : List ℕ → (ℕ → Type 0) → Type 0
 SpellsNone text IsSo = (n : ℕ) → Spells text n → IsSo n → ⊥
 
--- the text in the column at a place is not of this form; of the parameters, that they are not within their limits; of
--- a delivered share, only that it is there
+-- the text in the column at a place is not of this form; of the seven parameters, that they are not within their
+-- limits; of a delivered share, only that it is there
 abbrev pub LacksForm : List (List ℕ) → ℕ → FieldForm → Type 0
 LacksForm fields place form.Nodes = SpellsNone (text_at fields place) MayBeGrown
-LacksForm fields place form.Params = (p : ParamsState) → SayParams fields p → AreWithinLimits p → ⊥
+LacksForm fields place form.Params = (p : ParamsState) → SayNumbers fields p → AreWithinLimits p → ⊥
+LacksForm fields place form.Refill = (rule : Refill) → text_at fields place ≢ refill_name rule
 LacksForm fields place form.Chance = SpellsNone (text_at fields place) (λ n. n ≤ most_of_hundred)
 LacksForm fields place form.Share = SpellsNone (text_at fields place) (λ n. n ≤ most_share)
 LacksForm fields place form.Order =

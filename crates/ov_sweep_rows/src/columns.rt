@@ -1,10 +1,11 @@
 use crate::{DeliveredShare, PhaseRow};
 use ov_grow_options::{Crash, GrowOptions, Order, Pace};
+use ov_ids::Refill;
 use std::fmt::{Display, Formatter, Result, Write};
 
-/// The columns of a row: 17 for the setting, which is all options but the seed, in the order of their table; the seed;
+/// The columns of a row: 18 for the setting, which is all options but the seed, in the order of their table; the seed;
 /// and six for each phase.
-pub(crate) const COLUMNS: [&str; 36] = [
+pub(crate) const COLUMNS: [&str; 37] = [
     "nodes",
     "active",
     "passive",
@@ -13,6 +14,7 @@ pub(crate) const COLUMNS: [&str; 36] = [
     "ka",
     "kp",
     "ttl",
+    "refill",
     "loss_join",
     "loss",
     "repeat",
@@ -68,7 +70,7 @@ impl Display for Cell {
 }
 
 /// The cells of the setting that these options are of, in the order of their columns.
-pub(crate) fn setting_cells(options: &GrowOptions) -> [Cell; 17] {
+pub(crate) fn setting_cells(options: &GrowOptions) -> [Cell; 18] {
     let params = options.params;
     [
         number(options.nodes.count()),
@@ -79,6 +81,7 @@ pub(crate) fn setting_cells(options: &GrowOptions) -> [Cell; 17] {
         Cell::Number(params.ka() as u64),
         Cell::Number(params.kp() as u64),
         Cell::Number(u64::from(params.shuffle_ttl())),
+        refill_cell(params.refill()),
         number(options.loss_join.of_hundred()),
         number(options.loss.of_hundred()),
         number(options.repeat.of_hundred()),
@@ -105,6 +108,14 @@ pub(crate) fn phase_cells(phase: &PhaseRow) -> [Cell; 6] {
 
 fn number(value: u32) -> Cell {
     Cell::Number(u64::from(value))
+}
+
+fn refill_cell(refill: Refill) -> Cell {
+    match refill {
+        Refill::Never => Cell::Word("never"),
+        Refill::Alone => Cell::Word("alone"),
+        Refill::Always => Cell::Word("always"),
+    }
 }
 
 fn order_cell(order: Order) -> Cell {

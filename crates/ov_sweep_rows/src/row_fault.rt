@@ -11,10 +11,10 @@ use thiserror::Error;
 #[derive(Clone, Copy, Debug, PartialEq, Eq, Error)]
 pub enum RowFault {
     /// The first line is not the header (70).
-    #[error("line 1 must be the header of the rows, nodes,active,passive and so on")]
+    #[error("line 1 must be the header of the rows, nodes,active,passive and so on, with refill behind ttl")]
     Header,
     /// The row at this line has so many fields, and not one for each column (70).
-    #[error("line {line}: the row has {fields} fields and must have 36")]
+    #[error("line {line}: the row has {fields} fields and must have 37")]
     FieldCount { line: u64, fields: u64 },
     /// A field of the row at this line is not what its column takes (70).
     #[error("line {line}: {field}")]
@@ -52,6 +52,8 @@ pub enum FieldForm {
     Nodes,
     /// The last of parameters that are within their limits.
     Params,
+    /// The rule at DISCONNECT.
+    Refill,
     /// A chance of 100.
     Chance,
     /// A share of 100.
@@ -77,6 +79,7 @@ impl Display for FieldForm {
         f.write_str(match self {
             FieldForm::Nodes => "a number from 1 to 256",
             FieldForm::Params => "a number from 1 to 15, after parameters within their limits",
+            FieldForm::Refill => "never, alone or always",
             FieldForm::Chance => "a number from 0 to 100",
             FieldForm::Share => "a number from 0 to 99",
             FieldForm::Order => "random or oldest",

@@ -6,24 +6,24 @@ ghost use Rattle.ov_sweep_rows.specs.Refusals.{IsFieldFault, IsRowRefusal};
 ghost use Rattle.ov_sweep_rows.specs.Code.Taking.{IsTakeFault, WasTaken};
 ghost use Rattle.ov_sweep_rows.specs.declared.row_fault.RowFault.TheVariants.{OutOfMemory};
 ghost use Rattle.ov_sweep_rows.specs.RowTexts.{Spells};
-ghost use Rattle.ov_sweep_rows.specs.Fields.{text_at, SayOptions, SayParams, SayPhase, SayRow, SpellsCrash};
-ghost use Rattle.ov_sweep_rows.specs.Fields.{SpellsDelivered, SpellsOrder, SpellsPace};
+ghost use Rattle.ov_sweep_rows.specs.Fields.{text_at, SayNumbers, SayOptions, SayParams, SayPhase, SayRow};
+ghost use Rattle.ov_sweep_rows.specs.Fields.{SpellsCrash, SpellsDelivered, SpellsOrder, SpellsPace, SpellsRefill};
 
 use crate::columns::COLUMNS;
 use crate::csv_field_reading::{RowFields, short_number};
 use crate::{DeliveredShare, FieldForm, PhaseRow, Row, RowFault};
 use csv::{ByteRecord, ReaderBuilder};
 use ov_grow_options::{Chance, Count, Crash, GrowOptions, NodeCount, Order, Pace, Share};
-use ov_ids::Params;
+use ov_ids::{Params, Refill};
 use ov_lines::read_number;
 use std::alloc::Global;
 
 /// The place of the first column of each phase.
-const SETTLE: usize = 18;
+const SETTLE: usize = 19;
 
-const CRASH: usize = 24;
+const CRASH: usize = 25;
 
-const HEAL: usize = 30;
+const HEAL: usize = 31;
 
 /// Reads the rows of a text: the header, and one row a line, as `header_text` and `row_text` write them. A header that
 /// stands between rows is skipped, so that files of rows may be put together. A row that is not of this form is refused
@@ -134,16 +134,16 @@ fn read_options(fields: &RowFields<'_>) -> Result<GrowOptions, RowFault>
 {
     let nodes = nodes_at(fields, 0)?;
     let params = read_params(fields)?;
-    let loss_join = chance_at(fields, 8)?;
-    let loss = chance_at(fields, 9)?;
-    let repeat = share_at(fields, 10)?;
-    let order = order_at(fields, 11)?;
-    let pace = pace_at(fields, 12)?;
-    let rounds = count_at(fields, 13)?;
-    let crash = crash_at(fields, 14)?;
-    let heal = count_at(fields, 15)?;
-    let broadcasts = count_at(fields, 16)?;
-    let seed = seed_at(fields, 17)?;
+    let loss_join = chance_at(fields, 9)?;
+    let loss = chance_at(fields, 10)?;
+    let repeat = share_at(fields, 11)?;
+    let order = order_at(fields, 12)?;
+    let pace = pace_at(fields, 13)?;
+    let rounds = count_at(fields, 14)?;
+    let crash = crash_at(fields, 15)?;
+    let heal = count_at(fields, 16)?;
+    let broadcasts = count_at(fields, 17)?;
+    let seed = seed_at(fields, 18)?;
     Ok(GrowOptions {
         nodes,
         params,
@@ -226,6 +226,16 @@ fn read_params(fields: &RowFields<'_>) -> Result<Params, RowFault>
     ensures fault { IfErr result (IsFieldFault (fields_of fields.now.record.now)) }
     ensures value { IfOk result (SayParams (fields_of fields.now.record.now)) }
 {
+    let numbers = read_numbers(fields)?;
+    let refill = refill_at(fields, 8)?;
+    Ok(numbers.with_refill(refill))
+}
+
+/// HyParView's seven parameters.
+fn read_numbers(fields: &RowFields<'_>) -> Result<Params, RowFault>
+    ensures fault { IfErr result (IsFieldFault (fields_of fields.now.record.now)) }
+    ensures value { IfOk result (SayNumbers (fields_of fields.now.record.now)) }
+{
     let active = fields.number(1)?;
     let passive = fields.number(2)?;
     let arwl = fields.number(3)?;
@@ -236,6 +246,16 @@ fn read_params(fields: &RowFields<'_>) -> Result<Params, RowFault>
     match Params::new(active, passive, arwl, prwl, ka, kp, ttl) {
         Ok(params) => Ok(params),
         Err(_) => Err(fields.fault(7, FieldForm::Params)),
+    }
+}
+
+fn refill_at(fields: &RowFields<'_>, place: usize) -> Result<Refill, RowFault>
+    ensures fault { IfErr result (IsFieldFault (fields_of fields.now.record.now)) }
+    ensures value { IfOk result (SpellsRefill (text_at (fields_of fields.now.record.now) place)) }
+{
+    match Refill::from_name(fields.text(place)) {
+        Some(rule) => Ok(rule),
+        None => Err(fields.fault(place, FieldForm::Refill)),
     }
 }
 

@@ -11,7 +11,7 @@ use std::fmt::Write;
 #[derive(Drop)]
 pub struct Setting<'a> {
     /// What each column of a setting says.
-    pub(crate) cells: [Cell; 17],
+    pub(crate) cells: [Cell; 18],
     /// The runs.
     pub(crate) runs: Vec<&'a Row>,
 }

@@ -6,7 +6,7 @@ pub(crate) struct SettingName {
 }
 
 /// The options of a setting, in the order of their columns.
-pub(crate) const SETTING_NAMES: [SettingName; 17] = [
+pub(crate) const SETTING_NAMES: [SettingName; 18] = [
     SettingName {
         name: "nodes",
         unit: "",
@@ -38,6 +38,10 @@ pub(crate) const SETTING_NAMES: [SettingName; 17] = [
     SettingName {
         name: "ttl",
         unit: "hops",
+    },
+    SettingName {
+        name: "refill",
+        unit: "",
     },
     SettingName {
         name: "loss-join",

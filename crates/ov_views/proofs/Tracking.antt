@@ -17,7 +17,7 @@ use Rattle.ov_views.specs.Changes.{after_changes}
 use Rattle.ov_views.specs.Sampling.{TakesIn, Integrates}
 use Rattle.ov_views.specs.Sending.{Idles}
 use Rattle.ov_views.specs.JoinRows.{Remembers, walk_ends}
-use Rattle.ov_views.specs.NeighborRows.{awaits}
+use Rattle.ov_views.specs.NeighborRows.{awaits, starts_attempt}
 use Rattle.ov_views.specs.ShuffleRows.{walks_on}
 use Rattle.ov_views.specs.Allowed.{HyParViewState, HyParViewInput, boots, hears, hears_of_crash, shuffles, Allowed}
 use Rattle.ov_views.specs.declared.change.ViewChange.{ViewChange}
@@ -167,8 +167,10 @@ message n s (NeighborReply accepted) cs m changes sends h =
     (λ k. still n.views m.views changes k.1 k.2))
     (λ k. still n.views m.views changes k.0.1 k.2)) h.1
 message n s Disconnect cs m changes sends h =
-    either_way (eqb s n.views.me || not (has n.views.active s)) _ _ _ (idle n.views cs m.views changes sends)
-    (λ g. let gone = removes n.views s g.0 changes g.1 in let then = passive g.0 s cs m.views [] g.2 refl in
+    either_way (eqb s n.views.me || not (has n.views.active s)) _ _ _ (λ k. idle n.views cs m.views changes sends k.0)
+    (λ g. let gone = removes n.views s g.0 changes g.1 in
+    let then : Tracks g.0 [] m.views = either_way (starts_attempt n.views.params.refill g.0) _ _ _
+    (λ k. passive g.0 s k.0 m.views [] k.3 refl) (λ k. passive g.0 s cs m.views [] k.0 refl) g.2 in
     record { me = then.me ∙ gone.me; active = then.active ∙ gone.active; few = gone.few }) h.1
 message n s (Shuffle origin ttl ids) cs m changes sends h =
     either_way (eqb s n.views.me) _ _ _ (idle n.views cs m.views changes sends)

@@ -6,7 +6,7 @@ use Rattle.ov_lines.specs.Lines.{kept_lines}
 use Rattle.ov_words.specs.Stream.{words_per_event}
 use Rattle.ov_scenario.specs.Draws.{seeded}
 use Rattle.ov_scenario.specs.RunLines.{drivers_for}
-use Rattle.ov_scenario.specs.Scenarios.{AreFaultless, AreParamsOf, IsSeedOf, stated_at}
+use Rattle.ov_scenario.specs.Scenarios.{AreFaultless, AreParamsOf, IsRefillOf, IsSeedOf, stated_at}
 use Rattle.ov_scenario.specs.Statements.{ToldLine, told}
 use Rattle.ov_scenario.specs.Code.RunnableLines.{later_words, outputs, to_run}
 use Rattle.ov_scenario.specs.declared.scenario.Line.{Line}
@@ -17,10 +17,11 @@ use Rattle.ov_scenario.specs.declared.statement.Statement.TheVariants as says
 unfoldable pub lines_of : ℕ → List ℕ → List Line
 lines_of seed text = to_run (seeded seed) (told (kept_lines text))
 
--- a line of a script says this: parameters, a seed, an event or an analysis
+-- a line of a script says this: parameters, a seed, a rule at DISCONNECT, an event or an analysis
 abbrev pub IsPlain : Option Statement → Type 0
 IsPlain (Some (says.Params numbers)) = Unit {0}
 IsPlain (Some (says.Seed seed)) = Unit {0}
+IsPlain (Some (says.Refill rule)) = Unit {0}
 IsPlain (Some (says.Event event)) = Unit {0}
 IsPlain (Some (says.Analyse subject workers)) = Unit {0}
 IsPlain other = ⊥
@@ -48,6 +49,7 @@ pub record IsTold (kept : List (ℕ × List ℕ)) (p : ParamsState) (seed : ℕ)
     pub plain_told : ArePlain (λ line. line.1) (told kept)
     pub faultless : AreFaultless (map stated_at kept)
     pub params : AreParamsOf (map stated_at kept) p
+    pub refill_said : IsRefillOf (map stated_at kept) p.refill
     pub seed_said : IsSeedOf (map stated_at kept) seed
     pub no_block : drivers_for (to_run (seeded seed) (told kept)) ≡ 1
     pub drawn : outputs words_per_event (left_after (seeded seed) (told kept)) ≡ (next, behind)

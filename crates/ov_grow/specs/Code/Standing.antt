@@ -8,9 +8,11 @@ use Rattle.ov_peer.specs.PeerState.{PeerState}
 use Rattle.ov_even.specs.Answer.{IsAnswer}
 use Rattle.ov_plum.specs.PlumState.{most_broadcasts}
 use Rattle.ov_net.specs.Journal as journal
-use Rattle.ov_net.specs.Net.{IsGone, LivesAs}
+use Rattle.ov_net.specs.Net.{Net, IsGone, LivesAs}
 use Rattle.ov_net.specs.Refusals.{IsRefusal}
 use Rattle.ov_net.specs.declared.fault.NetFault.{NetFault}
+use Rattle.ov_net.specs.declared.journal_entry_and_changes.Change.{Change}
+use Rattle.ov_net.specs.declared.journal_entry_and_changes.Change.TheVariants.{Up}
 use Rattle.ov_net.specs.declared.member.Member.{Member}
 use Rattle.ov_net.specs.declared.member.Member.TheVariants.{Live}
 use Rattle.ov_snap.specs.CoreState.{CoreState, HasReportOfAll, KeepsReports}
@@ -23,6 +25,7 @@ use Rattle.ov_grow.specs.declared.recordable_event.Act.{Act}
 use Rattle.ov_grow.specs.declared.recordable_event.Act.TheVariants as act
 use Rattle.ov_grow.specs.Faults.{of_event}
 use Rattle.ov_grow.specs.Growth.{Growth, Does, IsLive}
+use Rattle.ov_grow.specs.Phases.{IsCrashedNeighbour}
 use Rattle.ov_grow.specs.Turns.{HasFailed}
 use Rattle.ov_grow.specs.declared.fault.GrowFault.{GrowFault}
 use Rattle.ov_grow.specs.declared.fault.GrowFault.TheVariants.{OutOfMemory}
@@ -107,6 +110,19 @@ pub record MayCrash (nodes : List ℕ) (s : Growth) : Type 0 where
 -- a report of all nodes of this moment is filed, and it has the answer of an analysis
 abbrev pub IsAnswered : CoreState → ℕ → Type 0
 IsAnswered b m = (r : ReportState) × HasReportOfAll b m r × IsAnswer r.graph r.members r.cert
+
+-- a live node has a crashed node in its active view
+abbrev pub HasCrashed : Growth → ℕ → Type 0
+HasCrashed s a = (b : ℕ) × IsCrashedNeighbour s a b
+
+-- a change is not that a node took a crashed one into its active view
+abbrev pub TakesNoCrashed : Net → Change → Type 0
+TakesNoCrashed w (Up a b) = ¬ IsGone w b
+TakesNoCrashed w other = ⊤
+
+-- none of these changes is
+abbrev pub TakeNoCrashed : Net → List Change → Type 0
+TakeNoCrashed w changes = (c : Change) → Has changes c → TakesNoCrashed w c
 
 -- of these ids, which ascend, this is the first that has a property
 pub record IsFirstOf (P : ℕ → Type 0) (ids : List ℕ) (first : ℕ) : Type 0 where

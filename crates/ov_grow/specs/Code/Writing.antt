@@ -16,6 +16,10 @@ room_of name numbers = length name + number_room * length numbers
 abbrev pub params_room : ℕ
 params_room = 160
 
+-- how many bytes the line of a rule at DISCONNECT takes at most, with its line feed
+abbrev pub rule_room : ℕ
+rule_room = 14
+
 -- each number of an act is below 2^32
 abbrev pub IsShort : Act → Type 0
 IsShort (act.Boot node None) = node < number_limit

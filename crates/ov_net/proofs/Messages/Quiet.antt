@@ -17,6 +17,7 @@ use Rattle.ov_views.specs.Allowed.{HyParViewState, Allowed, hears}
 use Rattle.ov_views.specs.JoinRows.{AllowedJoin, AllowedForwardJoin, AllowedJoined, walk_ends}
 use Rattle.ov_views.specs.ViewsState.{ViewsState, has_place}
 use Rattle.ov_views.specs.NeighborRows.{AttemptState, AllowedNeighbor, AllowedReply, AllowedDisconnect}
+use Rattle.ov_views.specs.NeighborRows.{starts_attempt}
 use Rattle.ov_views.specs.NeighborRows.{AllowedCrashReport, GoesOnAsking, awaits, gives_up}
 use Rattle.ov_views.specs.Sending.{Idles, farewells}
 use Rattle.ov_views.specs.ShuffleRows.{AllowedStart, AllowedShuffle, AllowedShuffleReply, walks_on}
@@ -124,10 +125,13 @@ module _ (P : MsgId → List ℕ → Type 0) where
       (λ k. goes_on v a.tried cs b sends k.0))
       (λ k. at_most_one (accepted && not (has v.active s)) (s, say v.me Disconnect) sends tt k.3))
 
-  disconnect : (v : ViewsState) (s : ℕ) (cs : List Choice) (w : ViewsState) (changes : List ViewChange)
-      (sends : List (ℕ × Message)) → AllowedDisconnect v s cs w changes sends → AllCarry P sends
-  disconnect v s cs w changes sends =
-      either_way (eqb s v.me || not (has v.active s)) _ _ _ (idles v cs w changes sends) (λ k. no_sends sends k.3)
+  disconnect : (v : ViewsState) (a : AttemptState) (s : ℕ) (cs : List Choice) (w : ViewsState) (b : AttemptState)
+      (changes : List ViewChange) (sends : List (ℕ × Message)) → AllowedDisconnect v a s cs w b changes sends
+      → AllCarry P sends
+  disconnect v a s cs w b changes sends =
+      either_way (eqb s v.me || not (has v.active s)) _ _ _ (λ k. idles v cs w changes sends k.0)
+      (λ k. either_way (starts_attempt v.params.refill k.0) _ _ _ (λ j. goes_on w [] j.1 b sends j.4)
+      (λ j. no_sends sends j.2) k.2)
 
   crash_report : (v : ViewsState) (a : AttemptState) (p : ℕ) (cs : List Choice) (w : ViewsState) (b : AttemptState)
       (changes : List ViewChange) (sends : List (ℕ × Message)) → AllowedCrashReport v a p cs w b changes sends
@@ -165,7 +169,8 @@ module _ (P : MsgId → List ℕ → Type 0) where
   message n s (Neighbor high) cs m changes sends h = neighbor n.views s high cs m.views changes sends h.1
   message n s (NeighborReply accepted) cs m changes sends h =
       reply n.views n.attempt s accepted cs m.views m.attempt changes sends h.1
-  message n s Disconnect cs m changes sends h = disconnect n.views s cs m.views changes sends h.1
+  message n s Disconnect cs m changes sends h =
+      disconnect n.views n.attempt s cs m.views m.attempt changes sends h.1
   message n s (Shuffle origin ttl ids) cs m changes sends h =
       shuffle n.views s origin ttl ids cs m.views changes sends h.1
   message n s (ShuffleReply ids) cs m changes sends h = shuffle_reply n.views n.sent s ids cs m.views changes sends h.1

@@ -18,7 +18,7 @@ use Rattle.ov_views.specs.Sampling.{AreChosen, IsNext, GivesUp, TakesIn, Integra
 use Rattle.ov_views.specs.Sending.{Idles, say, farewells}
 use Rattle.ov_views.specs.JoinRows.{AllowedJoin, AllowedForwardJoin, AllowedJoined, Remembers, walk_ends, walk_targets}
 use Rattle.ov_views.specs.JoinRows.{forwards}
-use Rattle.ov_views.specs.NeighborRows.{AttemptState, AllowedNeighbor, AllowedDisconnect, awaits, gives_up, untried}
+use Rattle.ov_views.specs.NeighborRows.{AttemptState, AllowedNeighbor, awaits, gives_up, untried, starts_attempt}
 use Rattle.ov_views.specs.NeighborRows.{GoesOnAsking, Replies}
 use Rattle.ov_views.specs.ShuffleRows.{AllowedShuffle, AllowedShuffleReply, walks_on, Starts}
 use Rattle.ov_views.specs.Allowed.{HyParViewState, HyParViewInput, boots, hears, hears_of_crash, shuffles, Allowed}
@@ -424,19 +424,51 @@ answered_same words n m m' s accepted c d a b x y drawn h k =
       sends = f.3 ∙ sym g.3;
     })) h.1 k.1
 
-parted_same : (words : List ℕ) (v : ViewsState) (s : ℕ) (c d : List Choice) (w u : ViewsState) (a b : List ViewChange)
-    (x y : List (ℕ × Message)) → AreBothDrawn words c d → AllowedDisconnect v s c w a x
-    → AllowedDisconnect v s d u b y → SameRow c d w u a b x y
-parted_same words v s c d w u a b x y drawn =
-    in_each_case (eqb s v.me || not (has v.active s)) (idle_same v c d w u a b x y)
-    (λ h k.
-    let gone = h.1.0 ∙ sym k.1.0 in
-    let e = passive_same words h.0 s c d w u drawn h.2 (subst (λ z. AddsPassive z s d u) (sym gone) k.2) in record {
-      choices = e.choices;
-      views = e.views;
-      changes = goes_down_same v s a b h.1.1 k.1.1;
-      sends = h.3 ∙ sym k.3;
+-- what follows where s went down by DISCONNECT, and u are the views without it
+abbrev GoesOnWithout : ViewsState → AttemptState → ℕ → ViewsState → List Choice → ViewsState → AttemptState
+    → List (ℕ × Message) → Type 0
+GoesOnWithout v a s u choices w b sends = MatchBool (starts_attempt v.params.refill u)
+    ((first : List Choice) × (next : List Choice) × (choices ≡ first ++ next) × AddsPassive u s first w
+    × GoesOnAsking w [] next b sends)
+    (AddsPassive u s choices w × (b ≡ a) × (sends ≡ []))
+
+goes_on_same : (words : List ℕ) (n m m' : HyParViewState) (s : ℕ) (u : ViewsState) (c d : List Choice)
+    (a b : List ViewChange) (x y : List (ℕ × Message)) → AreBothDrawn words c d → m.sent ≡ m'.sent → a ≡ b
+    → GoesOnWithout n.views n.attempt s u c m.views m.attempt x
+    → GoesOnWithout n.views n.attempt s u d m'.views m'.attempt y → SameAllowed c d m m' a b x y
+goes_on_same words n m m' s u c d a b x y drawn sent told = in_each_case (starts_attempt n.views.params.refill u)
+    (λ f g.
+    let both = as_both words c d (f.0 ++ f.1) (g.0 ++ g.1) f.2 g.2 drawn in
+    let e = passive_same words u s f.0 g.0 m.views m'.views (fronts words f.0 f.1 g.0 g.1 both) f.3 g.3 in
+    let more = rests words f.0 f.1 g.0 g.1 e.choices both in
+    let asked = asked_same more.0 m.views [] f.1 g.1 m.attempt m'.attempt x y more.1 f.4
+    (subst (λ z. GoesOnAsking z [] g.1 m'.attempt y) (sym e.views) g.4) in record {
+      choices = via₂ (λ (y z : List Choice). y ++ z) f.2 g.2 e.choices asked.0;
+      state = of_parts m m' e.views asked.1 sent;
+      changes = told;
+      sends = asked.2;
     })
+    (λ f g. let e = passive_same words u s c d m.views m'.views drawn f.0 g.0 in record {
+      choices = e.choices;
+      state = of_parts m m' e.views (f.1 ∙ sym g.1) sent;
+      changes = told;
+      sends = f.2 ∙ sym g.2;
+    })
+
+parted_same : (words : List ℕ) (n m m' : HyParViewState) (s : ℕ) (c d : List Choice) (a b : List ViewChange)
+    (x y : List (ℕ × Message)) → AreBothDrawn words c d → Allowed n (hears s Disconnect) c m a x
+    → Allowed n (hears s Disconnect) d m' b y → SameAllowed c d m m' a b x y
+parted_same words n m m' s c d a b x y drawn h k =
+    in_each_case (eqb s n.views.me || not (has n.views.active s))
+    (λ f g. let e = idle_same n.views c d m.views m'.views a b x y f.0 g.0 in record {
+      choices = e.choices;
+      state = of_parts m m' e.views (f.1 ∙ sym g.1) (h.0 ∙ sym k.0);
+      changes = e.changes;
+      sends = e.sends;
+    })
+    (λ f g. goes_on_same words n m m' s f.0 c d a b x y drawn (h.0 ∙ sym k.0)
+    (goes_down_same n.views s a b f.1.1 g.1.1) f.2
+    (subst (λ z. GoesOnWithout n.views n.attempt s z d m'.views m'.attempt y) (g.1.0 ∙ sym f.1.0) g.2)) h.1 k.1
 
 shuffled_same : (words : List ℕ) (v : ViewsState) (s o ttl : ℕ) (ids : List ℕ) (c d : List Choice) (w u : ViewsState)
     (a b : List ViewChange) (x y : List (ℕ × Message)) → AreBothDrawn words c d
@@ -494,8 +526,7 @@ heard_same words n m m' s (Neighbor high) c d a b x y drawn h k =
 heard_same words n m m' s (NeighborReply accepted) c d a b x y drawn h k =
     answered_same words n m m' s accepted c d a b x y drawn h k
 heard_same words n m m' s Disconnect c d a b x y drawn h k =
-    views_same n m m' c d a b x y h.0 k.0
-    (parted_same words n.views s c d m.views m'.views a b x y drawn h.1 k.1)
+    parted_same words n m m' s c d a b x y drawn h k
 heard_same words n m m' s (Shuffle origin ttl ids) c d a b x y drawn h k =
     views_same n m m' c d a b x y h.0 k.0
     (shuffled_same words n.views s origin ttl ids c d m.views m'.views a b x y drawn h.1 k.1)

@@ -16,6 +16,7 @@ use Rattle.ov_net.specs.declared.planned_effects.Effects.{Effects}
 use Rattle.ov_net.specs.declared.planned_effects.NodeChange.{NodeChange}
 use Rattle.ov_net.specs.declared.planned_effects.NodeChange.TheVariants as change
 use Rattle.ov_net.specs.declared.journal_entry_and_changes.Change.TheVariants.{Born}
+use Rattle.ov_net.specs.declared.journal_entry_and_changes.Entry.{Entry}
 use Rattle.ov_net.specs.declared.event.Event.{Event}
 use Rattle.ov_net.specs.declared.member.Member.{Member}
 use Rattle.ov_net.specs.declared.member.Member.TheVariants.{Live, Gone}
@@ -113,3 +114,8 @@ pub record AreEffects (w : Net) (event : Event) (words : List ℕ) (b : Effects)
   pub happens : (u : Net) → IsAfter w b u → Happens w event words u b.changes b.delivery
   pub within : IsWithin b.taken w.packets
   pub fits : NamedCanChange b.node w.nodes
+
+-- the entry with this number of an event with these words, of which these are the effects
+abbrev pub entry_of : Event → List ℕ → Effects → ℕ → Entry
+entry_of event words b number =
+    record { number = number; event = event; words = words; changes = b.changes; delivery = b.delivery }

@@ -1,6 +1,8 @@
 -- Codes of a node's parts, so that contracts can see a node as a value. They say nothing about it.
-use Rattle.std.specs.Prelude.{ℕ, List, Option, refl}
-use Rattle.std.specs.Coded.{Coded, code_by, coded×, coded_ℕ, coded_list, coded_option}
+use Rattle.std.specs.Prelude.{◌≡◌, ℕ, Bool, true, false, List, Option, Some, None, refl}
+use Rattle.std.specs.Coded.{Coded, code_by, coded×, coded_ℕ, coded_bool, coded_list, coded_option}
+use Rattle.ov_ids.specs.declared.refill_rule.Refill.{Refill}
+use Rattle.ov_ids.specs.declared.refill_rule.Refill.TheVariants.{Never, Alone, Always}
 use Rattle.ov_ids.specs.ParamsState.{ParamsState}
 use Rattle.ov_views.specs.ViewsState.{ViewsState}
 use Rattle.ov_views.specs.NeighborRows.{AttemptState}
@@ -9,11 +11,31 @@ use Rattle.ov_plum.specs.PlumState.{PlumState}
 use Rattle.ov_plum.specs.Code.Codes.{plum_code}
 use Rattle.ov_peer.specs.PeerState.{PeerState}
 
+-- a rule is coded as a choice that may be missing
+abbrev rule_cases : Refill → Option Bool
+rule_cases Never = None
+rule_cases Alone = Some false
+rule_cases Always = Some true
+
+abbrev rule_of : Option Bool → Refill
+rule_of None = Never
+rule_of (Some false) = Alone
+rule_of (Some true) = Always
+
+pub rule_back : (r : Refill) → rule_of (rule_cases r) ≡ r
+rule_back Never = refl
+rule_back Alone = refl
+rule_back Always = refl
+
+abbrev rule_code : Coded Refill
+rule_code = code_by (Option Bool) (coded_option coded_bool) rule_cases rule_of rule_back
+
 abbrev params_code : Coded ParamsState
 params_code =
-    code_by (ℕ × (ℕ × (ℕ × (ℕ × (ℕ × (ℕ × ℕ))))))
-    (coded× coded_ℕ (coded× coded_ℕ (coded× coded_ℕ (coded× coded_ℕ (coded× coded_ℕ (coded× coded_ℕ coded_ℕ))))))
-    (λ l. (l.active, (l.passive, (l.arwl, (l.prwl, (l.ka, (l.kp, l.shuffle_ttl)))))))
+    code_by (ℕ × (ℕ × (ℕ × (ℕ × (ℕ × (ℕ × (ℕ × Refill)))))))
+    (coded× coded_ℕ (coded× coded_ℕ (coded× coded_ℕ (coded× coded_ℕ (coded× coded_ℕ (coded× coded_ℕ
+    (coded× coded_ℕ rule_code)))))))
+    (λ l. (l.active, (l.passive, (l.arwl, (l.prwl, (l.ka, (l.kp, (l.shuffle_ttl, l.refill))))))))
     (λ p. record {
       active = p.0;
       passive = p.1.0;
@@ -21,7 +43,8 @@ params_code =
       prwl = p.1.1.1.0;
       ka = p.1.1.1.1.0;
       kp = p.1.1.1.1.1.0;
-      shuffle_ttl = p.1.1.1.1.1.1;
+      shuffle_ttl = p.1.1.1.1.1.1.0;
+      refill = p.1.1.1.1.1.1.1;
     })
     (λ _. refl)
 

@@ -92,6 +92,7 @@ abbrev pub AsksNothing : Option Statement → Type 0
 AsksNothing None = Unit {0}
 AsksNothing (Some (says.Params numbers)) = Unit {0}
 AsksNothing (Some (says.Seed seed)) = Unit {0}
+AsksNothing (Some (says.Refill rule)) = Unit {0}
 AsksNothing (Some says.Also) = Unit {0}
 AsksNothing (Some says.End) = Unit {0}
 AsksNothing other = ⊥
@@ -104,6 +105,7 @@ unfolding to_run
 passes stream None None nothing own more = refl
 passes stream None (Some (says.Params numbers)) nothing own more = refl
 passes stream None (Some (says.Seed seed)) nothing own more = refl
+passes stream None (Some (says.Refill rule)) nothing own more = refl
 passes stream None (Some says.Also) nothing own more = refl
 passes stream None (Some says.End) nothing own more = refl
 passes stream None (Some says.Together) nothing own more = absurd nothing
@@ -114,6 +116,7 @@ passes stream None (Some (says.Analyse subject workers)) nothing own more = absu
 passes stream (Some given) None nothing own more = refl
 passes stream (Some given) (Some (says.Params numbers)) nothing own more = refl
 passes stream (Some given) (Some (says.Seed seed)) nothing own more = refl
+passes stream (Some given) (Some (says.Refill rule)) nothing own more = refl
 passes stream (Some given) (Some says.Also) nothing own more = refl
 passes stream (Some given) (Some says.End) nothing own more = refl
 passes stream (Some given) (Some says.Together) nothing own more = absurd nothing
@@ -126,6 +129,7 @@ none_asked : (says : Option Statement) → AsksNothing says → runs says ≡ fa
 none_asked None nothing = refl
 none_asked (Some (says.Params numbers)) nothing = refl
 none_asked (Some (says.Seed seed)) nothing = refl
+none_asked (Some (says.Refill rule)) nothing = refl
 none_asked (Some says.Also) nothing = refl
 none_asked (Some says.End) nothing = refl
 none_asked (Some says.Together) nothing = absurd nothing
@@ -259,6 +263,7 @@ says_together : (own : Option Statement) → is_together own ≡ true → own �
 says_together None is = absurd cc
 says_together (Some (says.Params numbers)) is = absurd cc
 says_together (Some (says.Seed seed)) is = absurd cc
+says_together (Some (says.Refill rule)) is = absurd cc
 says_together (Some (says.Words words)) is = absurd cc
 says_together (Some (says.Event event)) is = absurd cc
 says_together (Some (says.Look look)) is = absurd cc

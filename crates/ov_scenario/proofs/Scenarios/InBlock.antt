@@ -22,6 +22,7 @@ abbrev pub DoesNothing : Option Statement → Type 0
 DoesNothing None = Unit {0}
 DoesNothing (Some (says.Params numbers)) = Unit {0}
 DoesNothing (Some (says.Seed seed)) = Unit {0}
+DoesNothing (Some (says.Refill rule)) = Unit {0}
 DoesNothing (Some (says.Look look)) = Unit {0}
 DoesNothing (Some says.Together) = Unit {0}
 DoesNothing other = ⊥
@@ -35,6 +36,7 @@ unfolding to_run
 passes stream None None nothing sections held own more = refl
 passes stream None (Some (says.Params numbers)) nothing sections held own more = refl
 passes stream None (Some (says.Seed seed)) nothing sections held own more = refl
+passes stream None (Some (says.Refill rule)) nothing sections held own more = refl
 passes stream None (Some (says.Look look)) nothing sections held own more = refl
 passes stream None (Some says.Together) nothing sections held own more = refl
 passes stream None (Some says.Also) nothing sections held own more = absurd nothing
@@ -45,6 +47,7 @@ passes stream None (Some (says.Analyse subject workers)) nothing sections held o
 passes stream (Some given) None nothing sections held own more = refl
 passes stream (Some given) (Some (says.Params numbers)) nothing sections held own more = refl
 passes stream (Some given) (Some (says.Seed seed)) nothing sections held own more = refl
+passes stream (Some given) (Some (says.Refill rule)) nothing sections held own more = refl
 passes stream (Some given) (Some (says.Look look)) nothing sections held own more = refl
 passes stream (Some given) (Some says.Together) nothing sections held own more = refl
 passes stream (Some given) (Some says.Also) nothing sections held own more = absurd nothing
@@ -57,6 +60,7 @@ no_end : (says : Option Statement) → DoesNothing says → is_end says ≡ fals
 no_end None nothing = refl
 no_end (Some (says.Params numbers)) nothing = refl
 no_end (Some (says.Seed seed)) nothing = refl
+no_end (Some (says.Refill rule)) nothing = refl
 no_end (Some (says.Look look)) nothing = refl
 no_end (Some says.Together) nothing = refl
 no_end (Some says.Also) nothing = absurd nothing

@@ -4,8 +4,8 @@ use Rattle.std.proofs.Common.{append_assoc, append-nil, Option, Some, None, refl
 use Rattle.std.specs.Option.{option_or}
 use Rattle.std.specs.Prelude.{option_map, option_to_list}
 use Rattle.ov_scenario.specs.Code.Judging.{or_next, with_next, Judges, Tells, faulty_of}
-use Rattle.ov_scenario.specs.Scenarios.{first_of, is_event, is_params, is_seed, before_of, AreWithin, IsTooLate}
-use Rattle.ov_scenario.specs.Scenarios.{IsWrong, IsWrongIn, IsWrongOutside}
+use Rattle.ov_scenario.specs.Scenarios.{first_of, is_event, is_params, is_refill, is_seed, before_of}
+use Rattle.ov_scenario.specs.Scenarios.{AreWithin, IsTooLate, IsWrong, IsWrongIn, IsWrongOutside}
 use Rattle.ov_scenario.specs.Scenarios.{AreFaulty, IsFirstAfter, IsFirstFaulty}
 use Rattle.ov_scenario.specs.Sections.{open_from, open_next}
 use Rattle.ov_scenario.specs.Statements.{Stated}
@@ -83,6 +83,7 @@ before_next lines line =
       event = e;
       params = (with_next (before_of lines) line).params;
       seed = (with_next (before_of lines) line).seed;
+      refill = (with_next (before_of lines) line).refill;
       block = (with_next (before_of lines) line).block;
     })
     (first_next is_event lines line)
@@ -90,6 +91,7 @@ before_next lines line =
       event = first_of is_event (lines ++ line ∷ []);
       params = p;
       seed = (with_next (before_of lines) line).seed;
+      refill = (with_next (before_of lines) line).refill;
       block = (with_next (before_of lines) line).block;
     })
     (first_next is_params lines line)
@@ -97,13 +99,23 @@ before_next lines line =
       event = first_of is_event (lines ++ line ∷ []);
       params = first_of is_params (lines ++ line ∷ []);
       seed = s;
+      refill = (with_next (before_of lines) line).refill;
       block = (with_next (before_of lines) line).block;
     })
     (first_next is_seed lines line)
+    ∙ ap (λ r. record {
+      event = first_of is_event (lines ++ line ∷ []);
+      params = first_of is_params (lines ++ line ∷ []);
+      seed = first_of is_seed (lines ++ line ∷ []);
+      refill = r;
+      block = (with_next (before_of lines) line).block;
+    })
+    (first_next is_refill lines line)
     ∙ ap (λ o. record {
       event = first_of is_event (lines ++ line ∷ []);
       params = first_of is_params (lines ++ line ∷ []);
       seed = first_of is_seed (lines ++ line ∷ []);
+      refill = first_of is_refill (lines ++ line ∷ []);
       block = o;
     })
     (open_more None lines line)

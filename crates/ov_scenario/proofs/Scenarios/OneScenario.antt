@@ -5,13 +5,14 @@ use Rattle.std.specs.Option.{option_or}
 use Rattle.rand_core.specs.Stream.{Stream, next_u64}
 use Rattle.ov_ids.specs.Members.{Has}
 use Rattle.ov_ids.specs.ParamsState.{ParamsState}
+use Rattle.ov_ids.specs.declared.refill_rule.Refill.{Refill}
 use Rattle.ov_lines.specs.Lines.{kept_lines}
 use Rattle.ov_words.specs.Stream.{AreOutputs}
-use Rattle.ov_scenario.specs.Code.Judging.{params_in, seed_in, first_in}
+use Rattle.ov_scenario.specs.Code.Judging.{params_in, refill_in, seed_in, first_in}
 use Rattle.ov_scenario.specs.Draws.{AreDraws, seeded}
-use Rattle.ov_scenario.specs.Scenarios.{stated_lines, first_of, is_params, is_seed, before_of, default_params}
-use Rattle.ov_scenario.specs.Scenarios.{AreParams, AreParamsOf, IsSeedOf, IsWrong, IsWrongIn, AreFaulty, AreFaultless}
-use Rattle.ov_scenario.specs.Scenarios.{AreToRun, BlockRunsAs, RunAs}
+use Rattle.ov_scenario.specs.Scenarios.{stated_lines, first_of, is_params, is_refill, is_seed, before_of}
+use Rattle.ov_scenario.specs.Scenarios.{AreParams, AreParamsOf, IsRefillOf, IsSeedOf, IsWrong, IsWrongIn, AreFaulty}
+use Rattle.ov_scenario.specs.Scenarios.{AreFaultless, AreToRun, BlockRunsAs, RunAs, default_params}
 use Rattle.ov_scenario.specs.Scenarios.{IsScenario}
 use Rattle.ov_scenario.specs.Sections.{SectionLine, open_after, section_line}
 use Rattle.ov_scenario.specs.Statements.{Stated, ToldLine, told, workers_or_one}
@@ -44,6 +45,7 @@ no_params : (said : Option Statement) → is_params said ≡ false → params_in
 no_params None is = refl
 no_params (Some (says.Params numbers)) is = absurd cc
 no_params (Some (says.Seed seed)) is = refl
+no_params (Some (says.Refill rule)) is = refl
 no_params (Some (says.Words words)) is = refl
 no_params (Some (says.Event event)) is = refl
 no_params (Some (says.Look look)) is = refl
@@ -70,6 +72,7 @@ no_seed : (said : Option Statement) → is_seed said ≡ false → seed_in said 
 no_seed None is = refl
 no_seed (Some (says.Params numbers)) is = refl
 no_seed (Some (says.Seed seed)) is = absurd cc
+no_seed (Some (says.Refill rule)) is = refl
 no_seed (Some (says.Words words)) is = refl
 no_seed (Some (says.Event event)) is = refl
 no_seed (Some (says.Look look)) is = refl
@@ -89,6 +92,32 @@ sets_seed = record {
   gives = λ x. refl;
   other = no_seed;
   behind_none = λ before behind x right. before_seed (open_after before) (before_of before) x behind right;
+}
+
+no_refill : (said : Option Statement) → is_refill said ≡ false → refill_in said ≡ None
+no_refill None is = refl
+no_refill (Some (says.Params numbers)) is = refl
+no_refill (Some (says.Seed seed)) is = refl
+no_refill (Some (says.Refill rule)) is = absurd cc
+no_refill (Some (says.Words words)) is = refl
+no_refill (Some (says.Event event)) is = refl
+no_refill (Some (says.Look look)) is = refl
+no_refill (Some (says.Analyse subject workers)) is = refl
+no_refill (Some says.Together) is = refl
+no_refill (Some says.Also) is = refl
+no_refill (Some says.End) is = refl
+
+before_refill :
+    (block : Option OpenBlock) (before : Before) (rule : Refill) (behind : List Stated)
+    → ((f : LineFault) → ¬ IsWrongIn block before (says.Refill rule) behind f) → before.refill ≡ None
+before_refill (Some block) before rule behind right = absurd (right (fault.NotHeld block.together) refl)
+before_refill None before rule behind right = (in_time sets.Refill before.event before.refill right).1
+
+sets_refill : SetsOnce says.Refill refill_in is_refill
+sets_refill = record {
+  gives = λ x. refl;
+  other = no_refill;
+  behind_none = λ before behind x right. before_refill (open_after before) (before_of before) x behind right;
 }
 
 -- where no line up to one is of the kind, that one is not, and none before it
@@ -127,31 +156,49 @@ only_first kind given is_kind s passed (first ∷ more) line x (inl (right, rest
     let none = none_up_to is_kind passed first later.0 in
     (none.1, ap (λ o. option_or o (first_in given more)) (s.other first.says none.0) ∙ later.1)
 
--- ---- parameters and seed
+-- ---- parameters, seed and rule
 
--- the parameters with these numbers, whatever they are
-abbrev limits_of : List ℕ → ParamsState
-limits_of (a ∷ p ∷ w ∷ r ∷ ka ∷ kp ∷ t ∷ []) =
-    record { active = a; passive = p; arwl = w; prwl = r; ka = ka; kp = kp; shuffle_ttl = t }
-limits_of other = default_params
+-- the parameters with these numbers and this rule at DISCONNECT, whatever they are
+abbrev limits_of : Refill → List ℕ → ParamsState
+limits_of rule (a ∷ p ∷ w ∷ r ∷ ka ∷ kp ∷ t ∷ []) =
+    record { active = a; passive = p; arwl = w; prwl = r; ka = ka; kp = kp; shuffle_ttl = t; refill = rule }
+limits_of rule other = default_params
 
--- the parameters with the same numbers are the same
-one_params : (numbers others : List ℕ) (p q : ParamsState) → AreParams numbers p → AreParams others q → numbers ≡ others
+-- the parameters with the same numbers and the same rule are the same
+one_params :
+    (numbers others : List ℕ) (p q : ParamsState) → AreParams numbers p → AreParams others q → numbers ≡ others
+    → p.refill ≡ q.refill
     → p ≡ q
-one_params numbers others p q are also same = ap limits_of (sym are.0 ∙ same ∙ also.0)
+one_params numbers others p q are also same rule =
+    ap (limits_of p.refill) (sym are.0 ∙ same ∙ also.0)
+    ∙ ap (λ r. limits_of r (q.active ∷ q.passive ∷ q.arwl ∷ q.prwl ∷ q.ka ∷ q.kp ∷ q.shuffle_ttl ∷ [])) rule
 
-one_params_of : (all : List Stated) (p q : ParamsState) → AreFaultless all → AreParamsOf all p → AreParamsOf all q
+one_params_of :
+    (all : List Stated) (p q : ParamsState) → AreFaultless all → AreParamsOf all p → AreParamsOf all q
+    → p.refill ≡ q.refill
     → p ≡ q
 unfolding AreParamsOf
-one_params_of all p q right (inl (own, numbers, has, its, are)) (inl (line, others, also, also_its, also_are)) =
+one_params_of all p q right (inl (own, numbers, has, its, are)) (inl (line, others, also, also_its, also_are)) rule =
     let first = only_first says.Params params_in is_params sets_params [] all own numbers right has its in
     let other = only_first says.Params params_in is_params sets_params [] all line others right also also_its in
     let same = sym first.1 ∙ other.1 in
-    one_params numbers others p q are also_are cc
-one_params_of all p q right (inl (own, numbers, has, its, are)) (inr none) = absurd (none.0 (own, numbers, has, its))
-one_params_of all p q right (inr none) (inl (line, others, also, also_its, also_are)) =
+    one_params numbers others p q are also_are (cc) rule
+one_params_of all p q right (inl (own, numbers, has, its, are)) (inr none) rule =
+    absurd (none.0 (own, numbers, has, its))
+one_params_of all p q right (inr none) (inl (line, others, also, also_its, also_are)) rule =
     absurd (none.0 (line, others, also, also_its))
-one_params_of all p q right (inr none) (inr other) = none.1 ∙ sym other.1
+one_params_of all p q right (inr none) (inr other) rule =
+    none.1 ∙ ap (λ r. record default_params { refill = r }) rule ∙ sym other.1
+
+one_refill_of : (all : List Stated) (x y : Refill) → AreFaultless all → IsRefillOf all x → IsRefillOf all y → x ≡ y
+unfolding IsRefillOf
+one_refill_of all x y right (inl (own, has, its)) (inl (line, also, also_its)) =
+    let first = only_first says.Refill refill_in is_refill sets_refill [] all own x right has its in
+    let other = only_first says.Refill refill_in is_refill sets_refill [] all line y right also also_its in
+    let same = sym first.1 ∙ other.1 in cc
+one_refill_of all x y right (inl (own, has, its)) (inr none) = absurd (none.0 (own, x, has, its))
+one_refill_of all x y right (inr none) (inl (line, also, also_its)) = absurd (none.0 (line, y, also, also_its))
+one_refill_of all x y right (inr none) (inr other) = none.1 ∙ sym other.1
 
 one_seed_of : (all : List Stated) (x y : ℕ) → AreFaultless all → IsSeedOf all x → IsSeedOf all y → x ≡ y
 unfolding IsSeedOf
@@ -276,7 +323,8 @@ pub one_scenario :
     → (s.params ≡ t.params) × (s.seed ≡ t.seed) × (s.lines.items ≡ t.lines.items)
 one_scenario bytes s t read also =
     let seed = one_seed_of (stated_lines bytes) s.seed t.seed read.faultless read.seed also.seed in (
-      one_params_of (stated_lines bytes) s.params t.params read.faultless read.params also.params,
+      one_params_of (stated_lines bytes) s.params t.params read.faultless read.params also.params
+          (one_refill_of (stated_lines bytes) s.params.refill t.params.refill read.faultless read.refill also.refill),
       seed,
       one_to_run (kept_lines bytes) s.seed t.seed s.lines.items t.lines.items seed read.lines also.lines,
     )

@@ -2,10 +2,12 @@
 use Rattle.std.proofs.Common.{◌≡◌, ◌∙◌, inl, inr, ℕ, List, [], ◌∷◌, ◌++◌, Option, Some, None, refl, ap, sym, subst}
 use Rattle.std.specs.Option.{option_or}
 use Rattle.ov_ids.specs.Members.{Has}
-use Rattle.ov_ids.specs.ParamsState.{ParamsState}
-use Rattle.ov_scenario.specs.Code.Judging.{params_in, seed_in, first_in}
+use Rattle.ov_ids.specs.ParamsState.{AreWithinLimits, ParamsState}
+use Rattle.ov_ids.specs.declared.refill_rule.Refill.{Refill}
+use Rattle.ov_ids.specs.declared.refill_rule.Refill.TheVariants.{Never}
+use Rattle.ov_scenario.specs.Code.Judging.{params_in, refill_in, seed_in, first_in}
 use Rattle.ov_scenario.specs.Scenarios.{AreParams, AreWithin, AreFaulty, AreFaultless, AreParamsOf, IsSeedOf}
-use Rattle.ov_scenario.specs.Scenarios.{IsWrong, before_of, default_params}
+use Rattle.ov_scenario.specs.Scenarios.{IsRefillOf, IsWrong, before_of, default_params}
 use Rattle.ov_scenario.specs.Statements.{Stated}
 use Rattle.ov_scenario.specs.declared.scenario_fault.LineFault.{LineFault}
 use Rattle.ov_scenario.specs.declared.statement.Statement.{Statement}
@@ -50,6 +52,7 @@ says_params : (said : Option Statement) (numbers : List ℕ) → params_in said 
 says_params None numbers is = absurd cc
 says_params (Some (says.Params own)) numbers is = cc
 says_params (Some (says.Seed seed)) numbers is = absurd cc
+says_params (Some (says.Refill rule)) numbers is = absurd cc
 says_params (Some (says.Words words)) numbers is = absurd cc
 says_params (Some (says.Event event)) numbers is = absurd cc
 says_params (Some (says.Look look)) numbers is = absurd cc
@@ -106,6 +109,7 @@ says_seed : (said : Option Statement) (seed : ℕ) → seed_in said ≡ Some see
 says_seed None seed is = absurd cc
 says_seed (Some (says.Params numbers)) seed is = absurd cc
 says_seed (Some (says.Seed own)) seed is = cc
+says_seed (Some (says.Refill rule)) seed is = absurd cc
 says_seed (Some (says.Words words)) seed is = absurd cc
 says_seed (Some (says.Event event)) seed is = absurd cc
 says_seed (Some (says.Look look)) seed is = absurd cc
@@ -124,6 +128,58 @@ unfolding IsSeedOf
 no_seed lines is = inr (
   λ (line, seed, has, its).
       absurd (cc (sym (missing seed_in lines is line has) ∙ ap seed_in its)),
+  refl,
+)
+
+-- ---- the rule at DISCONNECT
+
+-- the limits leave the rule open
+any_rule : (p : ParamsState) (rule : Refill) → AreWithinLimits p → AreWithinLimits (record p { refill = rule })
+any_rule p rule are = record {
+  active_low = are.active_low;
+  active_high = are.active_high;
+  passive_low = are.passive_low;
+  passive_high = are.passive_high;
+  arwl_high = are.arwl_high;
+  prwl_high = are.prwl_high;
+  ka_high = are.ka_high;
+  kp_high = are.kp_high;
+  shuffle_ttl_low = are.shuffle_ttl_low;
+  shuffle_ttl_high = are.shuffle_ttl_high;
+}
+
+-- and so do the parameters of lines
+pub with_rule :
+    (lines : List Stated) (p : ParamsState) (rule : Refill) → AreParamsOf lines p
+    → AreParamsOf lines (record p { refill = rule })
+unfolding AreParamsOf
+with_rule lines p rule (inl (line, numbers, has, its, are)) =
+    inl (line, numbers, has, its, (are.0, any_rule p rule are.1))
+with_rule lines p rule (inr (none, are)) = inr (none, ap (λ (q : ParamsState). record q { refill = rule }) are)
+
+says_refill : (said : Option Statement) (rule : Refill) → refill_in said ≡ Some rule → said ≡ Some (says.Refill rule)
+says_refill None rule is = absurd cc
+says_refill (Some (says.Params numbers)) rule is = absurd cc
+says_refill (Some (says.Seed seed)) rule is = absurd cc
+says_refill (Some (says.Refill own)) rule is = cc
+says_refill (Some (says.Words words)) rule is = absurd cc
+says_refill (Some (says.Event event)) rule is = absurd cc
+says_refill (Some (says.Look look)) rule is = absurd cc
+says_refill (Some (says.Analyse subject workers)) rule is = absurd cc
+says_refill (Some says.Together) rule is = absurd cc
+says_refill (Some says.Also) rule is = absurd cc
+says_refill (Some says.End) rule is = absurd cc
+
+pub refill_given : (lines : List Stated) (rule : Refill) → first_in refill_in lines ≡ Some rule → IsRefillOf lines rule
+unfolding IsRefillOf
+refill_given lines rule is =
+    let (line, has, its) = found refill_in lines rule is in inl (line, has, says_refill line.says rule its)
+
+pub no_refill : (lines : List Stated) → first_in refill_in lines ≡ None → IsRefillOf lines Never
+unfolding IsRefillOf
+no_refill lines is = inr (
+  λ (line, rule, has, its).
+      absurd (cc (sym (missing refill_in lines is line has) ∙ ap refill_in its)),
   refl,
 )
 

@@ -1,7 +1,8 @@
 -- How a line is judged, and what lines without a fault give for the whole run.
 use Rattle.std.specs.Prelude.{◌≡◌, ℕ, max, Bool, List, [], ◌∷◌, Option, Some, None, option_map, if◌then◌else◌}
 use Rattle.std.specs.Option.{option_or}
-use Rattle.ov_scenario.specs.Scenarios.{is_event, is_params, is_seed, IsWrong}
+use Rattle.ov_ids.specs.declared.refill_rule.Refill.{Refill}
+use Rattle.ov_scenario.specs.Scenarios.{is_event, is_params, is_refill, is_seed, IsWrong}
 use Rattle.ov_scenario.specs.Sections.{open_next}
 use Rattle.ov_scenario.specs.Statements.{Stated}
 use Rattle.ov_scenario.specs.declared.line_judging.Before.{Before}
@@ -28,6 +29,7 @@ with_next before line = record {
   event = or_next is_event before.event line;
   params = or_next is_params before.params line;
   seed = or_next is_seed before.seed line;
+  refill = or_next is_refill before.refill line;
   block = open_next before.block line.number line.says;
 }
 
@@ -51,6 +53,11 @@ params_in other = None
 abbrev pub seed_in : Option Statement → Option ℕ
 seed_in (Some (says.Seed seed)) = Some seed
 seed_in other = None
+
+-- the rule at DISCONNECT that a line gives, if it says this
+abbrev pub refill_in : Option Statement → Option Refill
+refill_in (Some (says.Refill rule)) = Some rule
+refill_in other = None
 
 -- the first of what these lines give
 abbrev pub first_in : {A : Type 0} → (Option Statement → Option A) → List Stated → Option A

@@ -1,13 +1,13 @@
 //! Rows of a sweep, written out by hand.
 use ov_grow_options::{Chance, Count, Crash, GrowOptions, NodeCount, Order, Pace, Share};
-use ov_ids::Params;
+use ov_ids::{Params, Refill};
 use ov_sweep_rows::{DeliveredShare, PhaseRow, Row, RowFault, read_rows};
 use std::alloc::{AllocError, Global};
 use std::test::Fail;
 
 /// The line that rows begin with.
 pub(crate) const HEADER: &str = "\
-nodes,active,passive,arwl,prwl,ka,kp,ttl,loss_join,loss,repeat,order,pace,rounds,crash,heal,broadcasts,seed,\
+nodes,active,passive,arwl,prwl,ka,kp,ttl,refill,loss_join,loss,repeat,order,pace,rounds,crash,heal,broadcasts,seed,\
 settle_nodes,settle_k,settle_least_degree,settle_links,settle_entries,settle_delivered,\
 crash_nodes,crash_k,crash_least_degree,crash_links,crash_entries,crash_delivered,\
 heal_nodes,heal_k,heal_least_degree,heal_links,heal_entries,heal_delivered\n";
@@ -15,9 +15,9 @@ heal_nodes,heal_k,heal_least_degree,heal_links,heal_entries,heal_delivered\n";
 /// Two rows: no two options of the first one have the same number, one of its columns has the highest that there is, and
 /// all options of the second one are at their defaults.
 const ROWS: [&str; 2] = [
-    "60,4,20,6,2,1,3,5,8,9,11,oldest,7,12,cut,13,10,18446744073709551615,\
+    "60,4,20,6,2,1,3,5,alone,8,9,11,oldest,7,12,cut,13,10,18446744073709551615,\
      60,2,3,171,1834,0.9950,58,0,1,160,1836,0.0000,58,3,3,4294967295,2100,1.0000\n",
-    "100,5,30,6,3,3,4,4,0,0,0,random,,3,0,2,0,0,100,0,0,200,2000,,100,0,0,200,2000,,100,1,1,210,3000,\n",
+    "100,5,30,6,3,3,4,4,never,0,0,0,random,,3,0,2,0,0,100,0,0,200,2000,,100,0,0,200,2000,,100,1,1,210,3000,\n",
 ];
 
 fn phase(nodes: u32, k: u32, least_degree: u32, links: u32, entries: u32) -> PhaseRow {
@@ -43,7 +43,9 @@ fn delivered(row: PhaseRow, deliveries: u32) -> PhaseRow {
 fn first_options() -> Option<GrowOptions> {
     Some(GrowOptions {
         nodes: NodeCount::new(60)?,
-        params: Params::new(4, 20, 6, 2, 1, 3, 5).ok()?,
+        params: Params::new(4, 20, 6, 2, 1, 3, 5)
+            .ok()?
+            .with_refill(Refill::Alone),
         seed: u64::MAX,
         loss_join: Chance::new(8)?,
         loss: Chance::new(9)?,
@@ -106,7 +108,7 @@ fn rows_are_read(rt: HostRuntime) -> Result<(), Fail> {
 }
 
 /// What stands in place of a part of the second row, and why the rows are refused then.
-static CHANGED: [(&str, &str, &str); 12] = [
+static CHANGED: [(&str, &str, &str); 13] = [
     (
         "100,5,",
         "257,5,",
@@ -118,13 +120,18 @@ static CHANGED: [(&str, &str, &str); 12] = [
         "line 3: nodes must be a number from 1 to 256",
     ),
     (
-        ",4,4,0,0,0,",
-        ",4,0,0,0,0,",
+        ",4,4,never,",
+        ",4,0,never,",
         "line 3: ttl must be a number from 1 to 15, after parameters within their limits",
     ),
     (
-        ",4,4,0,0,0,",
-        ",4,4,101,0,0,",
+        ",never,",
+        ",ever,",
+        "line 3: refill must be never, alone or always",
+    ),
+    (
+        ",never,0,0,0,",
+        ",never,101,0,0,",
         "line 3: loss_join must be a number from 0 to 100",
     ),
     (
@@ -165,12 +172,13 @@ static CHANGED: [(&str, &str, &str); 12] = [
     (
         ",210,3000,",
         ",210,3000",
-        "line 3: the row has 35 fields and must have 36",
+        "line 3: the row has 36 fields and must have 37",
     ),
 ];
 
 /// Why texts are no rows from their first line on.
-const NO_HEADER: &str = "line 1 must be the header of the rows, nodes,active,passive and so on";
+const NO_HEADER: &str =
+    "line 1 must be the header of the rows, nodes,active,passive and so on, with refill behind ttl";
 
 /// Whether a fault has this reason.
 fn is_reason(alloc: Global, fault: RowFault, reason: &str) -> bool {

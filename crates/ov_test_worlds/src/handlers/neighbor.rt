@@ -1,7 +1,7 @@
 ghost use Rattle.std.specs.Prelude.{◌≤◌, length};
 
 use crate::handlers::nodes::{Change, Spelt, are_moves, has, views_with};
-use ov_ids::{NodeId, OutOfMemory};
+use ov_ids::{NodeId, OutOfMemory, Refill};
 use ov_neighbor::{Attempt, on_crash_report, on_disconnect, on_neighbor, on_reply};
 use ov_test_kit::{sized, words};
 use ov_views::{Moves, Views};
@@ -54,7 +54,7 @@ fn handle(
         Event::Low => on_neighbor(alloc, views, draws, from, false),
         Event::High => on_neighbor(alloc, views, draws, from, true),
         Event::No => on_reply(alloc, views, attempt, draws, from, false),
-        Event::Disconnect => on_disconnect(alloc, views, draws, from),
+        Event::Disconnect => on_disconnect(alloc, views, attempt, draws, from),
         Event::Crash => on_crash_report(alloc, views, attempt, draws, from),
     }
 }
@@ -172,5 +172,84 @@ fn who_disconnects_becomes_passive(rt: HostRuntime) -> Result<(), Fail> {
     let words = words(&[]);
     let views = views_with(7, sized(5, 30)?, &[1], &[], &words);
     goes(&rt, rt.alloc(), views, &words, &LEFT);
+    Ok(())
+}
+
+/// Node 1 is told DISCONNECT by 3: its rule, who else is active, what it sends to whom, and how many of 64 words are
+/// left. Of passive members it has 4, and then 3 and 4.
+struct Parted {
+    rule: Refill,
+    others: &'static [u32],
+    sends: Spelt,
+    left: usize,
+}
+
+impl Parted {
+    /// The step.
+    fn step(&self) -> Step {
+        Step {
+            from: 3,
+            event: Event::Disconnect,
+            changes: &[Change::Down(3)],
+            sends: self.sends,
+            active: self.others,
+            passive: &[3, 4],
+            left: self.left,
+        }
+    }
+}
+
+/// The word 2 picks the first of two passive members, which is the sender.
+static PARTED: [Parted; 6] = [
+    Parted {
+        rule: Refill::Never,
+        others: &[8],
+        sends: &[],
+        left: 64,
+    },
+    Parted {
+        rule: Refill::Alone,
+        others: &[8],
+        sends: &[],
+        left: 64,
+    },
+    Parted {
+        rule: Refill::Always,
+        others: &[8],
+        sends: &[(3, &[1, 4, 0, 0, 0, 1, 0])],
+        left: 63,
+    },
+    Parted {
+        rule: Refill::Never,
+        others: &[],
+        sends: &[],
+        left: 64,
+    },
+    Parted {
+        rule: Refill::Alone,
+        others: &[],
+        sends: &[(3, &[1, 4, 0, 0, 0, 1, 1])],
+        left: 63,
+    },
+    Parted {
+        rule: Refill::Always,
+        others: &[],
+        sends: &[(3, &[1, 4, 0, 0, 0, 1, 1])],
+        left: 63,
+    },
+];
+
+#[test]
+fn neighbor_leaves(rt: HostRuntime) -> Result<(), Fail> {
+    let words = words(&[2]);
+    for row in &PARTED {
+        let mut views = views_with(1, sized(5, 30)?.with_refill(row.rule), &[3], &[4], &words);
+        for other in row.others {
+            views.add_active(NodeId(*other), &mut Draws::new(&words));
+        }
+        let attempt = Attempt::new(rt.alloc());
+        let mut node = Node { views, attempt };
+        assert!(rt; does(rt.alloc(), &mut node, &words, &row.step()));
+    }
     Ok(())
 }

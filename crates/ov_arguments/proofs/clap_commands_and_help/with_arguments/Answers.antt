@@ -1,5 +1,5 @@
 -- One option more.
-use Rattle.std.proofs.Common.{◌≡◌, ◌∙◌, ◌+◌, refl, sym, ap, drop}
+use Rattle.std.proofs.Common.{◌∙◌, ◌+◌, refl, sym, ap, drop}
 use Rattle.std.proofs.lemmas.List.{at_drop_all}
 use Rattle.clap.specs.Words.{app_of}
 use Rattle.ov_arguments.specs.Code.Options.{with_options}

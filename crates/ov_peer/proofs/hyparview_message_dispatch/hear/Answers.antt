@@ -15,7 +15,7 @@ pub returns-in-Neighbor-clause-allowed : goal.returns-in-Neighbor-clause-allowed
 returns-in-Neighbor-clause-allowed c = with_views _ _ _ _ _ _ _ _ _ _ c.in-Neighbor.is (search rules)
 
 pub returns-in-Disconnect-clause-allowed : goal.returns-in-Disconnect-clause-allowed
-returns-in-Disconnect-clause-allowed c = with_views _ _ _ _ _ _ _ _ _ _ c.in-Disconnect.is (search rules)
+returns-in-Disconnect-clause-allowed c = with_attempt _ _ _ _ _ _ _ _ _ _ _ c.in-Disconnect.is (search rules)
 
 pub returns-in-NeighborReply-clause-allowed : goal.returns-in-NeighborReply-clause-allowed
 returns-in-NeighborReply-clause-allowed c = with_attempt _ _ _ _ _ _ _ _ _ _ _ c.in-NeighborReply.is (search rules)

@@ -76,6 +76,12 @@ returns-in-Ok-Seed c =
     does_nothing (stream_now c.args.draws.now) c.args.given.now c.take-waiting.new.self c.args.stated.says nothing
     (search rules) tt c.take-waiting.ensures.after
 
+pub returns-in-Ok-Refill : goal.returns-in-Ok-Refill
+returns-in-Ok-Refill c =
+    let nothing = Some (says.Refill c.in-Ok-Refill.field-0-0) in
+    does_nothing (stream_now c.args.draws.now) c.args.given.now c.take-waiting.new.self c.args.stated.says nothing
+    (search rules) tt c.take-waiting.ensures.after
+
 pub returns-in-Ok-Look : goal.returns-in-Ok-Look
 returns-in-Ok-Look c =
     let nothing = Some (says.Look c.in-Ok-Look.field-0-0) in

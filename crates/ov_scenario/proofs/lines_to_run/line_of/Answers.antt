@@ -65,6 +65,12 @@ returns-in-Ok-Seed c =
     asks_nothing (stream_now c.args.draws.now) c.args.given.now c.take-waiting.new.self c.args.stated.says nothing
     (search rules) tt c.take-waiting.ensures.after
 
+pub returns-in-Ok-Refill : goal.returns-in-Ok-Refill
+returns-in-Ok-Refill c =
+    let nothing = Some (says.Refill c.in-Ok-Refill.field-0-0) in
+    asks_nothing (stream_now c.args.draws.now) c.args.given.now c.take-waiting.new.self c.args.stated.says nothing
+    (search rules) tt c.take-waiting.ensures.after
+
 pub returns-in-Ok-Also : goal.returns-in-Ok-Also
 returns-in-Ok-Also c =
     asks_nothing (stream_now c.args.draws.now) c.args.given.now c.take-waiting.new.self c.args.stated.says

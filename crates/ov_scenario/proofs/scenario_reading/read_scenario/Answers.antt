@@ -19,7 +19,8 @@ returns-clause-scenario c =
     let given = c.in-Ok.ensures in
     record {
       faultless = given.faultless;
-      params = c.params-params.ensures (stated_lines bytes) given.faultless given.params;
+      params = c.params-params.ensures.params (stated_lines bytes) given.faultless given.params;
+      refill = c.params-params.ensures.refill (stated_lines bytes) given.refill;
       seed = c.seed-seed.ensures (stated_lines bytes) given.seed;
       lines = are_to_run (kept_lines bytes) c.seed-seed.result c.new-lines.result.items c.new-lines.ensures.lines;
       drivers =

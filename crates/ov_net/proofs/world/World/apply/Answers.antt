@@ -20,7 +20,7 @@ reserve_and_change-requires-clause-newborn c =
     c.args.event before.graph c.self.view_is c.self.invariant.0 c.self.invariant.1 c.requires.judged
 
 pub change_graph-requires-clause-graph : goal.change_graph-requires-clause-graph
-change_graph-requires-clause-graph c = c.in_ok-answer.ensures.graph
+change_graph-requires-clause-graph c = c.in_ok-reserve_and_change.ensures.graph
 
 pub change_graph-requires-clause-live : goal.change_graph-requires-clause-live
 change_graph-requires-clause-live c =
@@ -30,8 +30,8 @@ change_graph-requires-clause-live c =
     let g = c.reserve_and_change.new.graph in
     let after = graph_after (world_of before.params before.nodes before.packets.items before.journal.items)
     c.args.self.now c.args.event c.args.words.now effects later before.graph g c.self.view_is c.self.invariant.0
-    c.self.invariant.1 c.requires.effects c.in_ok-answer.ensures.ok c.in_ok-answer.ensures.gains
-    c.in_ok-answer.ensures.graph in
+    c.self.invariant.1 c.requires.effects c.in_ok-reserve_and_change.ensures.ok c.in_ok-reserve_and_change.ensures.gains
+    c.in_ok-reserve_and_change.ensures.graph in
     live_after _ later _ effects.changes before.graph g after.was after.outcome after.gains
 
 pub change_graph-requires-clause-fit : goal.change_graph-requires-clause-fit
@@ -42,8 +42,8 @@ change_graph-requires-clause-fit c =
     let g = c.reserve_and_change.new.graph in
     let after = graph_after (world_of before.params before.nodes before.packets.items before.journal.items)
     c.args.self.now c.args.event c.args.words.now effects later before.graph g c.self.view_is c.self.invariant.0
-    c.self.invariant.1 c.requires.effects c.in_ok-answer.ensures.ok c.in_ok-answer.ensures.gains
-    c.in_ok-answer.ensures.graph in
+    c.self.invariant.1 c.requires.effects c.in_ok-reserve_and_change.ensures.ok c.in_ok-reserve_and_change.ensures.gains
+    c.in_ok-reserve_and_change.ensures.graph in
     subst (Fit later) (sym c.as_slice.ensures) (fit_after _ later _ effects.changes after.outcome)
 
 pub invariant_of-self-2 : goal.invariant_of-self-2
@@ -66,7 +66,7 @@ invariant_of-self-2 c =
       packets = c.update_packets.new.packets.items;
     } in
     let journal = c.push_reserved.ensures.items
-    ∙ ap (λ v. v ++ c.entry.result ∷ []) c.in_ok-answer.ensures.journal
+    ∙ ap (λ v. v ++ c.entry.result ∷ []) c.in_ok-reserve_and_change.ensures.journal
     ∙ ap (λ (e : Entry). before.journal.items ++ e ∷ []) c.entry.ensures in
     let numbered = c.next_number-number.ensures ∙ ap (λ v. length v + 1) c.deref.ensures.value in
     let stands = stands_next seen c.args.self.now c.args.event c.args.words.now effects entry later
@@ -75,14 +75,14 @@ invariant_of-self-2 c =
     (refl, refl, refl, refl, numbered)
     (record {
       params = refl;
-      nodes = c.in_ok-answer.ensures.ok;
+      nodes = c.in_ok-reserve_and_change.ensures.ok;
       packets = c.update_packets.ensures
-          ∙ ap (λ v. taking effects.taken v ++ effects.packets.items) c.in_ok-answer.ensures.packets;
+          ∙ ap (λ v. taking effects.taken v ++ effects.packets.items) c.in_ok-reserve_and_change.ensures.packets;
     })
     journal in
     let after = graph_after seen c.args.self.now c.args.event c.args.words.now effects nodes before.graph g
-    c.self.view_is c.self.invariant.0 c.self.invariant.1 c.requires.effects c.in_ok-answer.ensures.ok
-    c.in_ok-answer.ensures.gains c.in_ok-answer.ensures.graph in (
+    c.self.view_is c.self.invariant.0 c.self.invariant.1 c.requires.effects c.in_ok-reserve_and_change.ensures.ok
+    c.in_ok-reserve_and_change.ensures.gains c.in_ok-reserve_and_change.ensures.graph in (
       stands,
       graph_next seen c.args.event nodes effects.changes before.graph g c.change_graph.new.graph after
           (subst (λ (changes : List Change). AreChanged nodes changes g c.change_graph.new.graph) c.as_slice.ensures
