@@ -5,7 +5,7 @@ use Rattle.std.proofs.lemmas.List.{drop-drop, length-drop}
 use Rattle.std.proofs.lemmas.Grind.{common_steps}
 use Rattle.serde_json.specs.Data.{Data}
 use Rattle.serde_json.specs.Written.{comma_if, compact_text}
-use Rattle.ov_certwriter.specs.Code.Blocks.{Puts, items_after, entry_room, entries_room, AreWithin}
+use Rattle.ov_certwriter.specs.Code.Blocks.{items_after, entries_room, AreWithin}
 
 -- the texts of the first items, and those of the others
 items_cut : {X : Type 0} (as_data : X → Data) (later : Bool) (n : ℕ) (xs : List X)
@@ -105,9 +105,9 @@ parts_within paths_of room size (suc count) xs parts enough =
     let first = subst (λ (m : ℕ). AreWithin paths_of room (take size (drop m xs))) none (parts 0 (omega arith)) in
     let rest = parts_within paths_of room size count (drop size xs)
     (λ place low.
-        let is : (place + 1) * size ≡ size + place * size = omega arith in
-        subst (λ ys. AreWithin paths_of room (take size ys))
-        (ap (λ (m : ℕ). drop m xs) is ∙ sym (drop-drop (place * size) size xs)) (parts (place + 1) (omega (arith, low))))
+    let is : (place + 1) * size ≡ size + place * size = omega arith in
+    subst (λ ys. AreWithin paths_of room (take size ys))
+    (ap (λ (m : ℕ). drop m xs) is ∙ sym (drop-drop (place * size) size xs)) (parts (place + 1) (omega (arith, low))))
     (let all : suc count * size ≡ size + count * size = omega arith in
     omega (arith, enough, all, length-drop size xs)) in
     within_joined paths_of room size xs first rest

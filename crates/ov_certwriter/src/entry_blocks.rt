@@ -13,9 +13,8 @@ use ov_ids::OutOfMemory;
 use ov_io::{Sink, WriteFault};
 use std::alloc::{AllocError, Global};
 use std::io::Write;
-use std::mem;
-use std::thread;
 use std::thread::Threads;
+use std::{mem, thread};
 
 /// Memory for the texts of some entries, and how much of it they take.
 #[derive(Drop)]

@@ -23,7 +23,9 @@ pub(crate) fn largest_room<R: Threads + Sync, T: Entry>(
 ) -> Result<usize, OutOfMemory>
     ensures { IfOk result (λ room. room < usize.MAX → AreWithin T.paths_of room entries.now) }
 {
-    let threads = workers.at_most(entries.len() as u64 / ENTRIES_WORTH_A_THREAD).count();
+    let threads = workers
+        .at_most(entries.len() as u64 / ENTRIES_WORTH_A_THREAD)
+        .count();
     let size = entries.len().div_ceil(threads as usize).max(1);
     let rooms = rooms_of_parts(rt, alloc, entries, size)?;
     Ok(largest(&rooms))

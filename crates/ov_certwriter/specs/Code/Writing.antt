@@ -1,5 +1,5 @@
 -- What comes of writing the texts of some of the items of a list.
-use Rattle.std.specs.Prelude.{◌≡◌, ◌+◌, ◌*◌, ◌++◌, ℕ, Bool, true, List, drop, Option, Result, OnOk}
+use Rattle.std.specs.Prelude.{◌≡◌, ◌+◌, ◌++◌, ℕ, Bool, true, List, drop, Option, Result, OnOk}
 use Rattle.std.specs.Io.KnownBytes.{Appends}
 use Rattle.serde_json.specs.Data.{Data}
 use Rattle.ov_io.specs.Device.{SinkState, write_faults, write_number, AppendsPrefixOf}

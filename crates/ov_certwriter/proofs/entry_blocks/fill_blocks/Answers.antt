@@ -1,5 +1,5 @@
 -- Each block has room for its part.
-use Rattle.std.proofs.Common.{◌≡◌, ◌*◌, ◌<◌, List, ℕ, rules, length, slice_index_or, subst, ap, arith}
+use Rattle.std.proofs.Common.{◌≡◌, ◌*◌, ◌<◌, List, rules, length, slice_index_or, subst, ap, arith}
 use Rattle.ov_certwriter.specs.declared.entry_blocks.Block.{Block}
 use Rattle.ov_certwriter.proofs.Filled.{part_fits, within_behind, product_up}
 use Rattle.ov_certwriter.proofs.entry_blocks.fill_blocks.Goals as goal

@@ -1,5 +1,5 @@
 -- One more block was written; if the writer failed, the blocks before it and a prefix of it.
-use Rattle.std.proofs.Common.{◌≡◌, ◌∙◌, ◌+◌, ◌*◌, ◌<◌, ◌||◌, ◌++◌, nat_lt, List, ℕ, take, drop, length, slice_index_or}
+use Rattle.std.proofs.Common.{◌≡◌, ◌∙◌, ◌+◌, ◌*◌, ◌<◌, ◌||◌, ◌++◌, nat_lt, List, take, drop, length, slice_index_or}
 use Rattle.std.proofs.Common.{rules, ap, subst, arith}
 use Rattle.std.proofs.KnownBytes.{Appends-trans}
 use Rattle.ov_io.specs.Device.{AppendsPrefixOf}

@@ -1,5 +1,5 @@
 -- One more round was written, and the next one is in the full blocks.
-use Rattle.std.proofs.Common.{◌≡◌, ◌∙◌, ◌*◌, ◌++◌, ℕ, true, drop, length, sym, ap, subst, arith, append_assoc}
+use Rattle.std.proofs.Common.{◌∙◌, ◌*◌, ◌++◌, ℕ, true, drop, length, sym, ap, subst, arith, append_assoc}
 use Rattle.std.proofs.KnownBytes.{Appends-trans}
 use Rattle.ov_certwriter.specs.declared.entry_blocks.Blocks.{Blocks}
 use Rattle.ov_certwriter.specs.Code.Blocks.{items_after, AreWithin, HoldParts}

@@ -10,7 +10,7 @@ returns g c small =
     let below = subst (λ (xs : List ℕ). All (λ room. room ≤ most) xs) c.deref.ensures.value c.largest.ensures in
     parts_within g.T.Entry.paths_of most c.max-size.result (length rooms) c.args.entries.now
     (λ place low.
-        let own = below place 0 low in
-        within_more g.T.Entry.paths_of (slice_index_or rooms place 0) most _ own
-        (c.in_ok-rooms.ensures.parts place 0 low (omega (arith, own, small))))
+    let own = below place 0 low in
+    within_more g.T.Entry.paths_of (slice_index_or rooms place 0) most _ own
+    (c.in_ok-rooms.ensures.parts place 0 low (omega (arith, own, small))))
     c.in_ok-rooms.ensures.enough

@@ -1,5 +1,5 @@
 -- One more byte, and all of them.
-use Rattle.std.proofs.Common.{◌∙◌, [], ◌∷◌, take, take_all, sym}
+use Rattle.std.proofs.Common.{◌∙◌, [], ◌∷◌, take_all, sym}
 use Rattle.std.proofs.lemmas.List.{take_more}
 use Rattle.ov_certwriter.proofs.PutTexts.{puts_nothing, puts_then, puts_same}
 use Rattle.ov_certwriter.proofs.reserved_memory.put_text.Goals as goal
