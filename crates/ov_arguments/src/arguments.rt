@@ -4,8 +4,8 @@ ghost use Rattle.std.specs.IoError.{error_kind};
 ghost use Rattle.clap.specs.Words.{found_of, first_value};
 ghost use Rattle.ov_arguments.specs.Arguments.{AreReadable, AreReadableFor, AreTaken, HasGroupOfIds, IsAsked, entry_of};
 ghost use Rattle.ov_arguments.specs.Arguments.{IsOfGiven, file_asked, group_asked, group_list_asked, is_flagged};
-ghost use Rattle.ov_arguments.specs.Arguments.{is_read_later, least_asked, least_of, workers_asked, fault_of_parse, fault_of_text};
-ghost use Rattle.ov_arguments.specs.Arguments.{format_of, number_of};
+ghost use Rattle.ov_arguments.specs.Arguments.{is_read_later, least_asked, least_of, workers_asked};
+ghost use Rattle.ov_arguments.specs.Arguments.{fault_of_parse, fault_of_text, format_of, number_of};
 ghost use Rattle.ov_arguments.specs.declared.arguments.ArgumentsFault.TheVariants.{BadArguments};
 ghost use Rattle.ov_arguments.specs.declared.arguments.ArgumentsFault.TheVariants.{OutOfMemory as out_of_memory};
 

@@ -70,9 +70,9 @@ const ABOUT_ANALYSE: &str = "Reads a graph file, and prints how few crashes spli
 const GRAPH_FILE: &str = "The graph file; standard input without it, or with -";
 
 const GROUP: &str =
-    "For these nodes alone: ids, or names beside --names, with one comma between two";
+    "For these nodes alone: ids, or names beside --names, with one comma between two; or @FILE";
 
-const WITHOUT: &str = "Without these nodes and their links; as --group, a list or @FILE with one";
+const WITHOUT: &str = "Without these nodes and their links, given as for --group";
 
 const AT_LEAST: &str = "Has status 3 if k is below this number, or there is no answer";
 
