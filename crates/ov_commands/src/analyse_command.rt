@@ -35,7 +35,15 @@ pub fn analyse_asked<T: Threads + Sync>(
     let lists = lists_of(rt, analysis)?;
     if analysis.names || analysis.explain || !lists.is_empty() {
         let bytes = bytes_asked(rt, file.as_deref())?;
-        return analyse_in_words(rt, threads, &bytes, &lists, &mut sink, file.as_deref(), analysis);
+        return analyse_in_words(
+            rt,
+            threads,
+            &bytes,
+            &lists,
+            &mut sink,
+            file.as_deref(),
+            analysis,
+        );
     }
     match file.as_deref() {
         None => analyse_from(rt, threads, rt.stdin(), &mut sink, None, analysis),

@@ -46,12 +46,18 @@ pub(crate) fn listed_nodes(
         (option_map (λ text. text.items) lists.now.group)) }
 {
     if lists.is_empty() {
-        return Ok(ListedNodes { group: None, gone: None });
+        return Ok(ListedNodes {
+            group: None,
+            gone: None,
+        });
     }
     let (graph, told) = match read_named_graph(rt.alloc(), bytes) {
         Ok(read) => read,
         Err(GraphFileFault::OutOfMemory) => return Err(without_memory(rt).into()),
-        Err(_) => return Ok(ListedNodes { group: None, gone: None }),
+        Err(_) => return Ok(ListedNodes {
+            group: None,
+            gone: None,
+        }),
     };
     let Ok(kept) = list_names(rt.alloc(), told, named) else {
         return Err(without_memory(rt).into());

@@ -18,7 +18,8 @@ pub status_given : (arguments : List (List ℕ)) (r : Request) (status : ℕ) �
     → IsStatusOf r status → IsStatusGiven arguments status
 status_given arguments (Analyse file analysis) status given is =
     elim (least_given (text_given arguments (codes "at-least")) analysis.at_least status given.5 is) [
-      inl zero ↦ inl zero | inr three ↦ inr (three.0, given.0, three.1)
+      | inl zero ↦ inl zero
+      | inr three ↦ inr (three.0, given.0, three.1)
     ]
 status_given arguments (Run file run) status given is = inl is
 status_given arguments (Import file dump) status given is = inl is
