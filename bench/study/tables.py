@@ -162,9 +162,10 @@ def hazards():
     for name, options, said in HAZARDS:
         found = grouped(name, "refill", *options)
         by_rule = [found[rule, *options.values()] for rule in REFILLS]
-        cells = [(percent(split(some, "heal"), len(some)), median(some, "heal")) for some in by_rule]
+        cells = [(plain(split(some, "heal") / len(some)), median(some, "heal")) for some in by_rule]
         lines.append([said, *(cell for pair in cells for cell in pair)])
-    return table(["what befalls them", *(word for rule in REFILLS for word in (f"`{rule}`: % split", "median k"))], lines)
+    head = [word for rule in REFILLS for word in (f"`{rule}`: % split", "median k")]
+    return table(["what befalls them", *head], lines)
 
 
 def large_by(rule):

@@ -45,9 +45,9 @@ pub change_left :
     → TakeNoCrashed w (drop (i + 1) changes) → TakeNoCrashed w (drop i changes)
 change_left w changes i d within one more =
     subst (TakeNoCrashed w) (sym (drop_more changes i d within)) (λ c has. by c has) where
-  by : (c : Change) → Has (get_or changes i d ∷ drop (i + 1) changes) c → TakesNoCrashed w c
-  by c (inl same) = subst (TakesNoCrashed w) same one
-  by c (inr has) = more c has
+      by : (c : Change) → Has (get_or changes i d ∷ drop (i + 1) changes) c → TakesNoCrashed w c
+      by c (inl same) = subst (TakesNoCrashed w) same one
+      by c (inr has) = more c has
 
 -- none is left
 pub no_change_left : (w : Net) (changes : List Change) (i : ℕ) → length changes ≤ i → TakeNoCrashed w (drop i changes)
@@ -98,8 +98,7 @@ crashed_before s u a b before after keeps none (q, lives, has, gone) =
           absurd (subst (λ es. TakeNoCrashed u.world.net (changes_of es)) later none (Up a b)
           (holds_told (changes_of keeps.more) a b taken) gone)
       | inr kept ↦ kept.0
-    ] in
-    (
+    ] in (
       p,
       living,
       (before.tells.held a b p living).1 (subst (λ es. HoldsAfter (changes_of es) a b) (sym (take-length old)) held),

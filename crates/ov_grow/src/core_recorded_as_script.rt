@@ -1,6 +1,7 @@
-ghost use Rattle.std.specs.Prelude.{◌≡◌, ◌++◌, [], length, IfOk, IfErr, OnOk, OnErr};
+ghost use Rattle.std.specs.Prelude.{◌≡◌, ◌≤◌, ◌++◌, [], length, IfOk, IfErr, OnOk, OnErr};
 ghost use Rattle.ov_ids.specs.FaultOrder.{IsRefusedBy};
 ghost use Rattle.ov_net.specs.Refusals.{IsRefusal};
+ghost use Rattle.ov_net.specs.declared.journal_entry_and_changes.Entry.{Entry};
 ghost use Rattle.ov_scenario.specs.Scenarios.{IsScenario};
 ghost use Rattle.ov_scenario.specs.declared.scenario.Line.TheVariants as line;
 ghost use Rattle.ov_snap.specs.CoreState.{opening_core};
@@ -9,7 +10,7 @@ ghost use Rattle.ov_snap.specs.Run.{Happened};
 ghost use Rattle.ov_snap.specs.declared.core_fault.CoreFault.TheVariants.{OutOfMemory as out_of_memory};
 ghost use Rattle.ov_run_meaning.specs.Subjects.{AnalysisJudged, WasAnalysed};
 ghost use Rattle.ov_grow.specs.Acts.{act_line, event_of};
-ghost use Rattle.ov_grow.specs.Scripts.{opening, scenario_of};
+ghost use Rattle.ov_grow.specs.Scripts.{line_room, opening, scenario_of};
 ghost use Rattle.ov_grow.specs.WrittenLines.{analysis_line, comment_line, ended};
 ghost use Rattle.ov_grow.specs.Recordings.{HasOneLineMore, all_of};
 ghost use Rattle.ov_grow.specs.Replay.{Replays};
@@ -17,7 +18,7 @@ ghost use Rattle.ov_grow.specs.Replay.{Replays};
 use crate::report_making::report_of;
 use crate::{Act, Script};
 use ov_ids::{OutOfMemory, Params};
-use ov_net::{Entry, NetFault};
+use ov_net::{Event, NetFault};
 use ov_snap::{Core, CoreFault};
 use std::alloc::Global;
 use std::marker::Model;
@@ -103,12 +104,13 @@ impl Recording {
         self.script.comment(said)
     }
 
-    /// Takes the event of an act, with the next random words of the script, and writes the line of the act. Returns the
-    /// event's entry, or why it is refused: the first applicable refusal of the world (10 to 20, see `NetFault`), or
-    /// out of memory (99) if none applies. What is refused changes nothing, and no line is written.
-    pub fn act(&mut self, act: Act) -> Result<Entry, NetFault>
-        ensures happened { IfOk result
-            (λ e. Happened self.old.core (event_of act) self.old.script.next e self.new.core) }
+    /// Takes the event of an act, with the next random words of the script, and writes the line of the act. The event's
+    /// entry is the last of the journal then. It is refused for the first applicable refusal of the world (10 to 20, see
+    /// `NetFault`), or it is out of memory (99) if none applies. What is refused changes nothing, and no line is
+    /// written.
+    pub fn act(&mut self, act: Act) -> Result<(), NetFault>
+        ensures happened { OnOk result
+            ((e : Entry) × Happened self.old.core (event_of act) self.old.script.next e self.new.core) }
         ensures written { OnOk result (HasOneLineMore self.old.script (act_line act)
             (line.Event (event_of act) self.old.script.next) self.new.script) }
         ensures refused { IfErr result
@@ -116,11 +118,10 @@ impl Recording {
         ensures err { OnErr result (self.new ≡ self.old) }
     {
         let event = act.event(self.alloc);
-        self.core.world().judge(&event)?;
-        self.script.reserve()?;
-        let entry = self.core.step(event, self.script.next_words())?;
+        make_room(&mut self.script, &self.core, &event)?;
+        self.core.take_event(event, self.script.next_words())?;
         self.script.push(act);
-        Ok(entry)
+        Ok(())
     }
 
     /// Analyses all nodes of a moment by one worker, files the report, and writes the line of the analysis. It is
@@ -169,5 +170,28 @@ impl Recording {
             text: script.into_text(),
             core,
         }
+    }
+}
+
+/// Makes room in a script for one line more. Where memory is lacking, the answer is the first applicable refusal of an
+/// event, or out of memory (99) if none applies. Nothing but the room changes.
+fn make_room(script: &mut Script, core: &Core, event: &Event) -> Result<(), NetFault>
+    ensures room { OnOk result (line_room ≤ script.new.room) }
+    ensures same { script.new ≡ record script.old { room = script.new.room } }
+    ensures refused { IfErr result (IsRefusal core.now.world.net (length core.now.world.journal) event.now) }
+{
+    match script.reserve() {
+        Ok(()) => Ok(()),
+        Err(OutOfMemory) => Err(refusal_of(core, event)),
+    }
+}
+
+/// The first applicable refusal of an event, or out of memory if none applies.
+fn refusal_of(core: &Core, event: &Event) -> NetFault
+    ensures { IsRefusal core.now.world.net (length core.now.world.journal) event.now result }
+{
+    match core.world().judge(event) {
+        Ok(()) => NetFault::OutOfMemory,
+        Err(fault) => fault,
     }
 }

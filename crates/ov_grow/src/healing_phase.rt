@@ -46,9 +46,10 @@ impl Growing {
         let nodes = self.live()?;
         let mut from = 0;
         while let Some((place, node, crashed)) = self.first_with_crashed(&nodes, from) {
-            let before = self.entries();
+            let before = self.world().journal().len();
             self.act(Act::CrashReport(node, crashed))?;
             self.run_out(rules)?;
+            let _journal = self.world().journal();
             from = self.search_from(place, before);
         }
         Ok(())
@@ -76,7 +77,7 @@ impl Growing {
 
     /// From which place on the search goes on, when the journal has entries behind so many: from the same one, or from
     /// the first one if an entry tells that a node took in a crashed one.
-    fn search_from(&self, place: usize, before: u32) -> usize
+    fn search_from(&self, place: usize, before: usize) -> usize
         requires { before ≤ length self.now.recording.core.world.journal }
         ensures kept { result ≢ 0 → result ≡ place }
         ensures quiet { result ≢ 0 → TakeNoCrashed self.now.recording.core.world.net
@@ -89,12 +90,12 @@ impl Growing {
     }
 
     /// Whether an entry behind so many tells that a node took a crashed one into its active view.
-    fn took_crashed(&self, before: u32) -> bool
+    fn took_crashed(&self, before: usize) -> bool
         requires { before ≤ length self.now.recording.core.world.journal }
         ensures { result ≡ false → TakeNoCrashed self.now.recording.core.world.net
             (changes_of (drop before self.now.recording.core.world.journal)) }
     {
-        for entry in &self.world().journal()[before as usize..] {
+        for entry in &self.world().journal()[before..] {
             if self.take_crashed(entry.changes.as_slice()) {
                 return true;
             }

@@ -10,6 +10,7 @@ mod line_judging;
 mod line_of_section;
 mod lines_ahead;
 mod lines_to_run;
+mod numbered_events;
 mod open_block;
 mod scenario;
 mod scenario_fault;

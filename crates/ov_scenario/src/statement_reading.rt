@@ -1,17 +1,20 @@
-ghost use Rattle.std.specs.Prelude.{◌≡◌, ◌==◌, ◌++◌, length, map, option_map, is_ok, IfErr, IfOk, IfSome, None, Some};
+ghost use Rattle.std.specs.Prelude.{◌≡◌, ◌++◌, drop, map, option_map, IfErr, IfOk, IfSome, None, Some};
 ghost use Rattle.std.specs.Result.{result_ok};
-ghost use Rattle.ov_lines.specs.Lines.{words_of, row, two, three};
-ghost use Rattle.ov_scenario.specs.RunLines.{HasIds, HasPayload, ReadingNeedsMemory};
+ghost use Rattle.ov_lines.specs.Lines.{words_of, row, one, two, three, long_bits, short_bits};
+ghost use Rattle.ov_scenario.specs.EventWords.{event_words};
+ghost use Rattle.ov_scenario.specs.RunLines.{HasIds, ReadingNeedsMemory};
 ghost use Rattle.ov_scenario.specs.Scenarios.{stated_at};
 ghost use Rattle.ov_scenario.specs.Statements.{seven_numbers, one_rule, crash_report_of, timer_of, boot_of};
 ghost use Rattle.ov_scenario.specs.Statements.{broadcast_of, group_at, subject_at, subject_of, analysis_of};
 ghost use Rattle.ov_scenario.specs.Statements.{event_rows, look_rows, section_rows, line_rows, line_names};
-ghost use Rattle.ov_scenario.specs.Statements.{statement_of};
-ghost use Rattle.ov_scenario.specs.Code.Reading.{Reads};
+ghost use Rattle.ov_scenario.specs.Statements.{alone, statement_of};
+ghost use Rattle.ov_scenario.specs.Code.Reading.{Reads, numbered};
+ghost use Rattle.ov_scenario.specs.declared.scenario.Look.TheVariants as look;
 ghost use Rattle.ov_scenario.specs.declared.statement.Statement.TheVariants as says;
 ghost use Rattle.ov_scenario.specs.declared.statement_reading.Unstated.TheVariants as unstated;
 
 use crate::event_words_reading::GivenWords;
+use crate::numbered_events::Numbered;
 use crate::scenario::{Look, Subject};
 use crate::statement::{Stated, Statement};
 use ov_ids::{MsgId, NodeId, OutOfMemory, Refill, Seq};
@@ -85,27 +88,22 @@ pub const PARAMETERS: [&str; 7] = [
     TIME_TO_LIVE,
 ];
 
-const ACTIVE: &[Kind] = &[Kind::Short(ACTIVE_VIEW)];
-
-const PASSIVE: &[Kind] = &[Kind::Short(PASSIVE_VIEW)];
-
-const ACTIVE_WALK: &[Kind] = &[Kind::Short(ACTIVE_WALK_LENGTH)];
-
-const PASSIVE_WALK: &[Kind] = &[Kind::Short(PASSIVE_WALK_LENGTH)];
-
-const ACTIVE_SAMPLE: &[Kind] = &[Kind::Short(ACTIVE_SAMPLED)];
-
-const PASSIVE_SAMPLE: &[Kind] = &[Kind::Short(PASSIVE_SAMPLED)];
-
-const SHUFFLE_TTL: &[Kind] = &[Kind::Short(TIME_TO_LIVE)];
+/// What may stand at each of the seven numbers of a line of parameters, in their order.
+const NUMBERS: [&[Kind]; 7] = [
+    &[Kind::Short(ACTIVE_VIEW)],
+    &[Kind::Short(PASSIVE_VIEW)],
+    &[Kind::Short(ACTIVE_WALK_LENGTH)],
+    &[Kind::Short(PASSIVE_WALK_LENGTH)],
+    &[Kind::Short(ACTIVE_SAMPLED)],
+    &[Kind::Short(PASSIVE_SAMPLED)],
+    &[Kind::Short(TIME_TO_LIVE)],
+];
 
 const RULES: &[Kind] = &[
     Kind::Name("never"),
     Kind::Name("alone"),
     Kind::Name("always"),
 ];
-
-const PLACE: &[Kind] = &[Kind::Short("the place of a packet")];
 
 const ORIGIN: &[Kind] = &[Kind::Short("the id of the node that made the message")];
 
@@ -191,21 +189,22 @@ fn read_named<'a>(
         return Err(Unstated::Unread(unknown));
     }
     if is_word(name, PARAMS.as_bytes()) {
-        return Ok(Statement::Params(read_params(cursor)?));
+        return read_params(cursor);
     }
     if is_word(name, SEED.as_bytes()) {
-        return Ok(Statement::Seed(cursor.last_number(&[Kind::Long("the seed")])?));
+        return read_seed(cursor);
     }
     if is_word(name, REFILL.as_bytes()) {
-        return Ok(Statement::Refill(read_rule(cursor)?));
+        return read_refill(cursor);
     }
     if is_word(name, b"words") {
-        return Ok(Statement::Words(GivenWords::read(cursor)?));
+        return read_words(cursor);
     }
     read_event(alloc, name, unknown, cursor)
 }
 
-/// Reads what follows the name of any line that sets nothing for those after it.
+/// Reads what follows the name of any line that sets nothing for those after it. The first five names of events are
+/// looked for.
 fn read_event<'a>(
     alloc: Global,
     name: &[u8],
@@ -217,37 +216,48 @@ fn read_event<'a>(
         ++ section_rows (words_of cursor.old)) None) }
 {
     if is_word(name, b"boot") {
-        return Ok(Statement::Event(read_boot(cursor)?));
+        return read_boot(cursor);
     }
     if is_word(name, b"deliver") {
-        return Ok(Statement::Event(Event::Deliver(cursor.last_short_number(PLACE)?)));
+        return read_numbered(Numbered::Deliver, cursor);
     }
     if is_word(name, b"lose") {
-        return Ok(Statement::Event(Event::Lose(cursor.last_short_number(PLACE)?)));
+        return read_numbered(Numbered::Lose, cursor);
     }
     if is_word(name, b"repeat") {
-        return Ok(Statement::Event(Event::Repeat(cursor.last_short_number(PLACE)?)));
+        return read_numbered(Numbered::Repeat, cursor);
     }
     if is_word(name, b"crash") {
-        let node = NodeId::new(cursor.last_short_number(&[ID])?);
-        return Ok(Statement::Event(Event::Crash(node)));
+        return read_numbered(Numbered::Crash, cursor);
     }
+    read_later_event(alloc, name, unknown, cursor)
+}
+
+/// The same, and the other five names of events are looked for.
+fn read_later_event<'a>(
+    alloc: Global,
+    name: &[u8],
+    unknown: Unread,
+    cursor: &mut LineCursor<'a>,
+) -> Result<Statement<'a>, Unstated>
+    ensures { Reads ReadingNeedsMemory result
+        (row name.now (drop 5 (event_rows cursor.old (words_of cursor.old)) ++ look_rows (words_of cursor.old)
+        ++ section_rows (words_of cursor.old)) None) }
+{
     if is_word(name, b"report") {
-        return Ok(Statement::Event(read_report(cursor)?));
+        return read_report(cursor);
     }
     if is_word(name, b"shuffle") {
-        let node = NodeId::new(cursor.last_short_number(&[ID])?);
-        return Ok(Statement::Event(Event::Shuffle(node)));
+        return read_numbered(Numbered::Shuffle, cursor);
     }
     if is_word(name, b"broadcast") {
-        return Ok(Statement::Event(read_broadcast(alloc, cursor)?));
+        return read_broadcast(alloc, cursor);
     }
     if is_word(name, b"timer") {
-        return Ok(Statement::Event(read_timer(cursor)?));
+        return read_timer(cursor);
     }
     if is_word(name, b"snapshot") {
-        read_end(cursor)?;
-        return Ok(Statement::Event(Event::Snapshot));
+        return read_alone(Statement::Event(Event::Snapshot), cursor);
     }
     read_look(alloc, name, unknown, cursor)
 }
@@ -266,16 +276,13 @@ fn read_look<'a>(
         return read_analysis(alloc, cursor);
     }
     if is_word(name, b"certificate") {
-        let subject = read_subject(alloc, cursor)?;
-        return Ok(Statement::Look(Look::Certificate(subject)));
+        return read_certificate(alloc, cursor);
     }
     if is_word(name, b"show") {
-        let node = NodeId::new(cursor.last_short_number(&[ID])?);
-        return Ok(Statement::Look(Look::Show(node)));
+        return read_show(cursor);
     }
     if is_word(name, b"packets") {
-        read_end(cursor)?;
-        return Ok(Statement::Look(Look::Packets));
+        return read_alone(Statement::Look(Look::Packets), cursor);
     }
     read_section(name, unknown, cursor)
 }
@@ -289,37 +296,47 @@ fn read_section<'a>(
     ensures { Reads ReadingNeedsMemory result (row name.now (section_rows (words_of cursor.now)) None) }
 {
     if is_word(name, b"together") {
-        read_end(cursor)?;
-        return Ok(Statement::Together);
+        return read_alone(Statement::Together, cursor);
     }
     if is_word(name, b"also") {
-        read_end(cursor)?;
-        return Ok(Statement::Also);
+        return read_alone(Statement::Also, cursor);
     }
     if is_word(name, b"end") {
-        read_end(cursor)?;
-        return Ok(Statement::End);
+        return read_alone(Statement::End, cursor);
     }
     Err(unknown.into())
 }
 
-/// Reads the end of a line.
-fn read_end(cursor: &LineCursor) -> Result<(), Unread>
-    ensures { is_ok result ≡ (length (words_of cursor.now) == 0) }
+/// Reads the end of a line that says this if it has no further word.
+fn read_alone<'a>(said: Statement<'a>, cursor: &LineCursor<'_>) -> Result<Statement<'a>, Unstated>
+    ensures { Reads ReadingNeedsMemory result (alone said.entry (words_of cursor.now)) }
 {
     if cursor.is_at_end() {
-        return Ok(());
+        return Ok(said);
     }
-    Err(cursor.unread(END))
+    Err(Unstated::Unread(cursor.unread(END)))
+}
+
+/// Reads what follows the name of an event that one number names.
+fn read_numbered<'a>(
+    event: Numbered,
+    cursor: &mut LineCursor<'a>,
+) -> Result<Statement<'a>, Unstated>
+    ensures { Reads ReadingNeedsMemory result
+        (option_map (λ n. says.Event (numbered event n)) (one short_bits (words_of cursor.old))) }
+{
+    let number = cursor.last_short_number(event.wanted())?;
+    Ok(Statement::Event(event.with(number)))
 }
 
 /// Reads what follows the name `broadcast`: the node, and the payload, which is all bytes after one space.
-fn read_broadcast(alloc: Global, cursor: &mut LineCursor) -> Result<Event, Unstated>
-    ensures { Reads HasPayload result (broadcast_of cursor.old (words_of cursor.old)) }
+fn read_broadcast<'a>(alloc: Global, cursor: &mut LineCursor<'a>) -> Result<Statement<'a>, Unstated>
+    ensures { Reads ReadingNeedsMemory result
+        (option_map says.Event (broadcast_of cursor.old (words_of cursor.old))) }
 {
     let node = NodeId::new(cursor.short_number(&[ID])?);
     let payload = Seq::new(Vec::from_slice(alloc, cursor.after_space())?);
-    Ok(Event::Broadcast(node, payload))
+    Ok(Statement::Event(Event::Broadcast(node, payload)))
 }
 
 /// Reads what follows the name `analyse`: the moment, the number of workers if one is named, and the group if one is
@@ -356,6 +373,18 @@ fn analysis_of<'a>(subject: Subject) -> Statement<'a>
     Statement::Analyse { subject, workers }
 }
 
+/// Reads what follows the name `certificate`: the moment, and the group if one is named.
+fn read_certificate<'a>(
+    alloc: Global,
+    cursor: &mut LineCursor<'a>,
+) -> Result<Statement<'a>, Unstated>
+    ensures { Reads ReadingNeedsMemory result
+        (option_map (λ s. says.Look (look.Certificate s)) (subject_of (words_of cursor.old))) }
+{
+    let subject = read_subject(alloc, cursor)?;
+    Ok(Statement::Look(Look::Certificate(subject)))
+}
+
 /// Reads the moment of an analysis, and its group if one is named: `M`, or `M group IDS`.
 fn read_subject(alloc: Global, cursor: &mut LineCursor) -> Result<Subject, Unstated>
     ensures { Reads HasIds result (subject_of (words_of cursor.old)) }
@@ -384,63 +413,98 @@ fn read_group(alloc: Global, moment: u32, cursor: &mut LineCursor) -> Result<Sub
     Ok(Subject { moment, group })
 }
 
-fn read_report(cursor: &mut LineCursor) -> Result<Event, Unread>
-    ensures { result_ok result ≡ option_map crash_report_of (two (words_of cursor.old)) }
+/// Reads what follows the name `show`: the node.
+fn read_show<'a>(cursor: &mut LineCursor<'a>) -> Result<Statement<'a>, Unstated>
+    ensures { Reads ReadingNeedsMemory result
+        (option_map (λ n. says.Look (look.Show n)) (one short_bits (words_of cursor.old))) }
 {
-    let node = cursor.short_number(&[ID])?;
-    let crashed = cursor.last_short_number(&[ID])?;
-    Ok(Event::CrashReport(NodeId::new(node), NodeId::new(crashed)))
+    let node = NodeId::new(cursor.last_short_number(&[ID])?);
+    Ok(Statement::Look(Look::Show(node)))
 }
 
-fn read_timer(cursor: &mut LineCursor) -> Result<Event, Unread>
-    ensures { result_ok result ≡ option_map timer_of (three (words_of cursor.old)) }
+/// Reads what follows the name `report`: the node that hears, and the one that crashed.
+fn read_report<'a>(cursor: &mut LineCursor<'a>) -> Result<Statement<'a>, Unstated>
+    ensures { Reads ReadingNeedsMemory result
+        (option_map (λ p. says.Event (crash_report_of p)) (two (words_of cursor.old))) }
 {
-    let node = cursor.short_number(&[ID])?;
-    let origin = cursor.short_number(ORIGIN)?;
-    let id = MsgId {
-        origin: NodeId::new(origin),
-        seq: cursor.last_short_number(SEQUENCE)?,
-    };
-    Ok(Event::Timer(NodeId::new(node), id))
+    let node = NodeId::new(cursor.short_number(&[ID])?);
+    let crashed = NodeId::new(cursor.last_short_number(&[ID])?);
+    Ok(Statement::Event(Event::CrashReport(node, crashed)))
 }
 
-fn read_boot(cursor: &mut LineCursor) -> Result<Event, Unread>
-    ensures { result_ok result ≡ boot_of (words_of cursor.old) }
+/// Reads what follows the name `timer`: the node, and the message.
+fn read_timer<'a>(cursor: &mut LineCursor<'a>) -> Result<Statement<'a>, Unstated>
+    ensures { Reads ReadingNeedsMemory result
+        (option_map (λ p. says.Event (timer_of p)) (three (words_of cursor.old))) }
+{
+    let node = NodeId::new(cursor.short_number(&[ID])?);
+    let origin = NodeId::new(cursor.short_number(ORIGIN)?);
+    let seq = cursor.last_short_number(SEQUENCE)?;
+    let id = MsgId { origin, seq };
+    Ok(Statement::Event(Event::Timer(node, id)))
+}
+
+/// Reads what follows the name `boot`: the node, and its contact if it has one.
+fn read_boot<'a>(cursor: &mut LineCursor<'a>) -> Result<Statement<'a>, Unstated>
+    ensures { Reads ReadingNeedsMemory result (option_map says.Event (boot_of (words_of cursor.old))) }
 {
     let node = NodeId::new(cursor.short_number(&[ID])?);
     if cursor.is_at_end() {
-        return Ok(Event::Boot(node, None));
+        return Ok(Statement::Event(Event::Boot(node, None)));
     }
     cursor.name("by", &[Kind::Name("by"), Kind::End])?;
     let contact = NodeId::new(cursor.last_short_number(&[ID])?);
-    Ok(Event::Boot(node, Some(contact)))
+    Ok(Statement::Event(Event::Boot(node, Some(contact))))
+}
+
+/// Reads what follows the name `words`: the random words.
+fn read_words<'a>(cursor: &mut LineCursor<'a>) -> Result<Statement<'a>, Unstated>
+    ensures { Reads ReadingNeedsMemory result (option_map says.Words (event_words (words_of cursor.old))) }
+{
+    Ok(Statement::Words(GivenWords::read(cursor)?))
+}
+
+/// Reads what follows the name `seed`: the seed.
+fn read_seed<'a>(cursor: &mut LineCursor<'a>) -> Result<Statement<'a>, Unstated>
+    ensures { Reads ReadingNeedsMemory result (option_map says.Seed (one long_bits (words_of cursor.old))) }
+{
+    Ok(Statement::Seed(cursor.last_number(&[Kind::Long("the seed")])?))
 }
 
 /// Reads what follows the name `refill`: the word for a rule at DISCONNECT.
-fn read_rule(cursor: &mut LineCursor) -> Result<Refill, Unread>
-    ensures { result_ok result ≡ one_rule (words_of cursor.old) }
+fn read_refill<'a>(cursor: &mut LineCursor<'a>) -> Result<Statement<'a>, Unstated>
+    ensures { Reads ReadingNeedsMemory result (option_map says.Refill (one_rule (words_of cursor.old))) }
 {
     let unread = cursor.unread(RULES);
     let Some(word) = cursor.word() else {
-        return Err(unread);
+        return Err(unread.into());
     };
-    let Some(rule) = Refill::from_name(word) else {
-        return Err(unread);
-    };
-    read_end(cursor)?;
-    Ok(rule)
+    match Refill::from_name(word) {
+        Some(rule) => read_alone(Statement::Refill(rule), cursor),
+        None => Err(unread.into()),
+    }
 }
 
-#[tactic(auto, using(crate::proofs::Lines::InTurn::seven_in_turn))]
-fn read_params(cursor: &mut LineCursor) -> Result<[u32; 7], Unread>
+/// Reads what follows the name `params`: the numbers of the parameters.
+fn read_params<'a>(cursor: &mut LineCursor<'a>) -> Result<Statement<'a>, Unstated>
+    ensures { Reads ReadingNeedsMemory result (option_map says.Params (seven_numbers (words_of cursor.old))) }
+{
+    Ok(Statement::Params(read_numbers(cursor)?))
+}
+
+/// Reads seven numbers, up to the end of a line.
+#[tactic(auto, using(crate::proofs::Lines::Filling::more))]
+fn read_numbers(cursor: &mut LineCursor) -> Result<[u32; 7], Unread>
     ensures { result_ok result ≡ seven_numbers (words_of cursor.old) }
 {
-    let active = cursor.short_number(ACTIVE)?;
-    let passive = cursor.short_number(PASSIVE)?;
-    let arwl = cursor.short_number(ACTIVE_WALK)?;
-    let prwl = cursor.short_number(PASSIVE_WALK)?;
-    let ka = cursor.short_number(ACTIVE_SAMPLE)?;
-    let kp = cursor.short_number(PASSIVE_SAMPLE)?;
-    let shuffle_ttl = cursor.last_short_number(SHUFFLE_TTL)?;
-    Ok([active, passive, arwl, prwl, ka, kp, shuffle_ttl])
+    let mut numbers = [0; 7];
+    let mut count = 0;
+    while count < 7 {
+        numbers[count] = cursor.short_number(NUMBERS[count])?;
+        count += 1;
+    }
+    if cursor.is_at_end() {
+        return Ok(numbers);
+    }
+    Err(cursor.unread(END))
 }

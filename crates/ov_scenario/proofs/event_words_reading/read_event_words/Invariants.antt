@@ -7,7 +7,7 @@ use Rattle.ov_scenario.proofs.event_words_reading.read_event_words.Given as goal
 abbrev pub invariant-loop-words : goal.invariant-loop-words
 invariant-loop-words l =
     record {
-      fills : Fills (words_of l.fn.cursor) (words_of l.cursor) l.count l.words;
+      fills : Fills 64 64 (words_of l.fn.cursor) (words_of l.cursor) l.count l.words;
       some : 0 < l.count;
     }
 

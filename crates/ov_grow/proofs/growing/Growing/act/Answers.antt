@@ -15,7 +15,7 @@ returns-in_err-act-clause-refused c =
     c.from_residual.ensures.1 (act_refused c.args.self.now c.args.act f (of_event f) refl c.in_err-act.ensures.refused)
 
 pub returns-clause-goes : goal.returns-clause-goes
-returns-clause-goes c = act_goes _ _ _ _ _ refl c.in_ok-act.ensures.happened c.in_ok-act.ensures.written
+returns-clause-goes c = act_goes _ _ _ _ _ refl c.in_ok-act.ensures.happened.1 c.in_ok-act.ensures.written
     c.text-text.ensures.value c.text-text.ensures.says
 
 pub returns-in_err-act-clause-judged : goal.returns-in_err-act-clause-judged

@@ -1,9 +1,9 @@
-use Rattle.std.proofs.Common.{ℕ, take}
-use Rattle.ov_grow.specs.Code.Standing.{HaveNone}
+use Rattle.std.proofs.Common.{◌-◌, length, take}
+use Rattle.ov_grow.specs.Code.Standing.{HasCrashed, HaveNone, growth_of}
 use Rattle.ov_grow.proofs.growing.Growing.first_with_crashed.Given as goal
-use Rattle.ov_grow.specs.Phases.{IsCrashedNeighbour}
-use Rattle.ov_grow.specs.Code.Standing.{growth_of}
 
-abbrev pub invariant-loop-node : goal.invariant-loop-node
-invariant-loop-node l =
-    HaveNone (λ a. (b : ℕ) × IsCrashedNeighbour (growth_of l.self) a b) (take l.node-index l.node-items)
+abbrev pub invariant-loop-place : goal.invariant-loop-place
+invariant-loop-place l = HaveNone (HasCrashed (growth_of l.self)) (take l.place l.nodes)
+
+abbrev pub decreases-loop-place : goal.decreases-loop-place
+decreases-loop-place l = length l.nodes - l.place

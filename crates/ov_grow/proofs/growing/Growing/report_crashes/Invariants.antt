@@ -1,11 +1,18 @@
-use Rattle.std.proofs.Common.{◌-◌, length}
+use Rattle.std.proofs.Common.{◌-◌, length, take}
 use Rattle.ov_net.specs.Limits.{most_entries}
+use Rattle.ov_grow.specs.Growth.{AreLive}
 use Rattle.ov_grow.specs.Phases.{ReportCrashes}
+use Rattle.ov_grow.specs.Code.Standing.{HasCrashed, HaveNone, growth_of}
 use Rattle.ov_grow.proofs.Going.{IsOn}
 use Rattle.ov_grow.proofs.growing.Growing.report_crashes.Given as goal
 
-abbrev pub invariant-loop-node : goal.invariant-loop-node
-invariant-loop-node l = IsOn (ReportCrashes l.rules) (ReportCrashes l.rules) l.initial.self l.self
+-- the nodes are those that live, and none before the place has a crashed neighbour
+abbrev pub invariant-loop-place : goal.invariant-loop-place
+invariant-loop-place l = record {
+  way : IsOn (ReportCrashes l.rules) (ReportCrashes l.rules) l.fn.self l.self;
+  live : AreLive (growth_of l.self) l.nodes.items;
+  none : HaveNone (HasCrashed (growth_of l.self)) (take l.from l.nodes.items);
+}
 
-abbrev pub decreases-loop-node : goal.decreases-loop-node
-decreases-loop-node l = most_entries - length l.self.recording.core.world.journal
+abbrev pub decreases-loop-place : goal.decreases-loop-place
+decreases-loop-place l = most_entries - length l.self.recording.core.world.journal

@@ -20,12 +20,12 @@ returns-in_err-act-clause-refused c =
     (act_refused c.args.self.now act.Snapshot f (of_event f) refl c.in_err-act.ensures.refused)
 
 pub returns-clause-goes : goal.returns-clause-goes
-returns-clause-goes c = act_goes _ _ _ _ _ refl c.in_ok-act.ensures.happened c.in_ok-act.ensures.written
+returns-clause-goes c = act_goes _ _ _ _ _ refl c.in_ok-act.ensures.happened.1 c.in_ok-act.ensures.written
     c.text-text.ensures.value c.text-text.ensures.says
 
 pub returns-clause-fresh : goal.returns-clause-fresh
 returns-clause-fresh c = snapshot_fresh _ _ _ _ (subst (λ b. IsSound b) c.core.ensures c.world-world.ensures.sound)
-    c.in_ok-act.ensures.happened
+    c.in_ok-act.ensures.happened.1
 
 pub returns-in_err-act-clause-full : goal.returns-in_err-act-clause-full
 returns-in_err-act-clause-full c =
