@@ -34,7 +34,8 @@ pub fn analyse_told<T: Threads + Sync, W: Write, P: Watcher>(
     requires writes { sink.old.faults < most_faults }
     ensures told { IsToldOf bytes.now W.contents sink.old request.now.gone.now
         (option_map (λ ids. ids.now) request.now.group) request.now.certificate request.now.names sink.new result }
-    ensures plain { request.now.names ≡ false → request.now.gone.now ≡ [] → IsAnalysisOf (Some bytes.now) W.contents sink.old
+    ensures plain { request.now.names ≡ false → request.now.gone.now ≡ []
+        → IsAnalysisOf (Some bytes.now) W.contents sink.old
         (option_map (λ ids. ids.now) request.now.group) request.now.certificate sink.new (answered_of result) }
 {
     tell(rt, alloc, bytes, sink, request, watcher)

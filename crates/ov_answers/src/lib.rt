@@ -1,5 +1,5 @@
-//! Analyses of graph files by themselves: the answer, also with the names of nodes and in sentences, and without some of
-//! the nodes; and the connected components that a crash of nodes leaves.
+//! Analyses of graph files by themselves: the answer, also with the names of nodes and in sentences, and without some
+//! of the nodes; and the connected components that a crash of nodes leaves.
 #![tactic(auto)]
 
 mod answer_making;

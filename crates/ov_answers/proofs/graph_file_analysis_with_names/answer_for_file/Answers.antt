@@ -12,6 +12,6 @@ returns-clause-answer g c =
     let request = c.args.request.now in
     let read = c.in-Ok.read in
     let keeps = subst (AreNamesOf c.args.bytes.now read.0) (sym c.new-names.ensures) c.in-Ok.ensures.names in
-    told c.args.bytes.now text request.gone.now (option_map (λ ids. ids.now) request.group) request.certificate request.names
-    answer.told.answered read.0 c.in_ok-left.left c.members_of-members.result.now c.new-names.result
+    told c.args.bytes.now text request.gone.now (option_map (λ ids. ids.now) request.group) request.certificate
+    request.names answer.told.answered read.0 c.in_ok-left.left c.members_of-members.result.now c.new-names.result
     c.in-Ok.ensures.graph keeps c.in_ok-left.ensures c.members_of-members.ensures c.in_ok-answer_for.ensures
