@@ -5,6 +5,9 @@ linker are scripts: the first hands the whole program on as it is, and the secon
 optimises the rest. Each program that is kept lies in a folder whose name is the checksum of the sources that it is made
 of. It is built in a folder of its own, of a copy of these sources, and then moved there at once. So a program that is
 there is whole, whatever was interrupted, and is made of what its checksum says, whatever was changed meanwhile.
+
+`unproved.py CRATE` prints the path of the one that is made of the sources as they are, or nothing where there is none.
+The Python package asks this.
 """
 
 import contextlib
@@ -299,3 +302,7 @@ def ended_by_signals():
     finally:
         for number, handler in before.items():
             signal.signal(number, handler)
+
+
+if __name__ == "__main__":
+    sys.stdout.buffer.write(os.fsencode(kept(sys.argv[1]) or ""))

@@ -22,10 +22,10 @@ import seeds
 from targets import CASES, CRATES
 
 # Bytes that a target's file may have, and what one row may have.
-LARGEST = {"certificate": 500_000, "scenario": 800_000, "graph": 400_000, "arguments": 60_000}
+LARGEST = {"certificate": 500_000, "scenario": 840_000, "graph": 400_000, "arguments": 60_000}
 LONGEST_ROW = 12_000
 # Bytes of a target's file that the random ones may have.
-OF_RANDOM = {"certificate": 0, "scenario": 450_000, "graph": 0, "arguments": 0}
+OF_RANDOM = {"certificate": 0, "scenario": 490_000, "graph": 0, "arguments": 0}
 
 
 def gathered(target, room):

@@ -7,6 +7,7 @@ unnoticed in the programs, as far as the corpus goes. The status is 0 whatever i
 found.
 """
 
+import contextlib
 import json
 import pathlib
 import shutil
@@ -112,22 +113,30 @@ def answers(folder):
     return json.loads(run.stdout)
 
 
+@contextlib.contextmanager
+def copied():
+    """The folder of a copy of the second opinion, with all that it reads."""
+    with tempfile.TemporaryDirectory() as room:
+        top, to = HERE.parent.parent, pathlib.Path(room)
+        for part in ("bench/fuzz", "bench/study", "tools"):
+            shutil.copytree(top / part, to / part, ignore=shutil.ignore_patterns("out"))
+        yield to / "bench" / "fuzz"
+
+
 def noticed(file, text, wrong):
     """How many kept inputs notice a wrong rule, or None if its text is not there once."""
-    with tempfile.TemporaryDirectory() as room:
-        fuzz = pathlib.Path(room) / "bench" / "fuzz"
-        shutil.copytree(HERE, fuzz, ignore=shutil.ignore_patterns("out"))
-        shutil.copytree(HERE.parent.parent / "tools", pathlib.Path(room) / "tools")
-        path = fuzz / file
+    with copied() as folder:
+        path = folder / file
         source = path.read_text()
         if source.count(text) != 1:
             return None
         path.write_text(source.replace(text, wrong))
-        return sum(not is_same for is_same in answers(fuzz).values())
+        return sum(not is_same for is_same in answers(folder).values())
 
 
 def main():
-    right = answers(HERE)
+    with copied() as folder:
+        right = answers(folder)
     if not all(right.values()):
         print(f"{sum(not it for it in right.values())} kept inputs have another answer without a wrong rule")
         return 1

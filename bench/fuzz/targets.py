@@ -134,12 +134,12 @@ def explained(answer):
 
 
 def scenario_cases(data):
-    """A scenario, run with and without explanations, and strictly if it has no sections."""
+    """A scenario, run without explanations, strictly if it has no sections, and with explanations, as it is kept."""
     answer = answer_run(data)
     yield Case("overlay", ["run"], data, answer, None if answer.fault else nothing)
-    yield Case("overlay", ["run", "--explain"], data, answer, explained(answer))
     if b"together" not in data:
         yield Case("overlay", ["run", "--strict"], data, strict_of(answer))
+    yield Case("overlay", ["run", "--explain"], data, answer, explained(answer))
 
 
 def words_of_graph(data):

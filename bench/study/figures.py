@@ -179,6 +179,34 @@ def numbers_of_200():
     return drawn(panel)
 
 
+def by_rules():
+    """How often overlays of 200 nodes are split, and their k, by the rules at DISCONNECT."""
+    sizes = ("3", "4", "5", "6", "8")
+    across = Axis("active size", 2.5, 8.5, whole_numbers(3, 4, 5, 6, 7, 8))
+    of_split = Axis("% split", 0, 100, whole_numbers(0, 25, 50, 75, 100))
+    shares = Panel(90, 420, "overlays of 200 nodes that are split", across, of_split)
+    of_k = Axis("k", 0, 8, whole_numbers(*range(9)))
+    connectivity = Panel(680, 420, "their k: median, and 9 of 10 overlays", across, of_k)
+    shares.axes()
+    connectivity.axes()
+    found = grouped("rules", "refill", "active", "nodes")
+    for tone, shift, rule in ((1, -0.12, "never"), (3, 0, "alone"), (4, 0.12, "always")):
+        points = []
+        for size in sizes:
+            some, x = found[rule, size, "200"], int(size) + shift
+            low, high = wilson(split(some, "settle"), len(some))
+            points.append((x, 100 * split(some, "settle") / len(some)))
+            shares.bar(tone, x, 100 * low, 100 * high)
+            shares.dot(tone, *points[-1])
+            ascending = numbers(some, "settle_k")
+            connectivity.bar(tone, x, quantile(ascending, 0.05), quantile(ascending, 0.95))
+            connectivity.dot(tone, x, quantile(ascending, 0.5), 5)
+        shares.line(tone, points)
+        shares.say(tone, 6.6, 92 + 50 * shift, rule)
+        connectivity.say(tone, 2.8, 7.4 + 4 * shift, rule)
+    return drawn(shares, connectivity)
+
+
 def large_overlays():
     """Past 256 nodes: the share of nodes that are alone, and the least degrees."""
     nodes = Axis("nodes", 80, 130000, whole_numbers(100, 1000, 10000, 100000), is_log=True)
@@ -219,5 +247,6 @@ def large_overlays():
 FIGURES = {
     "study-split.svg": (split_shares, ["active", *LARGE[2:]]),
     "study-k.svg": (numbers_of_200, ["active"]),
+    "study-rules.svg": (by_rules, ["rules"]),
     "study-large.svg": (large_overlays, list(LARGE)),
 }

@@ -1,12 +1,14 @@
 #!/usr/bin/env python3
-"""shape.py --simulate PROGRAM [--nodes N] [--active A] [--runs N]: the shape of overlays by each rule at DISCONNECT,
-as a table.
+"""shape.py --simulate PROGRAM [--nodes N] [--active A] [--runs N] [--networkx]: the shape of overlays by each rule at
+DISCONNECT, as a table.
 
-It counts on the settled overlays of `simulate --graph`, without loss: the clustering coefficient, which is the mean
-over all nodes (0 where a node has fewer than two neighbours); and of the largest component the mean length of shortest
-paths between two nodes, and how far the farthest node is from a node, in the mean. That is how many hops a broadcast
-takes that is flooded over all links at the same speed. With --networkx the first two are counted by it too, and must
-agree.
+It counts on the settled overlays of `simulate --graph`, without loss: the mean number of links of a node; the
+clustering coefficient, which is the mean over all nodes (0 where a node has fewer than two neighbours); and of the
+largest component the mean length of shortest paths between two nodes, and how far the farthest node is from a node, in
+the mean. That is how many hops a broadcast takes that is flooded over all links at the same speed.
+
+With --networkx the last row is of random graphs in which each node has A links (not both numbers may be odd); and if
+there are 1,000 nodes at most, clustering and paths are counted by networkx too, and must agree.
 """
 
 import argparse
@@ -15,6 +17,9 @@ import subprocess
 import sys
 
 from options import CHOICES
+
+# Nodes of an overlay that networkx counts too.
+MOST_CHECKED = 1000
 
 
 def links_of(simulate, words):
@@ -78,6 +83,14 @@ def paths(neighbours):
     return total / (len(nodes) * (len(nodes) - 1)), farthest / len(nodes), len(nodes)
 
 
+def random_links(nodes, active, seed):
+    """The neighbours of each node of a random graph in which each node has so many links, by networkx."""
+    import networkx
+
+    graph = networkx.random_regular_graph(active, nodes, seed)
+    return {node: set(graph[node]) for node in graph}
+
+
 def check(neighbours, share, length):
     """Ends the program if networkx has other numbers."""
     import networkx
@@ -89,27 +102,36 @@ def check(neighbours, share, length):
         sys.exit(f"shape.py: {share, length} here, {others} by networkx")
 
 
+def row(name, overlays, is_checked):
+    """The row of some overlays, in the mean."""
+    found = []
+    for neighbours in overlays:
+        share, (length, far, count) = clustering(neighbours), paths(neighbours)
+        if is_checked:
+            check(neighbours, share, length)
+        found.append((sum(map(len, neighbours.values())) / len(neighbours), count, share, length, far))
+    links, count, share, length, far = (sum(column) / len(found) for column in zip(*found))
+    return f"| {name} | {links:.2f} | {count:,.0f} | {share:.5f} | {length:.3f} | {far:.2f} |"
+
+
 def main():
     parser = argparse.ArgumentParser(description=__doc__, formatter_class=argparse.RawDescriptionHelpFormatter)
     parser.add_argument("--simulate", required=True)
-    parser.add_argument("--nodes", default="10000")
-    parser.add_argument("--active", default="5")
+    parser.add_argument("--nodes", type=int, default=10000)
+    parser.add_argument("--active", type=int, default=5)
     parser.add_argument("--runs", type=int, default=1)
     parser.add_argument("--networkx", action="store_true")
     given = parser.parse_args()
-    print("| rule | nodes in the largest component | clustering coefficient | mean shortest path | farthest, mean |")
-    print("|---|---:|---:|---:|---:|")
+    is_checked, seeds = given.networkx and given.nodes <= MOST_CHECKED, range(given.runs)
+    print("| rule | links of a node | largest component | clustering coefficient | mean shortest path | farthest |")
+    print("|---|---:|---:|---:|---:|---:|")
     for rule in CHOICES["refill"]:
-        found = []
-        for seed in range(given.runs):
-            words = ["--nodes", given.nodes, "--active", given.active, "--refill", rule, "--rounds", "0", "--heal", "0"]
-            neighbours = links_of(given.simulate, [*words, "--seed", str(seed)])
-            share, (length, far, count) = clustering(neighbours), paths(neighbours)
-            if given.networkx:
-                check(neighbours, share, length)
-            found.append((count, share, length, far))
-        count, share, length, far = (sum(column) / len(found) for column in zip(*found))
-        print(f"| `{rule}` | {count:,.0f} | {share:.5f} | {length:.5f} | {far:.2f} |", flush=True)
+        words = f"--nodes {given.nodes} --active {given.active} --refill {rule} --rounds 0 --heal 0 --seed".split(" ")
+        overlays = (links_of(given.simulate, [*words, str(seed)]) for seed in seeds)
+        print(row(f"`{rule}`", overlays, is_checked), flush=True)
+    if given.networkx:
+        overlays = (random_links(given.nodes, given.active, seed) for seed in seeds)
+        print(row("random graph", overlays, is_checked))
 
 
 if __name__ == "__main__":

@@ -39,7 +39,7 @@ def table(head, lines):
 
 def made_by(names):
     """The commands that made rows, or where they stand."""
-    if names[0] in SWEEPS:
+    if all(name in SWEEPS for name in names):
         return "; ".join(f"`overlay sweep {SWEEPS[name]}`" for name in names)
     return "; ".join(f"`{name}`" for name in names) + " of [sweeps.py](../bench/study/sweeps.py)"
 
@@ -142,7 +142,7 @@ def at_once():
 
 REFILLS = CHOICES["refill"]
 # The share of split overlays that a designer may bear.
-FEW = 0.01
+FEW = 0.02
 # What befalls overlays of 200 nodes: the sweep, which of its rows, and how it is said.
 HAZARDS = (
     ("rules-crash", {"crash": "0"}, "nothing"),
@@ -162,9 +162,10 @@ def hazards():
     for name, options, said in HAZARDS:
         found = grouped(name, "refill", *options)
         by_rule = [found[rule, *options.values()] for rule in REFILLS]
-        cells = [(percent(split(some, "heal"), len(some)), median(some, "heal")) for some in by_rule]
+        cells = [(plain(split(some, "heal") / len(some)), median(some, "heal")) for some in by_rule]
         lines.append([said, *(cell for pair in cells for cell in pair)])
-    return table(["what befalls them", *(word for rule in REFILLS for word in (f"`{rule}`: % split", "median k"))], lines)
+    head = [word for rule in REFILLS for word in (f"`{rule}`: % split", "median k")]
+    return table(["what befalls them", *head], lines)
 
 
 def large_by(rule):
@@ -228,9 +229,10 @@ def advice():
 
 
 def enough(shares, nodes):
-    """The least active size from which on few overlays of so many nodes are split."""
-    many = [size for (count, size), share in shares.items() if count == nodes and share > FEW]
-    return min((size for count, size in shares if count == nodes and size > max(many, default=0)), default="more")
+    """The least active size from which on few overlays of so many nodes are split, of those that were tried."""
+    tried = {size: share for (count, size), share in shares.items() if count == nodes}
+    many = [size for size, share in tried.items() if share > FEW]
+    return min((size for size in tried if size > max(many, default=0)), default=f"over {max(tried)}")
 
 
 def crash():

@@ -191,8 +191,8 @@ class Run:
 
         The scenario is run once more, with the line that asks for it. The text is given only if the lines before are
         the same, overlay-check says yes to it, and it says what the report says; else this raises `NotConfirmed`. That
-        its graph was the overlay at that moment is proved of the program overlay, and is not checked here. `Refused`,
-        with the number 50, says that there is no such report.
+        its graph was the overlay at that moment is proved of a program overlay that bin/build made, and is not checked
+        here. `Refused`, with the number 50, says that there is no such report.
         """
         members = None if group is None else sorted(set(group))
         asked = "" if members is None else f" group {','.join(map(str, members))}"

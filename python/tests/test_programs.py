@@ -454,6 +454,44 @@ class StandIns(unittest.TestCase):
                 with self.assertRaisesRegex(tagzirk.ProgramMissing, "TAGZIRK_OVERLAY_CHECK"):
                     tagzirk.check("{}")
 
+    def test_programs_of_a_checkout(self):
+        # of one crate, whose program lies where bin/overlay-check keeps it
+        source = self.room / "crates" / "overlay_check" / "src" / "main.rt"
+        for folder in source.parent, self.room / "bin", self.room / "crates" / "overlay_check" / "out":
+            folder.mkdir(parents=True)
+        source.write_text("fn main() {}\n")
+        (self.room / "crates.txt").write_text("overlay_check:\n")
+        for name in "unproved.py", "repository.py", "start-program":
+            (self.room / "bin" / name).write_bytes((CHECKOUT / "bin" / name).read_bytes())
+
+        def of_bin(*words):
+            return subprocess.run([sys.executable, "-B", *words], cwd=self.room / "bin", capture_output=True, text=True)
+
+        def keep(name):
+            folder = self.room / "out" / "unproved" / "overlay_check" / name
+            folder.mkdir(parents=True)
+            return str(self.program(f"print({name!r})", folder / "overlay-check"))
+
+        variables = {"PATH": "", "XDG_CACHE_HOME": str(self.room / "cache"), "TAGZIRK_OVERLAY_CHECK": ""}
+        with mock.patch("tagzirk.programs.CHECKOUT", self.room), mock.patch.dict(os.environ, variables):
+            keep("of-other-sources")
+            with self.assertRaisesRegex(tagzirk.ProgramMissing, "without a proof, by bin/overlay-check"):
+                find("overlay_check", None)
+            asked = "import unproved; print(unproved.checksum(unproved.ROOT, 'overlay_check'))"
+            checksum = of_bin("-c", asked).stdout.strip()
+            unproved = keep(checksum)
+            self.assertEqual(find("overlay_check", None), unproved)
+            self.program("", self.room / "bin" / "overlay-check")
+            with mock.patch.dict(os.environ, {"PATH": str(self.room / "bin")}):
+                self.assertEqual(find("overlay_check", None), unproved)
+            started = of_bin("start-program", "overlay_check", "overlay-check")
+            self.assertEqual((started.stdout, "NOT PROVED" in started.stderr), (f"{checksum}\n", True))
+            proved = self.program("", self.room / "crates" / "overlay_check" / "out" / "overlay_check")
+            self.assertEqual(find("overlay_check", None), str(proved))
+            proved.unlink()
+            os.remove(unproved)
+            self.assertRaises(tagzirk.ProgramMissing, find, "overlay_check", None)
+
 
 if __name__ == "__main__":
     unittest.main()

@@ -3,6 +3,7 @@ pub mod Refused
 pub mod SameLines
 pub mod Growing
 pub mod Componentwise
+pub mod Fewer
 pub mod Tellings
 pub mod Rows
 pub mod Grown

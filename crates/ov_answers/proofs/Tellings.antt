@@ -4,7 +4,7 @@ use Rattle.std.proofs.Common.{inl, inr, refl, sym, ap, subst, arith, append-nil,
 use Rattle.ov_graph.specs.Links.{LinkGraph}
 use Rattle.ov_graphfile.specs.GraphFiles.{IsGraphFile}
 use Rattle.ov_cert.specs.State.{CheckedState}
-use Rattle.ov_cert.specs.Valid.{IsValidForGroup}
+use Rattle.ov_cert.specs.Valid.{IsValidForGroup, k_of}
 use Rattle.ov_cert.specs.declared.cert.Cert.{Cert}
 use Rattle.ov_cert.specs.declared.cert.Cert.TheVariants as cert
 use Rattle.ov_io.specs.Device.{SinkState}
@@ -23,7 +23,9 @@ use Rattle.ov_answers.specs.declared.report_or_refusal.Answered.{Answered}
 use Rattle.ov_answers.specs.declared.report_or_refusal.Answered.TheVariants.{Report, NoNodes, BadGroup}
 use Rattle.ov_run_meaning.specs.declared.run_fault.RunFault.{RunFault}
 use Rattle.ov_run_meaning.specs.declared.run_fault.RunFault.TheVariants as fault
+use Rattle.ov_answers.proofs.Fewer.{loses_none}
 use Rattle.ov_answers.proofs.SameLines.{same_line}
+use Rattle.ov_answers.specs.Fewer.{LosesNodes}
 use Rattle.ov_answers.specs.Telling.{AreLinesBetween, TellsReport, TellsAnswer, IsTelling, IsToldOf}
 use Rattle.ov_answers.specs.Telling.{answered_of}
 use Rattle.ov_answers.specs.declared.request.Told.{Told}
@@ -37,10 +39,17 @@ alike_lines g (cert.Split c) (cert.Split d) names true lines same are = rw (same
 alike_lines g (cert.Linked k) (cert.Split d) names true lines same are = absurd same
 alike_lines g (cert.Split c) (cert.Linked l) names true lines same are = absurd same
 
+-- and the same number
+same_number : (c full : Cert) → AreAlike full c → k_of c ≡ k_of full
+same_number (cert.Linked k) (cert.Linked l) same = sym same
+same_number (cert.Split c) (cert.Split d) same = sym same.k
+same_number (cert.Linked k) (cert.Split d) same = absurd same
+same_number (cert.Split c) (cert.Linked l) same = absurd same
+
 -- the line of an outline, and the lines behind it, are those of a valid answer
 pub outlined : (g : LinkGraph) (q : List ℕ) (c : Cert) (names : NamesState) (named : Bool) (lines text : List ℕ)
     → IsOutline g q c → AreLinesBetween named g c names lines → text ≡ report_line 0 c g q ++ lines
-    → TellsReport g q names false named text
+    → TellsReport g q names false named (k_of c) text
 outlined g q c names named lines text outline are is =
     let full = outline.full.1 in
     let line = same_line 0 g q outline.full.0 c full.alike in (
@@ -48,6 +57,7 @@ outlined g q c names named lines text outline are is =
       lines,
       full.answer,
       full.valid,
+      same_number c outline.full.0 full.alike,
       alike_lines g outline.full.0 c names named lines full.alike are,
       is ∙ ap (λ (t : List ℕ). t ++ lines) (sym line)
           ∙ ap (λ (t : List ℕ). report_line 0 outline.full.0 g q ++ t) (sym (append-nil lines)),
@@ -57,7 +67,7 @@ outlined g q c names named lines text outline are is =
 pub checked : (g : LinkGraph) (q : List ℕ) (c : CheckedState) (names : NamesState) (named : Bool) (lines text : List ℕ)
     → IsCheckedAnswer g q c → IsValidForGroup c.graph c.members c.cert
     → AreLinesBetween named c.graph c.cert names lines → text ≡ report_line 0 c.cert c.graph c.members ++ lines
-    → TellsReport g q names true named (with_file_of text (Some c))
+    → TellsReport g q names true named (k_of c.cert) (with_file_of text (Some c))
 checked g q c names named lines text answer valid are is =
     let here =
     subst (λ r. IsValidForGroup g r c.cert) answer.members
@@ -71,7 +81,7 @@ checked g q c names named lines text answer valid are is =
     ≡ report_line 0 c.cert f c.members ++ (lines ++ file_text c.cert f c.members 0)) answer.graph whole)
     in
     let between = subst (λ f. AreLinesBetween named f c.cert names lines) answer.graph are in
-    (c.cert, lines, answer.answer, here, between, line)
+    (c.cert, lines, answer.answer, here, refl, between, line)
 
 -- the line of an answer and the lines behind it, of a checked certificate
 pub of_checked : (c : CheckedState) (cert : Cert) (g : LinkGraph) (q : List ℕ) (names : NamesState) (named : Bool)
@@ -89,44 +99,46 @@ of_checked c cert g q names named text is_cert is_graph is_members b = (
 )
 
 -- with the file that says the graph and keeps the names it is what is told of the file
-pub told : (bytes text : List ℕ) (group : Option (List ℕ)) (certificate named : Bool) (answered : Answered)
-    (g : LinkGraph) (q : List ℕ) (names : NamesState) → IsGraphFile bytes g → AreNamesOf bytes g names
-    → q ≡ members_of group g → TellsAnswer g q names certificate named answered text
-    → IsTelling bytes group certificate named answered text
-told bytes text group certificate named answered g q names says keeps members tells = record {
+pub told : (bytes text gone : List ℕ) (group : Option (List ℕ)) (certificate named : Bool) (answered : Answered)
+    (g h : LinkGraph) (q : List ℕ) (names : NamesState) → IsGraphFile bytes g → AreNamesOf bytes g names
+    → LosesNodes g gone h → q ≡ members_of group h → TellsAnswer h q names certificate named answered text
+    → IsTelling bytes gone group certificate named answered text
+told bytes text gone group certificate named answered g h q names says keeps loses members tells = record {
   graph = g;
   says = says;
   names = names;
   keeps = keeps;
-  tells = subst (λ r. TellsAnswer g r names certificate named answered text) members tells;
+  left = h;
+  loses = loses;
+  tells = subst (λ r. TellsAnswer h r names certificate named answered text) members tells;
 }
 
 same : (m : ℕ) → m ≡ m + 0
 same m = omega arith
 
 -- nothing was written of a file that was refused
-pub refused : {W : Type 0} (bytes : List ℕ) (contents : W → Option (List ℕ)) (sink : SinkState W)
+pub refused : {W : Type 0} (bytes : List ℕ) (contents : W → Option (List ℕ)) (sink : SinkState W) (gone : List ℕ)
     (group : Option (List ℕ)) (certificate named : Bool) (f : RunFault) → IsTextFault bytes f
-    → IsToldOf bytes contents sink group certificate named sink (Err f)
-refused bytes contents sink group certificate named (fault.Line n) is = record {
+    → IsToldOf bytes contents sink gone group certificate named sink (Err f)
+refused bytes contents sink gone group certificate named (fault.Line n) is = record {
   tells = tt;
   begun = inl refl;
   sink = same sink.faults;
   unwritten = λ other. refl;
   fault = is;
 }
-refused bytes contents sink group certificate named (fault.Params n) is = absurd is
-refused bytes contents sink group certificate named (fault.Graph g line) is = record {
+refused bytes contents sink gone group certificate named (fault.Params n) is = absurd is
+refused bytes contents sink gone group certificate named (fault.Graph g line) is = record {
   tells = tt;
   begun = inl refl;
   sink = same sink.faults;
   unwritten = λ other. refl;
   fault = is;
 }
-refused bytes contents sink group certificate named fault.Read is = absurd is
-refused bytes contents sink group certificate named fault.Write is = absurd is
-refused bytes contents sink group certificate named (fault.Refused n refusal) is = absurd is
-refused bytes contents sink group certificate named fault.OutOfMemory is = record {
+refused bytes contents sink gone group certificate named fault.Read is = absurd is
+refused bytes contents sink gone group certificate named fault.Write is = absurd is
+refused bytes contents sink gone group certificate named (fault.Refused n refusal) is = absurd is
+refused bytes contents sink gone group certificate named fault.OutOfMemory is = record {
   tells = tt;
   begun = inl refl;
   sink = same sink.faults;
@@ -143,10 +155,10 @@ plain_answer : (g : LinkGraph) (q : List ℕ) (names : NamesState) (certificate 
     (text : List ℕ) → TellsAnswer g q names certificate false answered text
     → PrintsAnswer g q certificate answered text
 unfolding answer_text
-plain_answer g q names true Report text t =
-    (t.0, t.2, t.3, t.5 ∙ plain_text (report_line 0 t.0 g q) (file_text t.0 g q 0) t.1 t.4)
-plain_answer g q names false Report text t =
-    (t.0, t.2, t.3, t.5 ∙ plain_text (report_line 0 t.0 g q) [] t.1 t.4 ∙ append-nil (report_line 0 t.0 g q))
+plain_answer g q names true (Report k) text t =
+    (t.0, t.2, t.3, t.4, t.6 ∙ plain_text (report_line 0 t.0 g q) (file_text t.0 g q 0) t.1 t.5)
+plain_answer g q names false (Report k) text t =
+    (t.0, t.2, t.3, t.4, t.6 ∙ plain_text (report_line 0 t.0 g q) [] t.1 t.5 ∙ append-nil (report_line 0 t.0 g q))
 plain_answer g q names certificate NoNodes text t = t
 plain_answer g q names certificate BadGroup text t = t
 
@@ -162,12 +174,13 @@ unnamed bytes text group certificate named answered g q names plain says members
       (subst (λ (b : Bool). TellsAnswer g q names certificate b answered text) plain tells));
 }
 
+-- of a graph of which no node is gone
 plain_file : (bytes : List ℕ) (group : Option (List ℕ)) (certificate : Bool) (answered : Answered) (text : List ℕ)
-    → IsTelling bytes group certificate false answered text → IsAnalysis bytes group certificate answered text
+    → IsTelling bytes [] group certificate false answered text → IsAnalysis bytes group certificate answered text
 plain_file bytes group certificate answered text t = record {
-  graph = t.graph;
-  says = t.says;
-  prints = plain_answer t.graph (members_of group t.graph) t.names certificate answered text t.tells;
+  graph = t.left;
+  says = subst (IsGraphFile bytes) (sym (loses_none t.graph t.left t.says.graph t.loses)) t.says;
+  prints = plain_answer t.left (members_of group t.left) t.names certificate answered text t.tells;
 }
 
 -- what a fault adds to those of the writer, whatever is returned without a fault
@@ -182,7 +195,7 @@ same_faults A B fault.OutOfMemory = refl
 
 plain_begun : {W : Type 0} (bytes : List ℕ) (contents : W → Option (List ℕ)) (before after : SinkState W)
     (group : Option (List ℕ)) (certificate : Bool) (result : Result Told RunFault)
-    → IsToldOf bytes contents before group certificate false after result
+    → IsToldOf bytes contents before [] group certificate false after result
     → (after ≡ before)
     ⊎ BeginsAnalysis (Some bytes) group certificate (contents before.writer) (contents after.writer)
 plain_begun bytes contents before after group certificate result t = elim t.begun [
@@ -192,7 +205,7 @@ plain_begun bytes contents before after group certificate result t = elim t.begu
 
 pub plain : {W : Type 0} (bytes : List ℕ) (contents : W → Option (List ℕ)) (before after : SinkState W)
     (group : Option (List ℕ)) (certificate : Bool) (result : Result Told RunFault)
-    → IsToldOf bytes contents before group certificate false after result
+    → IsToldOf bytes contents before [] group certificate false after result
     → IsAnalysisOf (Some bytes) contents before group certificate after (answered_of result)
 plain bytes contents before after group certificate (Ok told) t = record {
   prints = let p = t.tells in

@@ -3,7 +3,7 @@ use Rattle.std.specs.Prelude.{◌≡◌, ◌≢◌, ◌⊎◌, ℕ, ◌+◌, Boo
 use Rattle.std.specs.Prelude.{IfSome, IfOk, IfErr, IsErrOf}
 use Rattle.std.specs.Io.KnownBytes.{Appends}
 use Rattle.ov_graph.specs.Links.{LinkGraph, HasNode, IsGroup}
-use Rattle.ov_cert.specs.Valid.{IsValidForGroup}
+use Rattle.ov_cert.specs.Valid.{IsValidForGroup, k_of}
 use Rattle.ov_cert.specs.declared.cert.Cert.{Cert}
 use Rattle.ov_io.specs.Device.{AppendsPrefixOf, SourceState, SinkState, ReaderFailed}
 use Rattle.ov_even.specs.Answer.{IsAnswer}
@@ -24,10 +24,11 @@ answer_text c g q false = report_line 0 c g q
 answer_text c g q true = report_line 0 c g q ++ file_text c g q 0
 
 -- what is printed of an analysis, and its text: a graph without nodes is refused with 30; ids that are no group of the
--- nodes are refused with 34; otherwise the answer is printed, a certificate that is valid for the group
+-- nodes are refused with 34; otherwise the answer is printed, a certificate that is valid for the group, with the
+-- number k
 abbrev pub PrintsAnswer : LinkGraph → List ℕ → Bool → Answered → List ℕ → Type 0
-PrintsAnswer g q certificate Report text =
-    (c : Cert) × IsAnswer g q c × IsValidForGroup g q c × (text ≡ answer_text c g q certificate)
+PrintsAnswer g q certificate (Report k) text =
+    (c : Cert) × IsAnswer g q c × IsValidForGroup g q c × (k ≡ k_of c) × (text ≡ answer_text c g q certificate)
 PrintsAnswer g q certificate NoNodes text = (¬ HasNode g) × (text ≡ refused_line (even.number_of analysis.NoNodes))
 PrintsAnswer g q certificate BadGroup text =
     HasNode g × (¬ IsGroup g q) × (text ≡ refused_line (even.number_of analysis.BadGroup))

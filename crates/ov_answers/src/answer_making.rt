@@ -1,6 +1,6 @@
 //! The one way in which the answer for a graph and a group is made, with names and sentences or without them.
 ghost use Rattle.std.specs.Prelude.{◌≡◌, ◌⊎◌, ◌++◌, ℕ, List, true, false, option_map, Some, None, IfOk, IfErr, OnOk};
-ghost use Rattle.ov_cert.specs.Valid.{IsValidForGroup};
+ghost use Rattle.ov_cert.specs.Valid.{IsValidForGroup, k_of};
 ghost use Rattle.ov_even.specs.Faults.{GroupJudged};
 ghost use Rattle.ov_even.specs.declared.fault.AnalyseFault.TheVariants.{OutOfMemory as out_of_memory};
 ghost use Rattle.ov_graphfile.specs.GraphFiles.{IsGraphFile};
@@ -72,9 +72,10 @@ pub(crate) fn answer_for<T: Threads + Sync, P: Watcher>(
     answer_of(alloc, graph, group, names, request, report)
 }
 
-/// The text of an answer, the certificate whose file follows it, and its explanation.
+/// The number and the text of an answer, the certificate whose file follows it, and its explanation.
 #[derive(Drop)]
 struct Report {
+    k: u32,
     text: Vec<u8>,
     file: Option<Checked>,
     explanation: Option<String>,
@@ -93,7 +94,7 @@ fn report_alone<T: Threads + Sync, P: Watcher>(
 ) -> Result<Report, AnalyseFault>
     requires names { HasNames request.now.names (option_map (λ n. n.now) names) }
     ensures tells { IfOk result (λ report. TellsReport graph.now group.now
-        (given_names (option_map (λ n. n.now) names.entry)) false request.now.names
+        (given_names (option_map (λ n. n.now) names.entry)) false request.now.names report.k
         (with_file_of report.text.items report.file)) }
     ensures refused { IfErr result
         (λ fault. GroupJudged graph.now group.now (Some fault) ⊎ (fault ≡ out_of_memory)) }
@@ -116,7 +117,7 @@ fn report_with_certificate<T: Threads + Sync, P: Watcher>(
 ) -> Result<Report, AnalyseFault>
     requires names { HasNames request.now.names (option_map (λ n. n.now) names) }
     ensures tells { IfOk result (λ report. TellsReport graph.now group.now
-        (given_names (option_map (λ n. n.now) names.entry)) true request.now.names
+        (given_names (option_map (λ n. n.now) names.entry)) true request.now.names report.k
         (with_file_of report.text.items report.file)) }
     ensures refused { IfErr result
         (λ fault. GroupJudged graph.now group.now (Some fault) ⊎ (fault ≡ out_of_memory)) }
@@ -125,12 +126,14 @@ fn report_with_certificate<T: Threads + Sync, P: Watcher>(
     let checked = analyse_group_watched(rt, alloc, graph, group, workers, &OpenGate, watcher)?;
     let begun = checked_report(alloc, &checked, names, request)?;
     let Report {
+        k,
         text,
         file: _,
         explanation,
     } = begun;
     let file = Some(checked);
     Ok(Report {
+        k,
         text,
         file,
         explanation,
@@ -149,6 +152,7 @@ fn checked_report(
         × AreLinesBetween request.now.names checked.now.graph checked.now.cert
         (given_names (option_map (λ n. n.now) names.entry)) lines
         × (report.text.items ≡ report_line 0 checked.now.cert checked.now.graph checked.now.members ++ lines)) }
+    ensures number { IfOk result (λ report. report.k ≡ k_of checked.now.cert) }
     ensures valid { IsValidForGroup checked.now.graph checked.now.members checked.now.cert }
 {
     let (cert, graph, group) = (checked.cert(), checked.graph(), checked.members());
@@ -168,18 +172,31 @@ fn begun_report(
     ensures lines { IfOk result (λ report. (lines : List ℕ)
         × AreLinesBetween request.now.names graph.now cert.now (given_names (option_map (λ n. n.now) names.entry)) lines
         × (report.text.items ≡ report_line 0 cert.now graph.now group.now ++ lines)) }
+    ensures number { IfOk result (λ report. report.k ≡ k_of cert.now) }
     ensures file { IfOk result (λ report. report.file ≡ None) }
 {
     let line = cert_line(alloc, FILE_MOMENT, cert, graph, group)?;
     let mut text = Vec::from_slice(alloc, line.as_bytes())?;
     write_between(alloc, &mut text, cert, graph, names, request)?;
     let explanation = asked_explanation(alloc, cert, graph, group, names, request)?;
+    let k = k_of(cert);
     let file = None;
     Ok(Report {
+        k,
         text,
         file,
         explanation,
     })
+}
+
+/// The number that a certificate proves.
+fn k_of(cert: &Cert) -> u32
+    ensures { result ≡ k_of cert.now }
+{
+    match cert {
+        Cert::Linked { k } => *k,
+        Cert::Split(split) => split.k,
+    }
 }
 
 /// Appends the lines between the line of an answer and its certificate file.
@@ -234,7 +251,7 @@ fn answer_of(
 ) -> Result<Answer, OutOfMemory>
     requires tells { IfOk report (λ report.
         TellsReport graph.now group.now (given_names (option_map (λ n. n.now) names)) request.now.certificate
-        request.now.names (with_file_of report.text.items report.file)) }
+        request.now.names report.k (with_file_of report.text.items report.file)) }
     requires refused { IfErr report
         (λ fault. GroupJudged graph.now group.now (Some fault) ⊎ (fault ≡ out_of_memory)) }
     ensures { IfOk result (λ answer. TellsAnswer graph.now group.now (given_names (option_map (λ n. n.now) names.entry))
@@ -244,12 +261,13 @@ fn answer_of(
     match report {
         Ok(
             Report {
+                k,
                 text,
                 file,
                 explanation,
             },
         ) => {
-            let answered = Answered::Report;
+            let answered = Answered::Report { k };
             let told = Told {
                 answered,
                 explanation,

@@ -71,6 +71,7 @@ pub fn analyse_bytes<T: Threads + Sync, W: Write, P: Watcher>(
     ensures read { result ≢ Err RunFault.Read }
 {
     let request = Request {
+        gone: &[],
         group,
         workers,
         certificate,

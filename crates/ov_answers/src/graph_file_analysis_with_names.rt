@@ -1,4 +1,4 @@
-ghost use Rattle.std.specs.Prelude.{◌≡◌, ◌<◌, false, option_map, Some, IfOk, IfErr};
+ghost use Rattle.std.specs.Prelude.{◌≡◌, ◌<◌, [], false, option_map, Some, IfOk, IfErr};
 ghost use Rattle.ov_io.specs.Device.{most_faults};
 ghost use Rattle.ov_answers.specs.Analysing.{IsAnalysisOf};
 ghost use Rattle.ov_answers.specs.Telling.{IsToldOf, IsTelling, answered_of};
@@ -7,6 +7,7 @@ ghost use Rattle.ov_answers.specs.Code.TextFaults.{IsTextFault};
 
 use crate::answer_making::{Answer, answer_for};
 use crate::answer_writing::write_answer;
+use crate::graph_without_nodes::graph_without;
 use crate::request::{Request, Told};
 use ov_even::Watcher;
 use ov_graphfile::{Names, read_named_graph};
@@ -19,7 +20,9 @@ use std::thread::Threads;
 /// Does what `analyse_bytes` does with the graph file of these bytes, and tells more if that is asked for.
 /// With names, lines that name the nodes of the cut, and the members of the components that the crash of the cut
 /// leaves, stand between the line of the answer and the certificate file; a linked answer and a refusal have none.
-/// Without names, what is written is the same as there. The faults are the same as there, in the same order.
+/// Nodes that are gone, and their links, are taken away before the analysis: the answer and its certificate are those
+/// of the graph that is left. Without names, and if no node is gone, what is written is the same as there. The faults
+/// are the same as there, in the same order.
 pub fn analyse_told<T: Threads + Sync, W: Write, P: Watcher>(
     rt: &T,
     alloc: Global,
@@ -29,9 +32,10 @@ pub fn analyse_told<T: Threads + Sync, W: Write, P: Watcher>(
     watcher: &mut P,
 ) -> Result<Told, RunFault>
     requires writes { sink.old.faults < most_faults }
-    ensures told { IsToldOf bytes.now W.contents sink.old (option_map (λ ids. ids.now) request.now.group)
-        request.now.certificate request.now.names sink.new result }
-    ensures plain { request.now.names ≡ false → IsAnalysisOf (Some bytes.now) W.contents sink.old
+    ensures told { IsToldOf bytes.now W.contents sink.old request.now.gone.now
+        (option_map (λ ids. ids.now) request.now.group) request.now.certificate request.now.names sink.new result }
+    ensures plain { request.now.names ≡ false → request.now.gone.now ≡ []
+        → IsAnalysisOf (Some bytes.now) W.contents sink.old
         (option_map (λ ids. ids.now) request.now.group) request.now.certificate sink.new (answered_of result) }
 {
     tell(rt, alloc, bytes, sink, request, watcher)
@@ -48,8 +52,8 @@ fn tell<T: Threads + Sync, W: Write, P: Watcher>(
     watcher: &mut P,
 ) -> Result<Told, RunFault>
     requires writes { sink.old.faults < most_faults }
-    ensures told { IsToldOf bytes.now W.contents sink.old (option_map (λ ids. ids.now) request.now.group)
-        request.now.certificate request.now.names sink.new result }
+    ensures told { IsToldOf bytes.now W.contents sink.old request.now.gone.now
+        (option_map (λ ids. ids.now) request.now.group) request.now.certificate request.now.names sink.new result }
 {
     let answer = answer_for_file(rt, alloc, bytes, request, watcher)?;
     match write_answer(rt, alloc, request.workers, &answer, sink) {
@@ -67,8 +71,8 @@ fn answer_for_file<T: Threads + Sync, P: Watcher>(
     request: &Request<'_>,
     watcher: &mut P,
 ) -> Result<Answer, RunFault>
-    ensures answer { IfOk result (λ answer. IsTelling bytes.now (option_map (λ ids. ids.now) request.now.group)
-        request.now.certificate request.now.names answer.told.answered
+    ensures answer { IfOk result (λ answer. IsTelling bytes.now request.now.gone.now
+        (option_map (λ ids. ids.now) request.now.group) request.now.certificate request.now.names answer.told.answered
         (with_file_of answer.text.items answer.file)) }
     ensures fault { IfErr result (IsTextFault bytes.now) }
 {
@@ -77,6 +81,7 @@ fn answer_for_file<T: Threads + Sync, P: Watcher>(
         Err(fault) => return Err(RunFault::of_graph_file(&fault)),
     };
     let names = Names::new(&graph, told);
-    let members = members_of(request.group, &graph);
-    Ok(answer_for(rt, alloc, &graph, members, Some(&names), request, watcher)?)
+    let left = graph_without(&graph, request.gone)?;
+    let members = members_of(request.group, &left);
+    Ok(answer_for(rt, alloc, &left, members, Some(&names), request, watcher)?)
 }

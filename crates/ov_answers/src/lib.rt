@@ -1,5 +1,5 @@
-//! Analyses of graph files by themselves: the answer, also with the names of nodes and in sentences; and the connected
-//! components that a crash of nodes leaves.
+//! Analyses of graph files by themselves: the answer, also with the names of nodes and in sentences, and without some
+//! of the nodes; and the connected components that a crash of nodes leaves.
 #![tactic(auto)]
 
 mod answer_making;
@@ -10,6 +10,7 @@ mod components_after_crash;
 mod flood_fill;
 mod graph_file_analysis;
 mod graph_file_analysis_with_names;
+mod graph_without_nodes;
 mod name_lines;
 mod report_or_refusal;
 mod request;
@@ -20,6 +21,7 @@ mod unique_components_theorem;
 
 pub use graph_file_analysis::{analyse_bytes, analyse_file};
 pub use graph_file_analysis_with_names::analyse_told;
+pub use graph_without_nodes::{graph_without, members_left};
 pub use ov_run_meaning::RunFault;
 pub use report_or_refusal::Answered;
 pub use request::{Request, Told};

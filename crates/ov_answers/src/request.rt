@@ -4,7 +4,9 @@ use ov_ids::{NodeId, Workers};
 /// What an analysis of a graph file is asked for.
 #[derive(Clone, Copy)]
 pub struct Request<'a> {
-    /// The members of the group, ascending. Without them, all nodes are the group.
+    /// The nodes that are taken away, with their links, before the analysis.
+    pub gone: &'a [NodeId],
+    /// The members of the group, ascending. Without them, all nodes that are left are the group.
     pub group: Option<&'a [NodeId]>,
     /// How many workers share the analysis.
     pub workers: Workers,

@@ -23,8 +23,8 @@ use Rattle.clap.specs.declared.parser.matches.ArgMatches.TheViews.{out-ArgMatche
 use Rattle.clap.specs.declared.parser.matches.Found.{Found}
 use Rattle.ov_arguments.specs.Arguments.{AreReadableFor, IsAsked, IsOfGiven, command_given, entry_asked, entry_of}
 use Rattle.ov_arguments.specs.Arguments.{fault_of_parse, file_asked, format_of}
-use Rattle.ov_arguments.specs.Arguments.{group_asked, group_names_asked, is_flagged, overlay_command, text_given}
-use Rattle.ov_arguments.specs.Arguments.{workers_asked}
+use Rattle.ov_arguments.specs.Arguments.{group_asked, group_list_asked, is_flagged, least_asked, overlay_command}
+use Rattle.ov_arguments.specs.Arguments.{text_given, workers_asked}
 use Rattle.ov_arguments.specs.Code.Options.{rule_of_option, with_options}
 use Rattle.ov_arguments.specs.declared.arguments.ArgumentsFault.TheVariants.{OutOfMemory}
 use Rattle.ov_arguments.specs.declared.arguments.Request.{Request}
@@ -171,12 +171,14 @@ asked_same c d t u e f (Analyse file analysis) a = (
   e ∙ a.0,
   ap file_asked (f (codes "file")) ∙ a.1,
   ap₂ group_asked (ap is_flagged (f (codes "names"))) (f (codes "group")) ∙ a.2,
-  ap₂ group_names_asked (ap is_flagged (f (codes "names"))) (f (codes "group")) ∙ a.3,
-  ap workers_asked (f (codes "workers")) ∙ a.4,
-  ap is_flagged (f (codes "certificate")) ∙ a.5,
-  ap is_flagged (f (codes "names")) ∙ a.6,
-  ap is_flagged (f (codes "explain")) ∙ a.7,
-  ap is_flagged (f (codes "progress")) ∙ a.8,
+  ap₂ group_list_asked (ap is_flagged (f (codes "names"))) (f (codes "group")) ∙ a.3,
+  f (codes "without") ∙ a.4,
+  ap least_asked (f (codes "at-least")) ∙ a.5,
+  ap workers_asked (f (codes "workers")) ∙ a.6,
+  ap is_flagged (f (codes "certificate")) ∙ a.7,
+  ap is_flagged (f (codes "names")) ∙ a.8,
+  ap is_flagged (f (codes "explain")) ∙ a.9,
+  ap is_flagged (f (codes "progress")) ∙ a.10,
 )
 asked_same c d t u e f (Import file dump) a = (
   e ∙ a.0,
@@ -204,6 +206,7 @@ readable_same c d t u e f r = record {
   analysis = λ is. record {
     group = λ x. (r.analysis (e ∙ is)).group
         (ap₂ group_asked (ap is_flagged (f (codes "names"))) (f (codes "group")) ∙ x);
+    least = λ x. (r.analysis (e ∙ is)).least (ap least_asked (f (codes "at-least")) ∙ x);
     workers = λ x. (r.analysis (e ∙ is)).workers (ap workers_asked (f (codes "workers")) ∙ x);
   };
   dump = λ is none. r.dump (e ∙ is) (format_same t u f ∙ none);
@@ -226,7 +229,7 @@ asked_readable command text (Run file run) a = record {
   picture = λ is. absurd (a.0.2 is);
 }
 asked_readable command text (Analyse file analysis) a = record {
-  analysis = λ is. record { group = λ none. cc; workers = λ none. cc };
+  analysis = λ is. record { group = λ none. cc; least = λ none. cc; workers = λ none. cc };
   dump = λ is. other_name command (codes "analyse") (codes "import") a.0 is
       (λ e. let bad : 97 ≡ 105 = e in absurd (omega arith));
   picture = λ is. other_name command (codes "analyse") (codes "picture") a.0 is

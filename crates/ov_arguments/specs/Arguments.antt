@@ -1,6 +1,7 @@
 -- What the arguments of a command line ask for, and why they can't be read. Chosen here.
 use Rattle.std.specs.Prelude.{◌≡◌, ◌≢◌, ℕ, Bool, true, false, ◌<◌, ⊤, List, [], ◌∷◌, length, Option, Some, None}
-use Rattle.std.specs.Prelude.{IfSome, codes, option_map, string_bytes, if◌then◌else◌}
+use Rattle.std.specs.Prelude.{IfSome, codes, nat_eq, nat_le, option_map, string_bytes, if◌then◌else◌}
+use Rattle.std.specs.List.{starts_with}
 use Rattle.std.specs.Str.{bytes_eq}
 use Rattle.std.specs.declared.io.ErrorKind.{ErrorKind}
 use Rattle.std.specs.declared.io.ErrorKind.TheVariants.{InvalidData}
@@ -11,7 +12,7 @@ use Rattle.clap.specs.declared.builder.action.ArgAction.TheVariants.{Set, SetTru
 use Rattle.clap.specs.declared.error.kind.ErrorKind.{ErrorKind as ParseErrorKind}
 use Rattle.clap.specs.declared.error.kind.ErrorKind.TheVariants as parse_error
 use Rattle.ov_ids.specs.Options.{◌>>=◌}
-use Rattle.ov_lines.specs.Lines.{ids_of, workers_of}
+use Rattle.ov_lines.specs.Lines.{ids_of, long_bits, number_within, workers_of}
 use Rattle.ov_arguments.specs.declared.arguments.Request.{Request}
 use Rattle.ov_arguments.specs.declared.arguments.Request.TheVariants.{Run, Analyse, Import, Picture, Graph}
 use Rattle.ov_arguments.specs.declared.import_and_picture_requests.AskedEntry.{AskedEntry}
@@ -40,7 +41,8 @@ run_command =
     (flag (codes "strict")))
     (flag (codes "progress"))
 
--- `analyse [FILE] [--group TEXT] [--workers TEXT] [--certificate] [--names] [--explain] [--progress]`
+-- `analyse [FILE] [--group TEXT] [--without TEXT] [--at-least TEXT] [--workers TEXT] [--certificate] [--names]
+-- [--explain] [--progress]`
 abbrev pub analyse_command : App
 analyse_command =
     with_rule
@@ -48,7 +50,11 @@ analyse_command =
     (with_rule
     (with_rule
     (with_rule
+    (with_rule
+    (with_rule
     (with_rule (with_rule (new_app (codes "analyse")) (new_rule (codes "file"))) (option (codes "group")))
+    (option (codes "without")))
+    (option (codes "at-least")))
     (option (codes "workers")))
     (flag (codes "certificate")))
     (flag (codes "names")))
@@ -115,17 +121,42 @@ abbrev pub HasGroupOfIds : Request → Type 0
 HasGroupOfIds (Analyse file analysis) = IfSome analysis.group (λ ids. 0 < length ids.items)
 HasGroupOfIds other = ⊤
 
--- the group of ids that the text of `--group` asks for, and none if it is not there. Beside `--names` it asks for
--- names, and for no ids
-abbrev pub group_asked : Bool → Option (List ℕ) → Option (Option (List ℕ))
-group_asked true text = Some None
-group_asked false None = Some None
-group_asked false (Some text) = option_map Some (ids_of text)
+-- whether the text of a list names a file that has the list, by `@` before its name
+abbrev pub is_in_file : List ℕ → Bool
+is_in_file text = starts_with nat_eq text (codes "@")
 
--- the text of names that `--group` asks for: its own text beside `--names`, and none without it
-abbrev pub group_names_asked : Bool → Option (List ℕ) → Option (List ℕ)
-group_names_asked true text = text
-group_names_asked false text = None
+-- whether the text of `--group` is a list that is read later: beside `--names`, where it may be any text, and if the
+-- list is in a file
+abbrev pub is_read_later : Bool → List ℕ → Bool
+is_read_later true text = true
+is_read_later false text = is_in_file text
+
+-- the group of ids that the text of `--group` asks for, and none if it is not there or is read later
+abbrev pub group_asked : Bool → Option (List ℕ) → Option (Option (List ℕ))
+group_asked names None = Some None
+group_asked names (Some text) = if is_read_later names text then Some None else option_map Some (ids_of text)
+
+-- the text of the list that `--group` asks for, if it is read later
+abbrev pub group_list_asked : Bool → Option (List ℕ) → Option (List ℕ)
+group_list_asked names None = None
+group_list_asked names (Some text) = if is_read_later names text then Some text else None
+
+-- the largest number k: it is smaller than the number of nodes, of which there are 1,024 at most
+abbrev pub largest_k : ℕ
+largest_k = 1023
+
+-- the number, if it may be asked for as the least k
+abbrev pub as_least : ℕ → Option ℕ
+as_least n = if nat_le n largest_k then Some n else None
+
+-- the least number k that a text spells
+abbrev pub least_of : List ℕ → Option ℕ
+least_of text = number_within long_bits text >>= as_least
+
+-- the least number k that the text of `--at-least` asks for, and none if it is not there
+abbrev pub least_asked : Option (List ℕ) → Option (Option ℕ)
+least_asked None = Some None
+least_asked (Some text) = option_map Some (least_of text)
 
 -- the number of workers that the text of `--workers` asks for, and one if it is not there
 abbrev pub workers_asked : Option (List ℕ) → Option ℕ
@@ -198,8 +229,10 @@ IsAsked command text (Analyse file analysis) =
     × (file_asked (text (codes "file")) ≡ option_map (λ f. string_bytes f) file)
     × (group_asked (is_flagged (text (codes "names"))) (text (codes "group"))
     ≡ Some (option_map (λ ids. ids.items) analysis.group))
-    × (group_names_asked (is_flagged (text (codes "names"))) (text (codes "group"))
-    ≡ option_map (λ names. string_bytes names) analysis.group_names)
+    × (group_list_asked (is_flagged (text (codes "names"))) (text (codes "group"))
+    ≡ option_map (λ list. string_bytes list) analysis.group_list)
+    × (text (codes "without") ≡ option_map (λ list. string_bytes list) analysis.gone)
+    × (least_asked (text (codes "at-least")) ≡ Some analysis.at_least)
     × (workers_asked (text (codes "workers")) ≡ Some analysis.workers)
     × (is_flagged (text (codes "certificate")) ≡ analysis.certificate)
     × (is_flagged (text (codes "names")) ≡ analysis.names)
@@ -221,13 +254,14 @@ IsAsked command text (Graph file) =
     (command ≡ Some (codes "graph"))
     × (file_asked (text (codes "file")) ≡ option_map (λ f. string_bytes f) file)
 
--- the group and the number of workers that these texts ask for can be read
+-- the group, the least number and the number of workers that these texts ask for can be read
 pub record AreReadable (text : List ℕ → Option (List ℕ)) : Type 0 where
   pub group : group_asked (is_flagged (text (codes "names"))) (text (codes "group")) ≢ None
+  pub least : least_asked (text (codes "at-least")) ≢ None
   pub workers : workers_asked (text (codes "workers")) ≢ None
 
--- the texts of a command of this name can be read: of `analyse` the group and the workers, of `import` the form of the
--- dump, of `picture` the entry. The texts of another command need no reading
+-- the texts of a command of this name can be read: of `analyse` the group, the least number and the workers, of
+-- `import` the form of the dump, of `picture` the entry. The texts of another command need no reading
 pub record AreReadableFor (command : Option (List ℕ)) (text : List ℕ → Option (List ℕ)) : Type 0 where
   pub analysis : command ≡ Some (codes "analyse") → AreReadable text
   pub dump : command ≡ Some (codes "import") → format_of text ≢ None

@@ -3,8 +3,9 @@ ghost use Rattle.std.specs.Prelude.{option_map, IfOk, IfSome, IsErrOf};
 ghost use Rattle.std.specs.IoError.{error_kind};
 ghost use Rattle.clap.specs.Words.{found_of, first_value};
 ghost use Rattle.ov_arguments.specs.Arguments.{AreReadable, AreReadableFor, AreTaken, HasGroupOfIds, IsAsked, entry_of};
-ghost use Rattle.ov_arguments.specs.Arguments.{IsOfGiven, file_asked, group_asked, group_names_asked, is_flagged};
-ghost use Rattle.ov_arguments.specs.Arguments.{workers_asked, fault_of_parse, fault_of_text, format_of, number_of};
+ghost use Rattle.ov_arguments.specs.Arguments.{IsOfGiven, file_asked, group_asked, group_list_asked, is_flagged};
+ghost use Rattle.ov_arguments.specs.Arguments.{is_read_later, least_asked, least_of, workers_asked};
+ghost use Rattle.ov_arguments.specs.Arguments.{fault_of_parse, fault_of_text, format_of, number_of};
 ghost use Rattle.ov_arguments.specs.declared.arguments.ArgumentsFault.TheVariants.{BadArguments};
 ghost use Rattle.ov_arguments.specs.declared.arguments.ArgumentsFault.TheVariants.{OutOfMemory as out_of_memory};
 
@@ -13,12 +14,15 @@ use crate::import_and_picture_requests::{ImportRequest, PictureRequest, import_o
 use clap::error::ErrorKind;
 use clap::{ArgMatches, Error as ClapError};
 use ov_ids::{NodeId, OutOfMemory, Workers};
-use ov_lines::{read_ids, read_workers};
+use ov_lines::{read_ids, read_number, read_workers};
 use std::alloc::{AllocError, Global};
 use std::error::Error;
 use std::fmt::{self, Display, Formatter, Write};
 use std::io;
 use std::io::ErrorKind as IoErrorKind;
+
+/// The largest number k: it is smaller than the number of nodes, of which there are 1,024 at most.
+const LARGEST_K: u64 = 1023;
 
 /// What the arguments of a command line ask for. Without a file, standard input is read.
 #[derive(Debug, PartialEq, Eq, Drop)]
@@ -63,10 +67,14 @@ pub struct RunRequest {
 /// What is asked of an analysis, besides its file.
 #[derive(Debug, PartialEq, Eq, Drop)]
 pub struct AnalysisRequest {
-    /// The members of the group. Without it, all nodes are the group, unless names of members are given.
+    /// The members of the group. Without it, all nodes are the group, unless a list of members is given.
     pub group: Option<Vec<NodeId>>,
-    /// The names of the members of the group, with a comma between two. They are given beside `names` alone.
-    pub group_names: Option<String>,
+    /// The list of the members of the group, if it is read later: beside `names` alone, or `@` and the file that has it.
+    pub group_list: Option<String>,
+    /// The list of the nodes that are gone, or `@` and the file that has it.
+    pub gone: Option<String>,
+    /// The least number k that does not raise the alarm.
+    pub at_least: Option<u32>,
     /// How many workers share out the analysis.
     pub workers: Workers,
     /// Whether the certificate file is asked for too.
@@ -160,9 +168,10 @@ impl From<ClapError> for ArgumentsFault {
 /// Reads the arguments that follow the program's name:
 ///
 /// - `run [FILE] [--explain] [--strict] [--progress]`, which no argument asks for too;
-/// - `analyse [FILE] [--group IDS] [--workers N] [--certificate] [--names] [--explain] [--progress]`. IDS are one or
-/// more   ids of decimal digits and 32 bits, with commas between them; beside `--names` they may be any text, which is
-/// not   read here. N is decimal digits, and from 1 to 64; without it there is one worker;
+/// - `analyse [FILE] [--group IDS] [--without LIST] [--at-least K] [--workers N] [--certificate] [--names] [--explain]
+/// [--progress]`. IDS are one or more ids of decimal digits and 32 bits, with commas between them; beside `--names`, or
+/// after `@`, they may be any text, which is not read here. Nor is LIST. K is decimal digits, and from 0 to 1,023. N is
+/// decimal digits, and from 1 to 64; without it there is one worker;
 /// - `import [FILE] [--views] [--edges] [--dot] [--either] [--entries]`, with one of the first three flags at most;
 /// - `picture [FILE] [--names GRAPHFILE] [--pair I,J] [--fan J] [--dot]`, with ids, and with `--pair` or `--fan` at
 /// most;
@@ -260,12 +269,15 @@ fn analysis_of(alloc: Global, found: &ArgMatches) -> Result<Request, ArgumentsFa
 {
     let names = has_flag(found, "names");
     let group = group_of(alloc, found, names)?;
+    let at_least = least_number_of(found)?;
     let workers = workers_of(found)?;
     Ok(Request::Analyse {
         file: file_of(alloc, found)?,
         analysis: AnalysisRequest {
             group,
-            group_names: group_names_of(alloc, found, names)?,
+            group_list: group_list_of(alloc, found, names)?,
+            gone: gone_of(alloc, found)?,
+            at_least,
             workers,
             certificate: has_flag(found, "certificate"),
             names,
@@ -299,7 +311,7 @@ pub(crate) fn has_flag(matches: &ArgMatches, name: &str) -> bool
     text == "true"
 }
 
-/// The ids of the group that is given, or nothing. Names are asked for by their text.
+/// The ids of the group that is given, or nothing. A list that is read later is asked for by its text.
 #[tactic(auto, using(ov_lines::proofs::Lines::Spelling::some_id))]
 fn group_of(
     alloc: Global,
@@ -312,34 +324,82 @@ fn group_of(
     ensures bad { IsErrOf result BadArguments
         → (group_asked names (first_value (found_of matches.now) (codes "group")) ≡ None) }
 {
-    if names {
-        return Ok(None);
-    }
     let Some(text) = matches.get_str("group") else {
         return Ok(None);
     };
+    if is_read_later(names, text) {
+        return Ok(None);
+    }
     match read_ids(alloc, text.as_bytes())? {
         Some(ids) => Ok(Some(ids)),
         None => Err(ArgumentsFault::BadArguments),
     }
 }
 
-/// The text of the names of the group that are given, or nothing.
-fn group_names_of(
+/// Whether the text of a group is a list that is read later: any text beside names, and one of a file.
+pub(crate) fn is_read_later(names: bool, text: &str) -> bool
+    ensures { result ≡ is_read_later names text.now }
+{
+    if names {
+        return true;
+    }
+    text.as_bytes().starts_with(b"@")
+}
+
+/// The list of the group that is given, if it is read later, or nothing.
+fn group_list_of(
     alloc: Global,
     matches: &ArgMatches,
     names: bool,
 ) -> Result<Option<String>, AllocError>
-    ensures { IfOk result (λ text. group_names_asked names (first_value (found_of matches.now) (codes "group"))
+    ensures { IfOk result (λ text. group_list_asked names (first_value (found_of matches.now) (codes "group"))
         ≡ option_map string_bytes text) }
 {
-    if !names {
-        return Ok(None);
-    }
     let Some(text) = matches.get_str("group") else {
         return Ok(None);
     };
+    if !is_read_later(names, text) {
+        return Ok(None);
+    }
     Ok(Some(String::from_str(alloc, text)?))
+}
+
+/// The list of the nodes that are gone, or nothing.
+fn gone_of(alloc: Global, matches: &ArgMatches) -> Result<Option<String>, AllocError>
+    ensures { IfOk result (λ text. first_value (found_of matches.now) (codes "without")
+        ≡ option_map string_bytes text) }
+{
+    let Some(text) = matches.get_str("without") else {
+        return Ok(None);
+    };
+    Ok(Some(String::from_str(alloc, text)?))
+}
+
+/// The least number k that is asked for, or nothing.
+fn least_number_of(matches: &ArgMatches) -> Result<Option<u32>, ArgumentsFault>
+    ensures given { IfOk result
+        (λ k. least_asked (first_value (found_of matches.now) (codes "at-least")) ≡ Some k) }
+    ensures bad { IsErrOf result BadArguments
+        → (least_asked (first_value (found_of matches.now) (codes "at-least")) ≡ None) }
+{
+    let Some(text) = matches.get_str("at-least") else {
+        return Ok(None);
+    };
+    let Some(least) = read_least(text) else {
+        return Err(ArgumentsFault::BadArguments);
+    };
+    Ok(Some(least))
+}
+
+/// The least number k that a text spells: from 0 to 1,023.
+pub(crate) fn read_least(text: &str) -> Option<u32>
+    ensures { result ≡ least_of text.now }
+{
+    let number = read_number(text.as_bytes())?;
+    if number <= LARGEST_K {
+        return u32::try_from(number).ok();
+    }
+    None
 }
 
 /// The number of workers that is given, or one.

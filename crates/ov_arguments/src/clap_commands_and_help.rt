@@ -60,6 +60,7 @@ const ANALYSE_EXAMPLES: &str = "\
 Examples:
   overlay analyse net.graph
   overlay analyse net.graph --group 1,2,3 --workers 4
+  overlay analyse net.graph --without 4 --at-least 2
   overlay analyse net.graph --names --explain
   overlay analyse net.graph --certificate | tail -1 | overlay-check";
 
@@ -69,7 +70,11 @@ const ABOUT_ANALYSE: &str = "Reads a graph file, and prints how few crashes spli
 const GRAPH_FILE: &str = "The graph file; standard input without it, or with -";
 
 const GROUP: &str =
-    "For these nodes alone: ids, or names beside --names, with one comma between two";
+    "For these nodes alone: ids, or names beside --names, with one comma between two; or @FILE";
+
+const WITHOUT: &str = "Without these nodes and their links, given as for --group";
+
+const AT_LEAST: &str = "Has status 3 if k is below this number, or there is no answer";
 
 const WORKERS: &str = "With 1 to 64 workers, and with one without it";
 
@@ -200,6 +205,8 @@ fn analyse_command<'a>(alloc: Global) -> Result<Command<'a>, AllocError>
 {
     let options = [
         option("group", GROUP),
+        option("without", WITHOUT),
+        option("at-least", AT_LEAST),
         option("workers", WORKERS),
         flag("certificate", CERTIFICATE),
         flag("names", NAMES),

@@ -1,3 +1,4 @@
+use crate::arguments::{is_read_later, read_least};
 use crate::certificate_option_tip::certificate_tip;
 use crate::clap_commands_and_help::command;
 use crate::grow_and_sweep_clap_commands::command_tree;
@@ -18,8 +19,10 @@ const HELP: &str = "help";
 /// What is printed of arguments of which one is no text, so that `clap` does not see them.
 const NO_TEXT: &str = "error: an argument is no UTF-8 text\n";
 
-/// What the texts of `--group` and `--workers` must be. `clap` takes any text; the two are read here.
+/// What the texts of `--group`, `--at-least` and `--workers` must be. `clap` takes any text; they are read here.
 const GROUP: &str = "ids from 0 to 4294967295, with one comma between two, or names beside --names";
+
+const LEAST: &str = "a number from 0 to 1023";
 
 const WORKERS: &str = "a number from 1 to 64";
 
@@ -99,12 +102,18 @@ fn text_reason(alloc: Global, matches: &ArgMatches) -> Result<String, OutOfMemor
     }
 }
 
-/// What is wrong with the text of `--group` or of `--workers`.
+/// What is wrong with the text of `--group`, of `--at-least` or of `--workers`.
 fn analysis_reason(alloc: Global, found: &ArgMatches) -> Result<String, OutOfMemory> {
     let mut reason = String::new(alloc);
     if let Some(text) = ids_asked(found) {
         if read_ids(alloc, text.as_bytes())?.is_none() {
             push_bad_text(&mut reason, "group", text, GROUP)?;
+            return Ok(reason);
+        }
+    }
+    if let Some(text) = found.get_str("at-least") {
+        if read_least(text).is_none() {
+            push_bad_text(&mut reason, "at-least", text, LEAST)?;
             return Ok(reason);
         }
     }
@@ -128,12 +137,13 @@ fn picture_reason(alloc: Global, found: &ArgMatches) -> Result<String, OutOfMemo
     Ok(reason)
 }
 
-/// The text of the ids of a group. Beside `--names` there is none, since names may be any text.
+/// The text of the ids of a group. A list that is read later is none.
 fn ids_asked<'a>(found: &'a ArgMatches<'_>) -> Option<&'a str> {
-    if found.get_str("names") == Some("true") {
+    let text = found.get_str("group")?;
+    if is_read_later(found.get_str("names") == Some("true"), text) {
         return None;
     }
-    found.get_str("group")
+    Some(text)
 }
 
 /// Appends that an option takes something other than this text, in the form of `clap`, and which comma of it is one too

@@ -1,7 +1,7 @@
 -- Entries that are cut into parts, and the room that a part needs.
 use Rattle.std.proofs.Common.{◌≡◌, ◌∙◌, ℕ, zero, suc, ◌+◌, ◌-◌, ◌*◌, ◌<◌, ◌≤◌, Bool, true, ◌||◌, nat_lt, List}
-use Rattle.std.proofs.Common.{[], ◌∷◌, ◌++◌, take, drop, refl, sym, ap, arith, append_assoc, append-nil}
-use Rattle.std.proofs.lemmas.List.{drop-drop}
+use Rattle.std.proofs.Common.{[], ◌∷◌, ◌++◌, take, drop, length, refl, sym, ap, subst, arith, append_assoc, append-nil}
+use Rattle.std.proofs.lemmas.List.{drop-drop, length-drop}
 use Rattle.std.proofs.lemmas.Grind.{common_steps}
 use Rattle.serde_json.specs.Data.{Data}
 use Rattle.serde_json.specs.Written.{comma_if, compact_text}
@@ -86,3 +86,28 @@ part_fits paths_of room (suc size) (x ∷ xs) h =
     let rest = part_fits paths_of room size xs h.1 in
     let e : suc size * room ≡ size * room + room = omega arith in
     omega (arith, rest, h.0, e)
+
+within_joined : {X : Type 0} (paths_of : X → List (List ℕ)) (room n : ℕ) (xs : List X)
+    → AreWithin paths_of room (take n xs) → AreWithin paths_of room (drop n xs) → AreWithin paths_of room xs
+within_joined paths_of room zero xs first rest = rest
+within_joined paths_of room (suc n) [] first rest = tt
+within_joined paths_of room (suc n) (x ∷ xs) first rest =
+    (first.0, within_joined paths_of room n xs first.1 rest)
+
+-- what each part is within, all entries are within, if they are no more than the parts take
+pub parts_within : {X : Type 0} (paths_of : X → List (List ℕ)) (room size count : ℕ) (xs : List X)
+    → ((place : ℕ) → place < count → AreWithin paths_of room (take size (drop (place * size) xs)))
+    → length xs ≤ count * size → AreWithin paths_of room xs
+parts_within paths_of room size zero [] parts enough = tt
+parts_within paths_of room size zero (x ∷ xs) parts enough = absurd (omega (arith, enough))
+parts_within paths_of room size (suc count) xs parts enough =
+    let none : 0 * size ≡ 0 = omega arith in
+    let first = subst (λ (m : ℕ). AreWithin paths_of room (take size (drop m xs))) none (parts 0 (omega arith)) in
+    let rest = parts_within paths_of room size count (drop size xs)
+    (λ place low.
+    let is : (place + 1) * size ≡ size + place * size = omega arith in
+    subst (λ ys. AreWithin paths_of room (take size ys))
+    (ap (λ (m : ℕ). drop m xs) is ∙ sym (drop-drop (place * size) size xs)) (parts (place + 1) (omega (arith, low))))
+    (let all : suc count * size ≡ size + count * size = omega arith in
+    omega (arith, enough, all, length-drop size xs)) in
+    within_joined paths_of room size xs first rest

@@ -17,7 +17,7 @@ use Rattle.ov_certfile.specs.declared.version.Version.{Version}
 use Rattle.ov_certfile.specs.declared.version.Version.TheVariants.{One, Two}
 use Rattle.ov_certfile.specs.declared.linked_or_split.Verdict.TheVariants.{Split as VerdictSplit}
 use Rattle.ov_certwriter.specs.Code.Blocks.{items_after}
-use Rattle.ov_certwriter.specs.Code.Parts.{without_entries, cut_text, text_of_parts, ArePartsOf}
+use Rattle.ov_certwriter.specs.Code.Parts.{without_entries, cut_text, ArePartsOf}
 use Rattle.ov_certwriter.proofs.PutTexts.{items_closed}
 
 -- ---- the members of the file

@@ -1,31 +1,37 @@
 -- Texts that are put one behind another into memory that is there.
-use Rattle.std.proofs.Common.{◌≡◌, ◌∙◌, ℕ, ◌+◌, ◌≤◌, Bool, true, false, List, [], ◌∷◌, ◌++◌, length, map, codes}
-use Rattle.std.proofs.Common.{refl, sym, ap, subst, arith, append_assoc, append-nil, length-append}
+use Rattle.std.proofs.Common.{◌≡◌, ◌∙◌, ℕ, ◌+◌, ◌≤◌, ◌<◌, Bool, true, false, List, [], ◌∷◌, ◌++◌, length, map, codes}
+use Rattle.std.proofs.Common.{take, set, refl, sym, ap, subst, arith, append_assoc, append-nil, length-append, length-set}
+use Rattle.std.proofs.lemmas.List.{take_more_set}
 use Rattle.serde_json.specs.Data.{Data}
 use Rattle.serde_json.specs.View.{items_of}
 use Rattle.serde_json.specs.Written.{comma_if, compact_text, items_text}
 use Rattle.ov_certfile.specs.DataOf.{list_data}
 use Rattle.ov_certwriter.specs.Code.Blocks.{Puts, items_after}
 
-pub puts_nothing : (old : List ℕ) (room : ℕ) → Puts [] old room old room
-puts_nothing old room = record { kept = omega arith; fits = λ h. sym (append-nil old) }
+pub puts_nothing : (old : List ℕ) (at : ℕ) → Puts [] old at old at
+puts_nothing old at = record { kept = refl; fits = λ h. (omega arith, sym (append-nil (take at old))) }
+
+-- a byte
+pub puts_byte : (byte : ℕ) (old : List ℕ) (at : ℕ) → at < length old → Puts (byte ∷ []) old at (set old at byte) (at + 1)
+puts_byte byte old at low = record { kept = length-set old at byte; fits = λ h. (refl, take_more_set old at byte low) }
 
 -- a text, and then another
-pub puts_then : (s t old mid new : List ℕ) (room mid_room new_room : ℕ) → Puts s old room mid mid_room
-    → Puts t mid mid_room new new_room → Puts (s ++ t) old room new new_room
-puts_then s t old mid new room mid_room new_room p q = record {
-  kept = omega (arith, p.kept, q.kept);
+pub puts_then : (s t old mid new : List ℕ) (at mid_at end : ℕ) → Puts s old at mid mid_at → Puts t mid mid_at new end
+    → Puts (s ++ t) old at new end
+puts_then s t old mid new at mid_at end p q = record {
+  kept = q.kept ∙ p.kept;
   fits = λ h.
       let long = length-append s t in
       let first = p.fits (omega (arith, h, long)) in
-      let second = q.fits (omega (arith, h, long, p.kept, ap length first, length-append old s)) in
-      second ∙ ap (λ l. l ++ t) first ∙ append_assoc old s t;
+      let second = q.fits (omega (arith, h, long, p.kept, first.0)) in (
+        omega (arith, first.0, second.0, long),
+        second.1 ∙ ap (λ l. l ++ t) first.1 ∙ append_assoc (take at old) s t,
+      );
 }
 
 -- the same text, written otherwise
-pub puts_same : (s t old new : List ℕ) (room new_room : ℕ) → s ≡ t → Puts s old room new new_room
-    → Puts t old room new new_room
-puts_same s t old new room new_room e p = subst (λ l. Puts l old room new new_room) e p
+pub puts_same : (s t old new : List ℕ) (at end : ℕ) → s ≡ t → Puts s old at new end → Puts t old at new end
+puts_same s t old new at end e p = subst (λ l. Puts l old at new end) e p
 
 -- ---- lists
 
@@ -52,19 +58,18 @@ item_more as_data x rest later done all h =
 
 -- where none is left, all items were put between the brackets
 pub list_put : {X : Type 0} (as_data : X → Data) (xs left : List X) (later : Bool)
-    (done old opened begun new : List ℕ) (room opened_room begun_room new_room : ℕ) → left ≡ []
-    → Puts (91 ∷ []) old room opened opened_room → Puts done opened opened_room begun begun_room
-    → done ++ items_after as_data later left ≡ items_after as_data false xs
-    → Puts (93 ∷ []) begun begun_room new new_room
-    → Puts (compact_text (list_data as_data xs)) old room new new_room
-list_put as_data xs left later done old opened begun new room opened_room begun_room new_room none p q h r =
+    (done old opened begun new : List ℕ) (at opened_at begun_at end : ℕ) → left ≡ []
+    → Puts (91 ∷ []) old at opened opened_at → Puts done opened opened_at begun begun_at
+    → done ++ items_after as_data later left ≡ items_after as_data false xs → Puts (93 ∷ []) begun begun_at new end
+    → Puts (compact_text (list_data as_data xs)) old at new end
+list_put as_data xs left later done old opened begun new at opened_at begun_at end none p q h r =
     let all : done ≡ items_after as_data false xs =
     sym (append-nil done) ∙ ap (λ ys. done ++ items_after as_data later ys) (sym none) ∙ h in
-    let whole = puts_then (91 ∷ []) (done ++ 93 ∷ []) old opened new room opened_room new_room p
-    (puts_then done (93 ∷ []) opened begun new opened_room begun_room new_room q r) in
+    let whole = puts_then (91 ∷ []) (done ++ 93 ∷ []) old opened new at opened_at end p
+    (puts_then done (93 ∷ []) opened begun new opened_at begun_at end q r) in
     let is : 91 ∷ (done ++ 93 ∷ []) ≡ compact_text (list_data as_data xs) =
     ap (λ l. 91 ∷ l) (ap (λ d. d ++ codes "]") all ∙ items_closed as_data false xs) in
-    puts_same _ _ old new room new_room is whole
+    puts_same _ _ old new at end is whole
 
 comma_short : (later : Bool) → length (comma_if later) ≤ 1
 comma_short true = omega arith

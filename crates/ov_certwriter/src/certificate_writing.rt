@@ -10,7 +10,7 @@ ghost use Rattle.ov_certwriter.specs.Number.{writing_number};
 ghost use Rattle.ov_certwriter.specs.Code.Blocks.{AreWithin};
 ghost use Rattle.ov_certwriter.specs.Code.Parts.{text_of_parts};
 
-use crate::entry_blocks::{Blocks, write_entries};
+use crate::entry_blocks::{BlockSets, write_entries};
 use crate::entry_rooms::largest_room;
 use crate::text_around_entries::Parts;
 use crate::writing_fault::WritingFault;
@@ -24,7 +24,7 @@ use std::io::Write;
 use std::thread::Threads;
 
 /// About as many bytes a block has room for. A text takes about a third of its room.
-const BLOCK_BYTES: usize = 1 << 22;
+const BLOCK_BYTES: usize = 1 << 21;
 
 /// How much room entries need at least before one more thread saves time.
 const ROOM_WORTH_A_THREAD: u64 = 1 << 20;
@@ -55,63 +55,14 @@ pub fn write_certificate<R: Threads + Sync, W: Write>(
     ensures memory { IsErrOf result WritingFault.OutOfMemory → sink.new ≡ sink.old }
     ensures faults { sink.new.faults ≡ sink.old.faults + write_faults writing_number result }
 {
-    match cert {
-        Cert::Linked { .. } => write_linked(alloc, front, cert, graph, group, moment, sink),
-        Cert::Split(split) => write_split(
-            rt, alloc, workers, front, split, graph, group, moment, sink,
-        ),
-    }
-}
-
-/// Writes a file that is held whole: one without entries is short.
-fn write_linked<W: Write>(
-    alloc: Global,
-    front: &[u8],
-    cert: &Cert,
-    graph: &Graph,
-    group: &[NodeId],
-    moment: u32,
-    sink: &mut Sink<W>,
-) -> Result<(), WritingFault>
-    requires moment { moment ≤ last_moment }
-    requires faults { sink.old.faults < most_faults }
-    ensures text { OnOk result (Appends (W.contents sink.old.writer) (W.contents sink.new.writer)
-        (front.now ++ compact_text (data_of cert.now graph.now group.now moment))) }
-    ensures prefix { AppendsPrefixOf (front.now ++ compact_text (data_of cert.now graph.now group.now moment))
-        (W.contents sink.old.writer) (W.contents sink.new.writer) }
-    ensures memory { IsErrOf result WritingFault.OutOfMemory → sink.new ≡ sink.old }
-    ensures faults { sink.new.faults ≡ sink.old.faults + write_faults writing_number result }
-{
-    let text = to_text_group(alloc, cert, graph, group, moment)?;
-    sink.write_all(front)?;
-    sink.write_all(text.as_bytes())?;
-    Ok(())
-}
-
-/// Writes a file with verdict split.
-fn write_split<R: Threads + Sync, W: Write>(
-    rt: &R,
-    alloc: Global,
-    workers: Workers,
-    front: &[u8],
-    split: &Split,
-    graph: &Graph,
-    group: &[NodeId],
-    moment: u32,
-    sink: &mut Sink<W>,
-) -> Result<(), WritingFault>
-    requires moment { moment ≤ last_moment }
-    requires faults { sink.old.faults < most_faults }
-    ensures text { OnOk result (Appends (W.contents sink.old.writer) (W.contents sink.new.writer)
-        (front.now ++ compact_text (data_of (cert.Split split.now) graph.now group.now moment))) }
-    ensures prefix { AppendsPrefixOf
-        (front.now ++ compact_text (data_of (cert.Split split.now) graph.now group.now moment))
-        (W.contents sink.old.writer) (W.contents sink.new.writer) }
-    ensures memory { IsErrOf result WritingFault.OutOfMemory → sink.new ≡ sink.old }
-    ensures faults { sink.new.faults ≡ sink.old.faults + write_faults writing_number result }
-{
+    let Cert::Split(split) = cert else {
+        let text = to_text_group(alloc, cert, graph, group, moment)?;
+        sink.write_all(front)?;
+        sink.write_all(text.as_bytes())?;
+        return Ok(());
+    };
     let parts = Parts::of(alloc, split, graph, group, moment)?;
-    let mut blocks = blocks_for(alloc, workers, split)?;
+    let mut blocks = blocks_for(rt, alloc, workers, split)?;
     sink.write_all(front)?;
     write_parts(rt, sink, &mut blocks, split, &parts)?;
     Ok(())
@@ -121,12 +72,12 @@ fn write_split<R: Threads + Sync, W: Write>(
 fn write_parts<R: Threads + Sync, W: Write>(
     rt: &R,
     sink: &mut Sink<W>,
-    blocks: &mut Blocks,
+    blocks: &mut BlockSets,
     split: &Split,
     parts: &Parts,
 ) -> Result<(), WriteFault>
-    requires fans { AreWithin (λ e. e.paths) blocks.old.room split.now.fans }
-    requires pairs { AreWithin (λ e. e.paths) blocks.old.room split.now.pairs }
+    requires fans { AreWithin (λ e. e.paths) blocks.old.full.room split.now.fans }
+    requires pairs { AreWithin (λ e. e.paths) blocks.old.full.room split.now.pairs }
     requires faults { sink.old.faults < most_faults }
     ensures bytes { OnOk result (Appends (W.contents sink.old.writer) (W.contents sink.new.writer)
         (text_of_parts split.now parts.now)) }
@@ -143,16 +94,23 @@ fn write_parts<R: Threads + Sync, W: Write>(
 }
 
 /// The blocks for the entries of a certificate: one for each worker who saves time.
-fn blocks_for(alloc: Global, workers: Workers, split: &Split) -> Result<Blocks, OutOfMemory>
-    ensures fans { IfOk result (λ b. AreWithin (λ e. e.paths) b.room split.now.fans) }
-    ensures pairs { IfOk result (λ b. AreWithin (λ e. e.paths) b.room split.now.pairs) }
+fn blocks_for<R: Threads + Sync>(
+    rt: &R,
+    alloc: Global,
+    workers: Workers,
+    split: &Split,
+) -> Result<BlockSets, OutOfMemory>
+    ensures fans { IfOk result (λ b. AreWithin (λ e. e.paths) b.full.room split.now.fans) }
+    ensures pairs { IfOk result (λ b. AreWithin (λ e. e.paths) b.full.room split.now.pairs) }
 {
     let (fans, pairs) = (split.fans.as_slice(), split.pairs.as_slice());
-    let room = largest_room(fans).max(largest_room(pairs));
+    let fan_room = largest_room(rt, alloc, workers, fans)?;
+    let pair_room = largest_room(rt, alloc, workers, pairs)?;
+    let room = fan_room.max(pair_room);
     let entries = fans.len().max(pairs.len());
     let count = block_count(workers, entries, room);
     let size = block_size(entries, count, room);
-    Ok(Blocks::new(alloc, count, size, room)?)
+    Ok(BlockSets::new(alloc, count, size, room)?)
 }
 
 /// How many blocks there are for so many entries of this room.

@@ -1,6 +1,6 @@
 //! The texts of the entries of a certificate, put into memory that is there already, as `reserved_memory` does it. An
 //! entry's room is the most bytes that its text needs.
-ghost use Rattle.std.specs.Prelude.{◌≡◌, ◌≤◌, ◌+◌, ◌*◌, length, vec_capacity};
+ghost use Rattle.std.specs.Prelude.{◌≡◌, ◌≤◌, ◌+◌, ◌*◌, length};
 ghost use Rattle.serde_json.specs.Written.{compact_text};
 ghost use Rattle.ov_certfile.specs.DataOf.{ids_data, paths_data, pair_data, fan_data};
 ghost use Rattle.ov_certwriter.specs.Code.Blocks.{Puts, texts_room, entry_room};
@@ -11,7 +11,7 @@ use ov_ids::NodeId;
 
 /// An entry of a certificate, a pair or a fan.
 pub(crate) trait Entry: Sync {
-    ghost use Rattle.std.specs.Prelude.{◌≡◌, ◌<◌, List, ℕ, length, vec_capacity};
+    ghost use Rattle.std.specs.Prelude.{◌≡◌, ◌<◌, List, ℕ, length};
     ghost use Rattle.serde_json.specs.Data.{Data};
     ghost use Rattle.serde_json.specs.Written.{compact_text};
     ghost use Rattle.ov_certwriter.specs.Code.Blocks.{Puts, entry_room};
@@ -24,10 +24,9 @@ pub(crate) trait Entry: Sync {
     fn paths(&self) -> &Paths
         ensures { result.now ≡ paths_of self.now };
 
-    /// Puts the entry. It needs less than its room.
-    fn put_into(&self, out: &mut Vec<u8>)
-        ensures text { Puts (compact_text (as_data self.now)) out.old.items (vec_capacity out.old)
-            out.new.items (vec_capacity out.new) }
+    /// Puts the entry at a place. It needs less than its room.
+    fn put_into(&self, out: &mut [u8], at: usize) -> usize
+        ensures text { Puts (compact_text (as_data self.now)) out.old at out.new result }
         ensures short { length (compact_text (as_data self.now)) < entry_room (paths_of self.now) };
 }
 
@@ -42,8 +41,8 @@ impl Entry for PairPaths {
         &self.paths
     }
 
-    fn put_into(&self, out: &mut Vec<u8>) {
-        put_pair(out, self)
+    fn put_into(&self, out: &mut [u8], at: usize) -> usize {
+        put_pair(out, at, self)
     }
 }
 
@@ -58,67 +57,63 @@ impl Entry for FanPaths {
         &self.paths
     }
 
-    fn put_into(&self, out: &mut Vec<u8>) {
-        put_fan(out, self)
+    fn put_into(&self, out: &mut [u8], at: usize) -> usize {
+        put_fan(out, at, self)
     }
 }
 
 /// Puts the entry of a pair.
-fn put_pair(out: &mut Vec<u8>, entry: &PairPaths)
-    ensures text { Puts (compact_text (pair_data entry.now)) out.old.items (vec_capacity out.old)
-        out.new.items (vec_capacity out.new) }
+fn put_pair(out: &mut [u8], at: usize, entry: &PairPaths) -> usize
+    ensures text { Puts (compact_text (pair_data entry.now)) out.old at out.new result }
     ensures short { length (compact_text (pair_data entry.now)) + 1 ≤ entry_room entry.now.paths }
 {
-    put_text(out, "{\"i\":");
-    put_whole(out, entry.i.number());
-    put_text(out, ",\"j\":");
-    put_whole(out, entry.j.number());
-    put_text(out, ",\"paths\":");
-    put_paths(out, &entry.paths);
-    put_byte(out, b'}');
+    let i_at = put_text(out, at, "{\"i\":");
+    let behind_i = put_whole(out, i_at, entry.i.number());
+    let j_at = put_text(out, behind_i, ",\"j\":");
+    let behind_j = put_whole(out, j_at, entry.j.number());
+    let paths_at = put_text(out, behind_j, ",\"paths\":");
+    let behind_paths = put_paths(out, paths_at, &entry.paths);
+    put_byte(out, behind_paths, b'}')
 }
 
 /// Puts the entry of a fan.
-fn put_fan(out: &mut Vec<u8>, entry: &FanPaths)
-    ensures text { Puts (compact_text (fan_data entry.now)) out.old.items (vec_capacity out.old)
-        out.new.items (vec_capacity out.new) }
+fn put_fan(out: &mut [u8], at: usize, entry: &FanPaths) -> usize
+    ensures text { Puts (compact_text (fan_data entry.now)) out.old at out.new result }
     ensures short { length (compact_text (fan_data entry.now)) + 1 ≤ entry_room entry.now.paths }
 {
-    put_text(out, "{\"j\":");
-    put_whole(out, entry.j.number());
-    put_text(out, ",\"paths\":");
-    put_paths(out, &entry.paths);
-    put_byte(out, b'}');
+    let j_at = put_text(out, at, "{\"j\":");
+    let behind_j = put_whole(out, j_at, entry.j.number());
+    let paths_at = put_text(out, behind_j, ",\"paths\":");
+    let behind_paths = put_paths(out, paths_at, &entry.paths);
+    put_byte(out, behind_paths, b'}')
 }
 
 /// Puts the array of these paths.
-fn put_paths(out: &mut Vec<u8>, paths: &Paths)
-    ensures text { Puts (compact_text (paths_data paths.now)) out.old.items (vec_capacity out.old)
-        out.new.items (vec_capacity out.new) }
+fn put_paths(out: &mut [u8], at: usize, paths: &Paths) -> usize
+    ensures text { Puts (compact_text (paths_data paths.now)) out.old at out.new result }
     ensures short { length (compact_text (paths_data paths.now)) ≤ 2 + texts_room paths.now }
 {
-    put_byte(out, b'[');
+    let mut end = put_byte(out, at, b'[');
     let mut later = false;
     for path in paths.iter() {
-        put_comma(out, later);
-        put_ids(out, path);
+        let path_at = put_comma(out, end, later);
+        end = put_ids(out, path_at, path);
         later = true;
     }
-    put_byte(out, b']');
+    put_byte(out, end, b']')
 }
 
 /// Puts the array of these ids.
-pub(crate) fn put_ids(out: &mut Vec<u8>, ids: &[NodeId])
-    ensures text { Puts (compact_text (ids_data ids.now)) out.old.items (vec_capacity out.old)
-        out.new.items (vec_capacity out.new) }
+pub(crate) fn put_ids(out: &mut [u8], at: usize, ids: &[NodeId]) -> usize
+    ensures text { Puts (compact_text (ids_data ids.now)) out.old at out.new result }
     ensures short { length (compact_text (ids_data ids.now)) ≤ 11 * length ids.now + 2 }
 {
-    put_byte(out, b'[');
+    let mut end = put_byte(out, at, b'[');
     let mut later = false;
     for id in ids {
-        put_comma(out, later);
-        put_whole(out, id.number());
+        let id_at = put_comma(out, end, later);
+        end = put_whole(out, id_at, id.number());
         later = true;
     }
-    put_byte(out, b']');
+    put_byte(out, end, b']')
 }

@@ -116,7 +116,6 @@ fn ids_length(alloc: Global, ids: &[NodeId]) -> Result<usize, OutOfMemory>
     ensures { IfOk result (λ n. n ≡ length (compact_text (ids_data ids.now))) }
 {
     let room = ids.len().saturating_mul(11).saturating_add(2);
-    let mut text = Vec::with_capacity(alloc, room)?;
-    put_ids(&mut text, ids);
-    Ok(text.len())
+    let mut text = vec![in alloc; 0; room]?;
+    Ok(put_ids(&mut text, 0, ids))
 }

@@ -1,6 +1,7 @@
 -- With which status the program ends after what a command did.
-use Rattle.std.specs.Prelude.{◌≡◌, ℕ, Result, Ok, Err}
+use Rattle.std.specs.Prelude.{◌≡◌, ◌⊎◌, ℕ, nat_lt, Option, Some, None, Result, Ok, Err, if◌then◌else◌}
 use Rattle.ov_answers.specs.declared.report_or_refusal.Answered.{Answered}
+use Rattle.ov_answers.specs.declared.report_or_refusal.Answered.TheVariants.{Report, NoNodes, BadGroup}
 use Rattle.ov_run_meaning.specs.declared.run_fault.RunFault.{RunFault}
 use Rattle.ov_commands.specs.declared.command_fault.CommandFault.{CommandFault}
 use Rattle.ov_commands.specs.declared.command_fault.CommandFault.TheVariants.{OfFile, Run}
@@ -15,12 +16,25 @@ command_status (Err fault) = Err (OfFile fault)
 abbrev pub HasDone : (Result (Unit {0}) FileCommandFault → Type 0) → Result ℕ CommandFault → Type 0
 HasDone Does result = (done : Result (Unit {0}) FileCommandFault) × Does done × (result ≡ command_status done)
 
--- what the program returns after an analysis: status 0 if it was answered, by a refusal of the analysis too; or its
--- fault
-abbrev pub analysis_status : Result Answered RunFault → Result ℕ CommandFault
-analysis_status (Ok answered) = Ok 0
-analysis_status (Err fault) = Err (Run fault)
+-- the status of an analysis that had no fault. If a least number is asked for, it is 3 where the answer's number k is
+-- below that, and where there is no answer, since the analysis is refused; otherwise it is 0
+abbrev pub alarm_status : Option ℕ → Answered → ℕ
+alarm_status None answered = 0
+alarm_status (Some least) (Report k) = if nat_lt k least then 3 else 0
+alarm_status (Some least) NoNodes = 3
+alarm_status (Some least) BadGroup = 3
+
+-- a status with which an analysis may end that had no fault: 0, or 3 too if a least number is asked for
+abbrev pub IsAlarmStatus : Option ℕ → ℕ → Type 0
+IsAlarmStatus None status = status ≡ 0
+IsAlarmStatus (Some least) status = (status ≡ 0) ⊎ (status ≡ 3)
+
+-- what the program returns after an analysis, if this least number is asked for: the status, or its fault
+abbrev pub analysis_status : Option ℕ → Result Answered RunFault → Result ℕ CommandFault
+analysis_status least (Ok answered) = Ok (alarm_status least answered)
+analysis_status least (Err fault) = Err (Run fault)
 
 -- this is what the program returns after an analysis that came to this
-abbrev pub HasAnalysed : (Result Answered RunFault → Type 0) → Result ℕ CommandFault → Type 0
-HasAnalysed Gives result = (answer : Result Answered RunFault) × Gives answer × (result ≡ analysis_status answer)
+abbrev pub HasAnalysed : Option ℕ → (Result Answered RunFault → Type 0) → Result ℕ CommandFault → Type 0
+HasAnalysed least Gives result =
+    (answer : Result Answered RunFault) × Gives answer × (result ≡ analysis_status least answer)

@@ -1,11 +1,13 @@
 ghost use Rattle.std.specs.Prelude.{◌≡◌, ◌<◌, option_map, Some, IfOk};
 ghost use Rattle.ov_io.specs.Device.{most_faults};
 ghost use Rattle.ov_answers.specs.Analysing.{IsAnalysisOf};
-ghost use Rattle.ov_commands.specs.Statuses.{HasAnalysed, analysis_status};
+ghost use Rattle.ov_commands.specs.Statuses.{HasAnalysed, IsAlarmStatus, analysis_status};
 
 use crate::analyse_in_names_or_words::analyse_in_words;
 use crate::analysis_progress::PieceProgress;
 use crate::command_fault::CommandFault;
+use crate::least_number_alarm::alarm_status;
+use crate::node_lists::lists_of;
 use ov_answers::{Answered, analyse_bytes};
 use ov_arguments::AnalysisRequest;
 use ov_ids::NodeId;
@@ -19,19 +21,29 @@ use ov_run_meaning::RunFault;
 use std::io::{Read, Write};
 use std::thread::Threads;
 
-/// Analyses the graph of a file, or of standard input.
+/// Analyses the graph of a file, or of standard input. The status is 3 if a least number is asked for and the answer is
+/// below it, or there is none.
 pub fn analyse_asked<T: Threads + Sync>(
     rt: &HostRuntime,
     threads: &T,
     file: Option<String>,
     analysis: &AnalysisRequest,
 ) -> Result<u8, CommandFault>
-    ensures status { IfOk result (λ status. status ≡ 0) }
+    ensures status { IfOk result (IsAlarmStatus analysis.now.at_least) }
 {
     let mut sink = Sink::new(rt.stdout());
-    if analysis.names || analysis.explain {
+    let lists = lists_of(rt, analysis)?;
+    if analysis.names || analysis.explain || !lists.is_empty() {
         let bytes = bytes_asked(rt, file.as_deref())?;
-        return analyse_in_words(rt, threads, &bytes, &mut sink, file.as_deref(), analysis);
+        return analyse_in_words(
+            rt,
+            threads,
+            &bytes,
+            &lists,
+            &mut sink,
+            file.as_deref(),
+            analysis,
+        );
     }
     match file.as_deref() {
         None => analyse_from(rt, threads, rt.stdin(), &mut sink, None, analysis),
@@ -58,21 +70,25 @@ fn analyse_from<T: Threads + Sync, R: Read + Drop, W: Write>(
     analysis: &AnalysisRequest,
 ) -> Result<u8, CommandFault>
     requires { sink.old.faults < most_faults }
-    ensures analysis { HasAnalysed (IsAnalysisOf (R.remaining reader) W.contents sink.old
+    ensures analysis { HasAnalysed analysis.now.at_least (IsAnalysisOf (R.remaining reader) W.contents sink.old
         (option_map (λ ids. ids.items) analysis.now.group) analysis.now.certificate sink.new) result }
-    ensures status { IfOk result (λ status. status ≡ 0) }
+    ensures status { IfOk result (IsAlarmStatus analysis.now.at_least) }
 {
     let answer = answer_from(rt, threads, reader, sink, file, analysis);
-    status_of_analysis(answer)
+    status_of_analysis(rt, analysis.at_least, answer)
 }
 
-/// What the program returns after an analysis: status 0 if it was answered, by a refusal too; or its fault.
-fn status_of_analysis(answer: Result<Answered, RunFault>) -> Result<u8, CommandFault>
-    ensures returned { result ≡ analysis_status answer }
-    ensures status { IfOk result (λ status. status ≡ 0) }
+/// What the program returns after an analysis: its status if it was answered, by a refusal too; or its fault.
+fn status_of_analysis(
+    rt: &HostRuntime,
+    least: Option<u32>,
+    answer: Result<Answered, RunFault>,
+) -> Result<u8, CommandFault>
+    ensures returned { result ≡ analysis_status least answer }
+    ensures status { IfOk result (IsAlarmStatus least) }
 {
     match answer {
-        Ok(_) => Ok(0),
+        Ok(answered) => Ok(alarm_status(rt, least, answered)),
         Err(fault) => Err(CommandFault::Run(fault)),
     }
 }
@@ -120,7 +136,7 @@ fn analyse_told<T: Threads + Sync, W: Write>(
         &mut progress,
     );
     match &answer {
-        Ok(Answered::Report) => {}
+        Ok(Answered::Report { .. }) => {}
         Ok(Answered::NoNodes | Answered::BadGroup) => {
             print_refusal(rt, bytes, analysis.group.as_deref());
         }

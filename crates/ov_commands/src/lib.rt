@@ -12,6 +12,9 @@ mod existing_entries_tip;
 mod file_conversion_commands;
 mod file_instead_of_command_tip;
 mod import_command;
+mod least_number_alarm;
+mod listed_nodes;
+mod node_lists;
 mod picture_printing;
 
 pub use analyse_command::analyse_asked;

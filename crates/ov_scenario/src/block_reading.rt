@@ -1,7 +1,8 @@
-ghost use Rattle.std.specs.Prelude.{◌≡◌, ◌∷◌, ◌++◌, [], true, false, IfOk};
+ghost use Rattle.std.specs.Prelude.{◌≡◌, ◌∷◌, ◌++◌, [], true, false, None, IfOk, OnOk};
 ghost use Rattle.ov_scenario.specs.RunLines.{outside_blocks};
 ghost use Rattle.ov_scenario.specs.Statements.{told};
-ghost use Rattle.ov_scenario.specs.Code.RunnableLines.{AreReadable, TakesPart, block_to_run, stream_now, to_run};
+ghost use Rattle.ov_scenario.specs.Code.RunnableLines.{AreReadable, TakesIn, TakesPart, block_to_run, stream_now};
+ghost use Rattle.ov_scenario.specs.Code.RunnableLines.{to_run};
 ghost use Rattle.ov_scenario.specs.declared.scenario.Line.TheVariants as line;
 
 use crate::event_words_reading::GivenWords;
@@ -27,6 +28,80 @@ pub(crate) enum Part {
     Nothing,
 }
 
+/// A block of sections as far as it is read.
+#[derive(Drop)]
+struct BlockSoFar<'a> {
+    /// The sections that have ended.
+    ended: Vec<Seq<SectionLine<'a>>>,
+    /// The lines of the section that has not.
+    held: Vec<SectionLine<'a>>,
+    /// The random words that wait for the next line.
+    given: Option<GivenWords<'a>>,
+}
+
+impl<'a> BlockSoFar<'a> {
+    /// No line is read. Nothing is allocated.
+    fn new(alloc: Global) -> BlockSoFar<'a>
+        ensures ended { result.ended.items ≡ [] }
+        ensures held { result.held.items ≡ [] }
+        ensures given { result.given ≡ None }
+    {
+        BlockSoFar {
+            ended: Vec::new(alloc),
+            held: Vec::new(alloc),
+            given: None,
+        }
+    }
+
+    /// Takes in the next line. Whether it ends the block, and with it the last section.
+    fn take(
+        &mut self,
+        alloc: Global,
+        line: KeptLine<'a>,
+        draws: &mut SeedWords,
+    ) -> Result<bool, OutOfMemory>
+        ensures { IfOk result (λ is_last. TakesIn (stream_now draws.old) self.old (line.entry.number, line.entry.text.now)
+            is_last (stream_now draws.new) self.new) }
+    {
+        let KeptLine { number, text } = line;
+        let stated = state(alloc, number, text)?;
+        match part_of(stated, &mut self.given, draws) {
+            Part::Deed(deed) => {
+                self.held.push(SectionLine { number, text, deed })?;
+                Ok(false)
+            }
+            Part::Section => {
+                self.end_section(alloc)?;
+                Ok(false)
+            }
+            Part::End => {
+                self.end_section(alloc)?;
+                Ok(true)
+            }
+            Part::Nothing => Ok(false),
+        }
+    }
+
+    /// Ends the section that has not ended.
+    fn end_section(&mut self, alloc: Global) -> Result<(), OutOfMemory>
+        ensures ended { OnOk result (self.new.ended.items ≡ self.old.ended.items ++ self.old.held.items ∷ []) }
+        ensures held { OnOk result (self.new.held.items ≡ []) }
+        ensures given { OnOk result (self.new.given ≡ self.old.given) }
+    {
+        let lines = replace(&mut self.held, Vec::new(alloc));
+        self.ended.push(Seq::new(lines))?;
+        Ok(())
+    }
+
+    /// The sections that have ended.
+    fn sections(self) -> Seq<Seq<SectionLine<'a>>>
+        ensures { result ≡ self.entry.ended.items }
+    {
+        let BlockSoFar { ended, .. } = self;
+        Seq::new(ended)
+    }
+}
+
 /// Reads the lines of a block, up to its end: its sections, each with its lines in order. OutOfMemory (99) is returned
 /// if an allocation was refused.
 pub(crate) fn read_sections<'a>(
@@ -39,33 +114,16 @@ pub(crate) fn read_sections<'a>(
     ensures outside { IfOk result (λ _. outside_blocks true left.old ≡ outside_blocks false left.new) }
     ensures readable { IfOk result (λ _. AreReadable left.old → AreReadable left.new) }
 {
-    let mut sections = Vec::new(alloc);
-    let mut held = Vec::new(alloc);
-    let mut given = None;
+    let mut block = BlockSoFar::new(alloc);
     let mut rest = left.copy();
-    while let Some(KeptLine { number, text }) = rest.next_line() {
+    while let Some(next) = rest.next_line() {
         *left = rest.copy();
-        let stated = state(alloc, number, text)?;
-        match part_of(stated, &mut given, draws) {
-            Part::Deed(deed) => held.push(SectionLine { number, text, deed })?,
-            Part::Section => sections.push(Seq::new(replace(&mut held, Vec::new(alloc))))?,
-            Part::End => return Ok(close(sections, held)?),
-            Part::Nothing => {}
+        if block.take(alloc, next, draws)? {
+            return Ok(block.sections());
         }
     }
-    Ok(close(sections, held)?)
-}
-
-/// These sections, and the last one, with these lines.
-fn close<'a>(
-    sections: Vec<Seq<SectionLine<'a>>>,
-    held: Vec<SectionLine<'a>>,
-) -> Result<Seq<Seq<SectionLine<'a>>>, OutOfMemory>
-    ensures { IfOk result (λ all. all ≡ sections.entry.items ++ held.entry.items ∷ []) }
-{
-    let mut all = sections;
-    all.push(Seq::new(held))?;
-    Ok(Seq::new(all))
+    block.end_section(alloc)?;
+    Ok(block.sections())
 }
 
 /// What a line of a block is for. Random words that it gives wait for the next line. An event has the random words that

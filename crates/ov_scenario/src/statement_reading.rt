@@ -5,7 +5,7 @@ ghost use Rattle.ov_scenario.specs.EventWords.{event_words};
 ghost use Rattle.ov_scenario.specs.RunLines.{HasIds, ReadingNeedsMemory};
 ghost use Rattle.ov_scenario.specs.Scenarios.{stated_at};
 ghost use Rattle.ov_scenario.specs.Statements.{seven_numbers, one_rule, crash_report_of, timer_of, boot_of};
-ghost use Rattle.ov_scenario.specs.Statements.{broadcast_of, group_at, subject_at, subject_of, analysis_of};
+ghost use Rattle.ov_scenario.specs.Statements.{analysis_of, broadcast_of, group_at, subject_at, subject_of, workers_named};
 ghost use Rattle.ov_scenario.specs.Statements.{event_rows, look_rows, section_rows, line_rows, line_names};
 ghost use Rattle.ov_scenario.specs.Statements.{alone, statement_of};
 ghost use Rattle.ov_scenario.specs.Code.Reading.{Reads, numbered};
@@ -17,7 +17,7 @@ use crate::event_words_reading::GivenWords;
 use crate::numbered_events::Numbered;
 use crate::scenario::{Look, Subject};
 use crate::statement::{Stated, Statement};
-use ov_ids::{MsgId, NodeId, OutOfMemory, Refill, Seq};
+use ov_ids::{MsgId, NodeId, OutOfMemory, Refill, Seq, Workers};
 use ov_lines::{END, ID, Kind, LineCursor, Unread, is_word};
 use ov_net::Event;
 use std::alloc::{AllocError, Global};
@@ -112,6 +112,10 @@ const SEQUENCE: &[Kind] = &[Kind::Short("the number of the message")];
 const WORKERS: &[Kind] = &[Kind::Within(1, 64)];
 
 const MOMENT: &[Kind] = &[Kind::Short("the moment of a snapshot")];
+
+const GROUP: &[Kind] = &[Kind::Name("group"), Kind::End];
+
+const WORKERS_OR_GROUP: &[Kind] = &[Kind::Name("workers"), Kind::Name("group"), Kind::End];
 
 /// Why a line states nothing.
 #[derive(Drop)]
@@ -345,32 +349,39 @@ fn read_analysis<'a>(alloc: Global, cursor: &mut LineCursor<'a>) -> Result<State
     ensures { Reads ReadingNeedsMemory result (analysis_of (words_of cursor.old)) }
 {
     let moment = cursor.short_number(MOMENT)?;
-    let neither = cursor.unread(&[Kind::Name("workers"), Kind::Name("group"), Kind::End]);
-    let Some(name) = cursor.word() else {
-        let group = None;
-        return Ok(analysis_of(Subject { moment, group }));
+    let workers = match read_named_workers(cursor) {
+        Ok(workers) => workers,
+        Err(unread) => return Err(unread.into()),
     };
-    if is_word(name, b"workers") {
-        let workers = match cursor.workers(WORKERS) {
-            Ok(workers) => workers,
-            Err(unread) => return Err(unread.into()),
-        };
-        let subject = read_subject_at(alloc, moment, cursor)?;
-        let workers = Some(workers);
-        return Ok(Statement::Analyse { subject, workers });
-    }
-    if is_word(name, b"group") {
-        return Ok(analysis_of(read_group(alloc, moment, cursor)?));
-    }
-    Err(neither.into())
+    let wanted = wanted_behind(workers.is_some());
+    let subject = read_subject_at(alloc, moment, wanted, cursor)?;
+    Ok(Statement::Analyse { subject, workers })
 }
 
-/// An analysis for which no number of workers is named.
-fn analysis_of<'a>(subject: Subject) -> Statement<'a>
-    ensures { result ≡ says.Analyse subject None }
+/// Reads `workers W`, if the next word is `workers`, and nothing otherwise.
+fn read_named_workers<'a>(cursor: &mut LineCursor<'a>) -> Result<Option<Workers>, Unread>
+    ensures { option_map (λ n. (n, words_of cursor.new)) (result_ok result) ≡ workers_named (words_of cursor.old) }
 {
-    let workers = None;
-    Statement::Analyse { subject, workers }
+    let before = cursor.copy();
+    let Some(name) = cursor.word() else {
+        return Ok(None);
+    };
+    if is_word(name, b"workers") {
+        return match cursor.workers(WORKERS) {
+            Ok(workers) => Ok(Some(workers)),
+            Err(unread) => Err(unread),
+        };
+    }
+    *cursor = before;
+    Ok(None)
+}
+
+/// What may follow the moment of an analysis, or its number of workers if one is named.
+fn wanted_behind(names_workers: bool) -> &'static [Kind] {
+    if names_workers {
+        return GROUP;
+    }
+    WORKERS_OR_GROUP
 }
 
 /// Reads what follows the name `certificate`: the moment, and the group if one is named.
@@ -390,18 +401,23 @@ fn read_subject(alloc: Global, cursor: &mut LineCursor) -> Result<Subject, Unsta
     ensures { Reads HasIds result (subject_of (words_of cursor.old)) }
 {
     let moment = cursor.short_number(MOMENT)?;
-    read_subject_at(alloc, moment, cursor)
+    read_subject_at(alloc, moment, GROUP, cursor)
 }
 
-/// Reads what follows the moment of an analysis, or its number of workers: nothing, or `group IDS`.
-fn read_subject_at(alloc: Global, moment: u32, cursor: &mut LineCursor) -> Result<Subject, Unstated>
+/// Reads what follows the moment of an analysis, or its number of workers: nothing, or `group IDS`. This may be there.
+fn read_subject_at(
+    alloc: Global,
+    moment: u32,
+    wanted: &'static [Kind],
+    cursor: &mut LineCursor,
+) -> Result<Subject, Unstated>
     ensures { Reads HasIds result (subject_at moment (words_of cursor.old)) }
 {
     if cursor.is_at_end() {
         let group = None;
         return Ok(Subject { moment, group });
     }
-    cursor.name("group", &[Kind::Name("group"), Kind::End])?;
+    cursor.name("group", wanted)?;
     read_group(alloc, moment, cursor)
 }
 

@@ -55,7 +55,7 @@ fn is_told(rt: &(impl AllocGlobal + Threads + Sync), certificate: bool) -> bool 
         &mut pieces,
     );
     let is_printed = sink.into_writer().starts_with(ANSWER);
-    answered == Ok(Answered::Report) && is_printed && pieces.told > 0 && pieces.is_right
+    answered == Ok(Answered::Report { k: 1 }) && is_printed && pieces.told > 0 && pieces.is_right
 }
 
 #[test]

@@ -1,8 +1,11 @@
 -- What the program overlay prints of a fault, and its status.
-use Rattle.std.specs.Prelude.{ℕ, ⊤, List, Result, Ok, Err}
+use Rattle.std.specs.Prelude.{◌≡◌, ◌≢◌, ◌⊎◌, ℕ, ⊤, List, None, Some, codes, Result, Ok, Err}
 use Rattle.ov_io.specs.Refusal.{refusal_text}
-use Rattle.ov_arguments.specs.Arguments.{number_of}
+use Rattle.ov_arguments.specs.Arguments.{command_given, number_of, text_given}
 use Rattle.ov_arguments.specs.declared.arguments.ArgumentsFault.TheVariants.{BadArguments, OutOfMemory}
+use Rattle.ov_arguments.specs.declared.arguments.Request.{Request}
+use Rattle.ov_arguments.specs.declared.arguments.Request.TheVariants.{Analyse}
+use Rattle.ov_commands.specs.Statuses.{IsAlarmStatus}
 use Rattle.ov_commands.specs.Faults.{command_fault_text}
 use Rattle.ov_grow_commands.specs.GrowFaults.{growth_number}
 use Rattle.ov_grow_commands.specs.declared.grow_command_fault.GrowthFault.TheVariants as growth
@@ -19,6 +22,19 @@ program_fault_text (Growth fault) = refusal_text (growth_number fault)
 abbrev pub IsOfRequest : ProgramFault → Type 0
 IsOfRequest (Command fault) = ⊤
 IsOfRequest other = ⊥
+
+-- a status with which what is asked for may end that had no fault: 0, and of an analysis that a least number is asked
+-- of, 3 too
+abbrev pub IsStatusOf : Request → ℕ → Type 0
+IsStatusOf (Analyse file analysis) status = IsAlarmStatus analysis.at_least status
+IsStatusOf other status = status ≡ 0
+
+-- a status with which these arguments may end that had no fault: 0, and of `analyse` with `--at-least` 3 too
+abbrev pub IsStatusGiven : List (List ℕ) → ℕ → Type 0
+IsStatusGiven arguments status =
+    (status ≡ 0)
+    ⊎ ((status ≡ 3) × (command_given arguments ≡ Some (codes "analyse"))
+    × (text_given arguments (codes "at-least") ≢ None))
 
 -- the program's status: that of the run or the analysis, 2 if the arguments are refused, and 1 after another fault
 abbrev pub exit_status : Result ℕ ProgramFault → ℕ

@@ -2,10 +2,10 @@
 //! nodes split it; or grows overlays, and prints their scenario or what they survive.
 #![tactic(auto)]
 
-ghost use Rattle.std.specs.Prelude.{◌≡◌, ◌≢◌, drop, map, string_bytes, Err, IfOk, IfErr, OnOk};
+ghost use Rattle.std.specs.Prelude.{◌≡◌, ◌≢◌, ◌⊎◌, drop, map, string_bytes, Err, IfOk, IfErr, OnOk};
 ghost use Rattle.ov_arguments.specs.Arguments.{AreTaken};
 ghost use Rattle.ov_arguments.specs.declared.arguments.ArgumentsFault.TheVariants.{BadArguments};
-ghost use Rattle.overlay.specs.Program.{IsOfRequest};
+ghost use Rattle.overlay.specs.Program.{IsOfRequest, IsStatusGiven, IsStatusOf};
 ghost use Rattle.overlay.specs.declared.fault_and_exit_status.ProgramFault.TheVariants.{Arguments};
 
 mod fault_and_exit_status;
@@ -28,7 +28,7 @@ fn main(rt: HostRuntime) -> ExitCode {
 
 /// Does what the command line asks for.
 fn overlay<T: Threads + Wait + Sync>(rt: &HostRuntime, threads: &T) -> Result<u8, ProgramFault>
-    ensures status { IfOk result (λ status. status ≡ 0) }
+    ensures status { IfOk result (λ status. (status ≡ 0) ⊎ (status ≡ 3)) }
 {
     match command_line(rt) {
         Ok(texts) => do_command(rt, threads, behind_name(&texts)),
@@ -42,7 +42,7 @@ fn do_command<T: Threads + Wait + Sync>(
     threads: &T,
     arguments: &[String],
 ) -> Result<u8, ProgramFault>
-    ensures status { IfOk result (λ status. status ≡ 0) }
+    ensures status { IfOk result (IsStatusGiven (map (λ argument. string_bytes argument) arguments.now)) }
 {
     if grow_or_sweep(rt, threads, arguments)? {
         return Ok(0);
@@ -56,7 +56,7 @@ fn answer<T: Threads + Wait + Sync>(
     threads: &T,
     arguments: &[String],
 ) -> Result<u8, ProgramFault>
-    ensures status { IfOk result (λ status. status ≡ 0) }
+    ensures status { IfOk result (IsStatusGiven (map (λ argument. string_bytes argument) arguments.now)) }
     ensures taken { AreTaken (map (λ argument. string_bytes argument) arguments.now)
         → (result ≢ Err (Arguments BadArguments)) }
     ensures only { OnOk result (AreTaken (map (λ argument. string_bytes argument) arguments.now)) }
@@ -107,7 +107,7 @@ fn do_asked<T: Threads + Wait + Sync>(
     threads: &T,
     request: Request,
 ) -> Result<u8, ProgramFault>
-    ensures status { IfOk result (λ status. status ≡ 0) }
+    ensures status { IfOk result (IsStatusOf request.entry) }
     ensures fault { IfErr result IsOfRequest }
 {
     match request {

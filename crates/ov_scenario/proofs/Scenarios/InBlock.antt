@@ -173,20 +173,17 @@ outside_end n text own later says is =
 pub goes_on :
     (all now later : List (ℕ × List ℕ)) (begun stream after : Stream) (given waits : Option (List ℕ))
     (sections gained : List (List SectionLine)) (held holds : List SectionLine) (n : ℕ) (text : List ℕ)
-    (own : Option Statement)
-    → BlockLeft all begun now stream given sections held → now ≡ (n, text) ∷ later → own ≡ statement_of text
-    → is_end own ≡ false
-    → block_to_run stream sections held (waiting given ++ ((n, text), own) ∷ told later)
+    → BlockLeft all begun now stream given sections held → now ≡ (n, text) ∷ later
+    → is_end (statement_of text) ≡ false
+    → block_to_run stream sections held (waiting given ++ ((n, text), statement_of text) ∷ told later)
     ≡ block_to_run after gained holds (waiting waits ++ told later)
     → BlockLeft all begun later after waits gained holds
-goes_on all now later begun stream after given waits sections gained held holds n text own before first says is asks =
+goes_on all now later begun stream after given waits sections gained held holds n text before first is asks =
     record {
-      asked =
-          before.asked ∙ ap (λ ls. block_to_run stream sections held (waiting given ++ told ls)) first
-          ∙ ap (λ o. block_to_run stream sections held (waiting given ++ ((n, text), o) ∷ told later)) (sym says)
-          ∙ asks;
+      asked = before.asked ∙ ap (λ ls. block_to_run stream sections held (waiting given ++ told ls)) first ∙ asks;
       outside =
-          before.outside ∙ ap (λ ls. outside_blocks true ls) first ∙ outside_next n text own later says is;
+          before.outside ∙ ap (λ ls. outside_blocks true ls) first
+          ∙ outside_next n text (statement_of text) later refl is;
       readable = λ are. later_readable now later n text (before.readable are) first;
     }
 
@@ -194,19 +191,15 @@ goes_on all now later begun stream after given waits sections gained held holds 
 pub ends :
     (all now later : List (ℕ × List ℕ)) (begun stream after : Stream) (given : Option (List ℕ))
     (sections whole : List (List SectionLine)) (held : List SectionLine) (n : ℕ) (text : List ℕ)
-    (own : Option Statement)
-    → BlockLeft all begun now stream given sections held → now ≡ (n, text) ∷ later → own ≡ statement_of text
-    → is_end own ≡ true → whole ≡ sections ++ held ∷ []
-    → block_to_run stream sections held (waiting given ++ ((n, text), own) ∷ told later)
-    ≡ line.Together (sections ++ held ∷ []) ∷ to_run after (told later)
+    → BlockLeft all begun now stream given sections held → now ≡ (n, text) ∷ later
+    → is_end (statement_of text) ≡ true
+    → block_to_run stream sections held (waiting given ++ ((n, text), statement_of text) ∷ told later)
+    ≡ line.Together whole ∷ to_run after (told later)
     → (block_to_run begun [] [] (told all) ≡ line.Together whole ∷ to_run after (told later))
     × (outside_blocks true all ≡ outside_blocks false later) × (AreReadable all → AreReadable later)
-ends all now later begun stream after given sections whole held n text own before first says is made asks = (
-  before.asked ∙ ap (λ ls. block_to_run stream sections held (waiting given ++ told ls)) first
-      ∙ ap (λ o. block_to_run stream sections held (waiting given ++ ((n, text), o) ∷ told later)) (sym says)
-      ∙ asks
-      ∙ ap (λ ss. line.Together ss ∷ to_run after (told later)) (sym made),
-  before.outside ∙ ap (λ ls. outside_blocks true ls) first ∙ outside_end n text own later says is,
+ends all now later begun stream after given sections whole held n text before first is asks = (
+  before.asked ∙ ap (λ ls. block_to_run stream sections held (waiting given ++ told ls)) first ∙ asks,
+  before.outside ∙ ap (λ ls. outside_blocks true ls) first ∙ outside_end n text (statement_of text) later refl is,
   λ are. later_readable now later n text (before.readable are) first,
 )
 

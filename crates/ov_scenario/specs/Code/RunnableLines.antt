@@ -1,5 +1,5 @@
 -- What the lines that are left of a file ask to run, as a function of what the reader keeps.
-use Rattle.std.specs.Prelude.{◌≡◌, ℕ, zero, suc, true, false, List, [], ◌∷◌, ◌++◌, Option, Some, None, IsSome}
+use Rattle.std.specs.Prelude.{◌≡◌, ℕ, zero, suc, Bool, true, false, List, [], ◌∷◌, ◌++◌, Option, Some, None, IsSome}
 use Rattle.rand_core.specs.Stream.{Stream, next_u64}
 use Rattle.rand_core.specs.Steps.{stream_of, steps_u64_low}
 use Rattle.rand_pcg.specs.Pcg.{pcg64}
@@ -7,6 +7,7 @@ use Rattle.ov_words.specs.Stream.{words_per_event}
 use Rattle.ov_scenario.specs.RunLines.{runs, IsLineOf}
 use Rattle.ov_scenario.specs.Sections.{SectionLine, is_end, section_line}
 use Rattle.ov_scenario.specs.Statements.{ToldLine, statement_of, workers_or_one}
+use Rattle.ov_scenario.specs.declared.block_reading.BlockSoFar.{BlockSoFar}
 use Rattle.ov_scenario.specs.declared.block_reading.Part.{Part}
 use Rattle.ov_scenario.specs.declared.block_reading.Part.TheVariants as part
 use Rattle.ov_scenario.specs.declared.words_from_seed.SeedWords.{SeedWords}
@@ -119,3 +120,17 @@ TakesPart before given says (part.Deed deed) after left =
     (more : List ToldLine)
     → block_to_run before sections held (waiting given ++ (own, says) ∷ more)
     ≡ block_to_run after sections (held ++ section_line own deed ∷ []) (waiting left ++ more))
+
+-- a block took in this line of a file, which ends it or does not: with what the lines after it ask for, that is what it
+-- and they ask for
+abbrev pub TakesIn : Stream → BlockSoFar → ℕ × List ℕ → Bool → Stream → BlockSoFar → Type 0
+TakesIn before old own true after new =
+    (is_end (statement_of own.1) ≡ true)
+    × ((more : List ToldLine)
+    → block_to_run before old.ended.items old.held.items (waiting old.given ++ (own, statement_of own.1) ∷ more)
+    ≡ line.Together new.ended.items ∷ to_run after more)
+TakesIn before old own false after new =
+    (is_end (statement_of own.1) ≡ false)
+    × ((more : List ToldLine)
+    → block_to_run before old.ended.items old.held.items (waiting old.given ++ (own, statement_of own.1) ∷ more)
+    ≡ block_to_run after new.ended.items new.held.items (waiting new.given ++ more))

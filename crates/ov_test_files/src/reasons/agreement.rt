@@ -4,9 +4,10 @@ use ov_reasons::{graph_reasons, scenario_reasons};
 use std::alloc::{AllocError, Global};
 
 /// What lines may begin with.
-static NAMES: [&str; 24] = [
+static NAMES: [&str; 25] = [
     "params",
     "seed",
+    "refill",
     "words",
     "boot",
     "deliver",
@@ -32,7 +33,7 @@ static NAMES: [&str; 24] = [
 ];
 
 /// What may follow.
-static TAILS: [&str; 46] = [
+static TAILS: [&str; 47] = [
     "",
     " ",
     " 1",
@@ -79,6 +80,7 @@ static TAILS: [&str; 46] = [
     " 1 workers 65",
     " 1 workers",
     " 1 group 1 workers 2",
+    " alone",
 ];
 
 /// What is said of the second line if nothing is.

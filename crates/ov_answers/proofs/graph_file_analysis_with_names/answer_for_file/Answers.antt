@@ -1,4 +1,4 @@
--- The file says the graph and keeps the names, and this is told of this graph and its members.
+-- The file says the graph and keeps the names, and this is told of what is left of this graph, and of its members.
 use Rattle.std.proofs.Common.{option_map, subst, sym}
 use Rattle.ov_graphfile.specs.NameLines.{AreNamesOf}
 use Rattle.ov_answers.specs.Code.Files.{with_file_of}
@@ -12,6 +12,6 @@ returns-clause-answer g c =
     let request = c.args.request.now in
     let read = c.in-Ok.read in
     let keeps = subst (AreNamesOf c.args.bytes.now read.0) (sym c.new-names.ensures) c.in-Ok.ensures.names in
-    told c.args.bytes.now text (option_map (λ ids. ids.now) request.group) request.certificate request.names
-    answer.told.answered read.0 c.members_of-members.result.now c.new-names.result c.in-Ok.ensures.graph keeps
-    c.members_of-members.ensures c.in_ok-answer_for.ensures
+    told c.args.bytes.now text request.gone.now (option_map (λ ids. ids.now) request.group) request.certificate
+    request.names answer.told.answered read.0 c.in_ok-left.left c.members_of-members.result.now c.new-names.result
+    c.in-Ok.ensures.graph keeps c.in_ok-left.ensures c.members_of-members.ensures c.in_ok-answer_for.ensures

@@ -13,9 +13,11 @@ returns c =
     let none = ap (λ (a : App). with_rule a (new_rule (codes "file"))) told in
     let one = ap₂ with_rule none c.option.ensures in
     let two = ap₂ with_rule one c.option-2.ensures in
-    let three = ap₂ with_rule two c.flag.ensures in
-    let four = ap₂ with_rule three c.flag-2.ensures in
-    let five = ap₂ with_rule four c.flag-3.ensures in
-    let six = ap₂ with_rule five c.flag-4.ensures in
-    IfOk-weaker c.with_arguments.result _ (λ r. app_of r ≡ analyse_command) (λ r is. is ∙ six)
+    let three = ap₂ with_rule two c.option-3.ensures in
+    let four = ap₂ with_rule three c.option-4.ensures in
+    let five = ap₂ with_rule four c.flag.ensures in
+    let six = ap₂ with_rule five c.flag-2.ensures in
+    let seven = ap₂ with_rule six c.flag-3.ensures in
+    let eight = ap₂ with_rule seven c.flag-4.ensures in
+    IfOk-weaker c.with_arguments.result _ (λ r. app_of r ≡ analyse_command) (λ r is. is ∙ eight)
     c.with_arguments.ensures

@@ -1,24 +1,16 @@
--- One more entry, and all of them.
-use Rattle.std.proofs.Common.{◌∙◌, ◌≤◌, ◌+◌, List, ℕ, ◌∷◌, drop, sym, ap, subst, arith}
-use Rattle.std.proofs.lemmas.List.{drop_all, drop_more}
-use Rattle.ov_certwriter.specs.Code.Blocks.{entry_room, AreWithin}
+-- No room of a part is above the largest of all.
+use Rattle.std.proofs.Common.{◌≤◌, ℕ, List, All, length, slice_index_or, subst, arith}
+use Rattle.ov_certwriter.proofs.Filled.{parts_within, within_more}
 use Rattle.ov_certwriter.proofs.entry_rooms.largest_room.Goals as goal
-
-pub loop-entry-preserved : goal.loop-entry-preserved
-loop-entry-preserved g c most le small within =
-    let entries = c.args.entries.now in
-    let i = c.loop-entry.entry-index in
-    let x = c.entry-item.result in
-    let front = drop_more entries i x c.loop-entry-test.true
-    ∙ ap (λ y. y ∷ drop (i + 1) entries) (sym c.entry-item.is) in
-    let largest = c.max-largest.ensures in
-    let own = c.room_of.ensures (omega (arith, largest, le, small)) in
-    let room = subst (λ (ps : List (List ℕ)). entry_room ps ≤ most) c.paths.ensures (omega (arith, own, largest, le)) in
-    c.loop-entry.invariant most (omega (arith, largest, le)) small
-    (subst (AreWithin g.T.Entry.paths_of most) (sym front) (room, within))
 
 pub returns : goal.returns
 returns g c small =
-    let l = c.loop-entry in
-    l.invariant l.largest (omega arith) small
-    (subst (AreWithin g.T.Entry.paths_of l.largest) (sym (drop_all _ _ c.loop-entry-test.false)) tt)
+    let rooms = c.in_ok-rooms.rooms.items in
+    let most = c.largest.result in
+    let below = subst (λ (xs : List ℕ). All (λ room. room ≤ most) xs) c.deref.ensures.value c.largest.ensures in
+    parts_within g.T.Entry.paths_of most c.max-size.result (length rooms) c.args.entries.now
+    (λ place low.
+    let own = below place 0 low in
+    within_more g.T.Entry.paths_of (slice_index_or rooms place 0) most _ own
+    (c.in_ok-rooms.ensures.parts place 0 low (omega (arith, own, small))))
+    c.in_ok-rooms.ensures.enough

@@ -6,14 +6,14 @@ use Rattle.ov_certwriter.proofs.entry_texts.put_fan.Goals as goal
 
 pub returns-clause-text : goal.returns-clause-text
 returns-clause-text c =
-    let j = puts_same _ _ _ _ _ _ (ap decimal c.number.ensures) c.put_whole.ensures.text in
+    let j = puts_same _ _ _ _ _ _ (ap decimal c.number.ensures) c.put_whole-behind_j.ensures.text in
     puts_same _ _ _ _ _ _ (fan_text c.args.entry.now)
-    (puts_then _ _ _ _ _ _ _ _ c.put_text.ensures (puts_then _ _ _ _ _ _ _ _ j
-    (puts_then _ _ _ _ _ _ _ _ c.put_text-2.ensures (puts_then _ _ _ _ _ _ _ _ c.put_paths.ensures.text
-    c.put_byte.ensures))))
+    (puts_then _ _ _ _ _ _ _ _ c.put_text-j_at.ensures (puts_then _ _ _ _ _ _ _ _ j
+    (puts_then _ _ _ _ _ _ _ _ c.put_text-paths_at.ensures
+    (puts_then _ _ _ _ _ _ _ _ c.put_paths-behind_paths.ensures.text c.put_byte.ensures))))
 
 pub returns-clause-short : goal.returns-clause-short
 returns-clause-short c =
     fan_short c.args.entry.now
-    (subst (λ (n : ℕ). length (decimal n) ≤ 10) c.number.ensures c.put_whole.ensures.short)
-    c.put_paths.ensures.short
+    (subst (λ (n : ℕ). length (decimal n) ≤ 10) c.number.ensures c.put_whole-behind_j.ensures.short)
+    c.put_paths-behind_paths.ensures.short

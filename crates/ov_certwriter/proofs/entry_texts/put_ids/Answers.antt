@@ -16,7 +16,7 @@ returns-clause-text c =
     let l = c.loop-id in
     let text = l.invariant.text in
     list_put whole_data c.args.ids.now (drop l.id-index c.args.ids.now) l.later text.0 _ _ _ _ _ _ _ _
-    (drop_all _ _ c.loop-id-test.false) c.put_byte.ensures text.1 text.2 c.put_byte-2.ensures
+    (drop_all _ _ c.loop-id-test.false) c.put_byte-end.ensures text.1 text.2 c.put_byte.ensures
 
 pub returns-clause-short : goal.returns-clause-short
 returns-clause-short c =
@@ -42,7 +42,7 @@ loop-id-preserved c =
       text = (
         text.0 ++ (comma_if l.later ++ decimal n),
         puts_then text.0 _ _ _ _ _ _ _ text.1
-            (puts_then (comma_if l.later) (decimal n) _ _ _ _ _ _ c.put_comma.ensures c.put_whole.ensures.text),
+            (puts_then (comma_if l.later) (decimal n) _ _ _ _ _ _ c.put_comma-id_at.ensures c.put_whole-end.ensures.text),
         item_more whole_data n rest l.later text.0 (items_after whole_data false ids)
             (subst (λ (ns : List ℕ). text.0 ++ items_after whole_data l.later ns ≡ items_after whole_data false ids)
             front
@@ -50,5 +50,5 @@ loop-id-preserved c =
       );
       short = λ h. l.invariant.short
           (subst (λ (ns : List ℕ). length (items_after whole_data l.later ns) ≤ 11 * length ns) (sym front)
-          (omega (arith, item_short whole_data n rest l.later 10 (11 * length rest) c.put_whole.ensures.short h)));
+          (omega (arith, item_short whole_data n rest l.later 10 (11 * length rest) c.put_whole-end.ensures.short h)));
     }

@@ -6,17 +6,17 @@ use Rattle.ov_certwriter.proofs.entry_texts.put_pair.Goals as goal
 
 pub returns-clause-text : goal.returns-clause-text
 returns-clause-text c =
-    let i = puts_same _ _ _ _ _ _ (ap decimal c.number.ensures) c.put_whole.ensures.text in
-    let j = puts_same _ _ _ _ _ _ (ap decimal c.number-2.ensures) c.put_whole-2.ensures.text in
+    let i = puts_same _ _ _ _ _ _ (ap decimal c.number.ensures) c.put_whole-behind_i.ensures.text in
+    let j = puts_same _ _ _ _ _ _ (ap decimal c.number-2.ensures) c.put_whole-behind_j.ensures.text in
     puts_same _ _ _ _ _ _ (pair_text c.args.entry.now)
-    (puts_then _ _ _ _ _ _ _ _ c.put_text.ensures (puts_then _ _ _ _ _ _ _ _ i
-    (puts_then _ _ _ _ _ _ _ _ c.put_text-2.ensures (puts_then _ _ _ _ _ _ _ _ j
-    (puts_then _ _ _ _ _ _ _ _ c.put_text-3.ensures (puts_then _ _ _ _ _ _ _ _ c.put_paths.ensures.text
-    c.put_byte.ensures))))))
+    (puts_then _ _ _ _ _ _ _ _ c.put_text-i_at.ensures (puts_then _ _ _ _ _ _ _ _ i
+    (puts_then _ _ _ _ _ _ _ _ c.put_text-j_at.ensures (puts_then _ _ _ _ _ _ _ _ j
+    (puts_then _ _ _ _ _ _ _ _ c.put_text-paths_at.ensures
+    (puts_then _ _ _ _ _ _ _ _ c.put_paths-behind_paths.ensures.text c.put_byte.ensures))))))
 
 pub returns-clause-short : goal.returns-clause-short
 returns-clause-short c =
     pair_short c.args.entry.now
-    (subst (λ (n : ℕ). length (decimal n) ≤ 10) c.number.ensures c.put_whole.ensures.short)
-    (subst (λ (n : ℕ). length (decimal n) ≤ 10) c.number-2.ensures c.put_whole-2.ensures.short)
-    c.put_paths.ensures.short
+    (subst (λ (n : ℕ). length (decimal n) ≤ 10) c.number.ensures c.put_whole-behind_i.ensures.short)
+    (subst (λ (n : ℕ). length (decimal n) ≤ 10) c.number-2.ensures c.put_whole-behind_j.ensures.short)
+    c.put_paths-behind_paths.ensures.short

@@ -17,7 +17,7 @@ returns-clause-text c =
     let l = c.loop-path in
     let text = l.invariant.text in
     list_put ids_data c.args.paths.now l.path-iterator l.later text.0 _ _ _ _ _ _ _ _ c.in-None.ensures.steps.0
-    c.put_byte.ensures text.1 text.2 c.put_byte-2.ensures
+    c.put_byte-end.ensures text.1 text.2 c.put_byte.ensures
 
 pub returns-clause-short : goal.returns-clause-short
 returns-clause-short c =
@@ -38,8 +38,8 @@ loop-path-preserved c =
       text = (
         text.0 ++ (comma_if l.later ++ compact_text (ids_data path)),
         puts_then text.0 _ _ _ _ _ _ _ text.1
-            (puts_then (comma_if l.later) (compact_text (ids_data path)) _ _ _ _ _ _ c.put_comma.ensures
-            c.put_ids.ensures.text),
+            (puts_then (comma_if l.later) (compact_text (ids_data path)) _ _ _ _ _ _ c.put_comma-path_at.ensures
+            c.put_ids-end.ensures.text),
         item_more ids_data path rest l.later text.0 all
             (subst (λ (ps : List (List ℕ)). text.0 ++ items_after ids_data l.later ps ≡ all) front text.2),
       );
@@ -48,6 +48,6 @@ loop-path-preserved c =
           (omega (
             arith,
             item_short ids_data path rest l.later (11 * length path + 2) (texts_room rest)
-                c.put_ids.ensures.short h,
+                c.put_ids-end.ensures.short h,
           )));
     }

@@ -16,4 +16,4 @@ returns c =
     sym (decimal_step n c.if-number-lt10.false (omega (arith, c.requires))
     ∙ ap (λ l. l ++ last) (decimal_digit (n / 10) (omega (arith, c.requires)))) in
     puts_same _ _ _ _ _ _ is
-    (puts_then ((48 + n / 10) ∷ []) last _ _ _ _ _ _ c.put_digit-2.ensures c.put_digit-3.ensures)
+    (puts_then ((48 + n / 10) ∷ []) last _ _ _ _ _ _ c.put_digit-ones_at.ensures c.put_digit-2.ensures)

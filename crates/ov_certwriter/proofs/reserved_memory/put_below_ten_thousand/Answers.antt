@@ -17,5 +17,5 @@ returns c =
     sym (decimal_step n (omega (arith, c.if-number-lt100.false)) (omega (arith, c.requires))
     ∙ ap (λ l. l ++ last) tens ∙ append_assoc front next last) in
     puts_same _ _ _ _ _ _ is
-    (puts_then front (next ++ last) _ _ _ _ _ _ c.put_below_hundred-2.ensures
-    (puts_then next last _ _ _ _ _ _ c.put_digit.ensures c.put_digit-2.ensures))
+    (puts_then front (next ++ last) _ _ _ _ _ _ c.put_below_hundred-tens_at.ensures
+    (puts_then next last _ _ _ _ _ _ c.put_digit-ones_at.ensures c.put_digit.ensures))

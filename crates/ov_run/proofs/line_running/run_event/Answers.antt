@@ -8,6 +8,7 @@ use Rattle.ov_run_meaning.proofs.Writing.Outcomes.{begun, done}
 use Rattle.ov_run.proofs.Recorded.{recorded, some_recorded}
 use Rattle.ov_run.proofs.line_running.run_event.Given as given
 use Rattle.ov_run.proofs.line_running.run_event.Goals as goal
+use Rattle.ov_run.proofs.line_running.run_event.Goals.{After-write_entry}
 
 pub last_entry-requires : goal.last_entry-requires
 last_entry-requires g c =
@@ -15,7 +16,7 @@ last_entry-requires g c =
     subst (λ (u : CoreState). 0 < length u.world.journal) (sym c.core.ensures) (some_recorded _ _ own.0 own.1.journal)
 
 -- the entry that is lent is that of the event
-happened : (g : given.Over) (c : goal.After-last_entry g)
+happened : (g : given.Over) (c : After-write_entry g)
     → Happened c.args.hall.now c.args.event c.args.words.now c.last_entry.result.now c.take_event.new.self
 happened g c =
     let own = c.in-Ok.ensures.happened in

@@ -1,5 +1,5 @@
 -- The text without entries is long enough, and cut at these places it has the parts of the file.
-use Rattle.std.proofs.Common.{◌≡◌, ◌∙◌, ◌+◌, ◌-◌, ℕ, List, length, string_bytes, sym, ap, subst, arith}
+use Rattle.std.proofs.Common.{◌∙◌, ◌+◌, ◌-◌, ℕ, List, length, string_bytes, sym, ap, subst, arith}
 use Rattle.serde_json.specs.Written.{compact_text}
 use Rattle.ov_cert.specs.declared.cert.Cert.{Cert}
 use Rattle.ov_certfile.specs.DataOf.{ids_data, data_of}

@@ -1,0 +1,74 @@
+-- What lists name, and what came of an analysis that they ask for.
+use Rattle.std.proofs.Common.{◌≡◌, ◌∙◌, ◌⊎◌, ℕ, Bool, true, false, List, Option, Some, None, Result, Ok, Err, inl, inr}
+use Rattle.std.proofs.Common.{refl, sym, ap, map, replicate, length, if◌then◌else◌}
+use Rattle.ov_graph.specs.Links.{LinkGraph}
+use Rattle.ov_graphfile.specs.GraphFiles.{IsGraphFile}
+use Rattle.ov_graphfile.specs.NamesState.{NamesState, names_of}
+use Rattle.ov_graphfile.specs.NameLines.{AreNamesOf}
+use Rattle.ov_io.specs.Device.{SinkState}
+use Rattle.ov_commands.specs.Naming.{AnalysisAsked, AreGone, AreListNames, AreListed, IsGroupLeft, IsNoGraphFile}
+use Rattle.ov_commands.specs.Naming.{NamesNobody, WasTold}
+use Rattle.ov_commands.specs.Code.Named.{AreNamed, IsNotFound, IsNotNamedBy, WasAnswered}
+use Rattle.ov_commands.specs.declared.command_fault.CommandFault.{CommandFault}
+use Rattle.ov_commands.specs.declared.command_fault.CommandFault.TheVariants.{Group, OfFile, Run}
+
+-- the names by which lists are read, of those that the file keeps
+pub list_names : (bytes : List ℕ) (named : Bool) (g : LinkGraph) (told kept : List (Option (List ℕ)))
+    → IsGraphFile bytes g → AreNamesOf bytes g (names_of g told) → length told ≡ length g.nodes
+    → kept ≡ (if named then told else replicate (length told) None)
+    → AreListNames bytes named (names_of g kept)
+list_names bytes true g told kept says keeps places is = (g, says, rw is keeps)
+list_names bytes false g told kept says keeps places is =
+    (g, says, ap (names_of g) (is ∙ ap (λ (n : ℕ). replicate n None) places))
+
+-- bytes that are no graph file name nobody
+pub nobody_in : (bytes : List ℕ) (named : Bool) (text : Option (List ℕ)) → IsNoGraphFile bytes
+    → AreListed bytes named text None
+nobody_in bytes named None is = refl
+nobody_in bytes named (Some text) is = is
+
+-- nodes that a list names by these names are the nodes that it lists
+pub listed : (bytes : List ℕ) (named : Bool) (names : NamesState) (text nodes : Option (List ℕ))
+    → AreListNames bytes named names → AreNamed names text nodes → AreListed bytes named text nodes
+listed bytes named names None nodes are is = is
+listed bytes named names (Some text) None are is = absurd is
+listed bytes named names (Some text) (Some nodes) are is = (names, are, is)
+
+-- a list that names nobody by these names
+not_listed : (bytes : List ℕ) (named : Bool) (names : NamesState) (text : Option (List ℕ)) (f : _)
+    → AreListNames bytes named names → IsNotNamedBy names text (Group f) → NamesNobody bytes named text f
+not_listed bytes named names None f are is = absurd is
+not_listed bytes named names (Some text) f are is = (names, are, is)
+
+-- one of two lists names nobody
+pub not_found : (bytes : List ℕ) (named : Bool) (names : NamesState) (gone group : Option (List ℕ)) (f : CommandFault)
+    → AreListNames bytes named names → IsNotNamedBy names gone f ⊎ IsNotNamedBy names group f
+    → IsNotFound bytes named gone group f
+not_found bytes named names gone group (Run f) are (inl is) = is
+not_found bytes named names gone group (Run f) are (inr is) = is
+not_found bytes named names gone group (Group f) are (inl is) = inl (not_listed bytes named names gone f are is)
+not_found bytes named names gone group (Group f) are (inr is) = inr (not_listed bytes named names group f are is)
+not_found bytes named names None group (OfFile f) are (inl is) = absurd is
+not_found bytes named names (Some text) group (OfFile f) are (inl is) = absurd is
+not_found bytes named names gone None (OfFile f) are (inr is) = absurd is
+not_found bytes named names gone (Some text) (OfFile f) are (inr is) = absurd is
+
+-- nothing is written if nodes are not found
+pub nothing_told : {W : Type 0} (bytes : List ℕ) (asked : AnalysisAsked) (contents : W → Option (List ℕ))
+    (sink : SinkState W) (f : CommandFault) → IsNotFound bytes asked.named asked.gone asked.group f
+    → WasTold bytes asked contents sink sink (Err f)
+nothing_told bytes asked contents sink (Run f) is = inr (is, refl)
+nothing_told bytes asked contents sink (Group f) is = (is, refl)
+nothing_told bytes asked contents sink (OfFile f) is = absurd is
+
+-- what was answered of the nodes that are left is what was told
+pub answered : {W : Type 0} (bytes : List ℕ) (asked : AnalysisAsked) (gone : List ℕ) (group : Option (List ℕ))
+    (contents : W → Option (List ℕ)) (old new : SinkState W) (result : Result ℕ CommandFault)
+    → AreGone bytes asked gone → IsGroupLeft bytes asked gone group
+    → WasAnswered bytes gone group asked.certificate asked.named asked.least contents old new result
+    → WasTold bytes asked contents old new result
+answered bytes asked gone group contents old new (Ok status) are is was =
+    (gone, group, was.0, are, is, was.1, was.2)
+answered bytes asked gone group contents old new (Err (Run f)) are is was = inl (gone, group, are, is, was)
+answered bytes asked gone group contents old new (Err (Group f)) are is was = absurd was
+answered bytes asked gone group contents old new (Err (OfFile f)) are is was = absurd was
