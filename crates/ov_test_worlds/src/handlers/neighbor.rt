@@ -29,6 +29,7 @@ enum Event {
 
 /// What comes to a node, from whom or of whom; and then the changes, what is sent to whom, the active and the passive
 /// members, and how many of 64 words are left.
+#[derive(Clone, Copy)]
 struct Step {
     from: u32,
     event: Event,
