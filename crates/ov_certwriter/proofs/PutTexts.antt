@@ -1,6 +1,7 @@
 -- Texts that are put one behind another into memory that is there.
 use Rattle.std.proofs.Common.{◌≡◌, ◌∙◌, ℕ, ◌+◌, ◌≤◌, ◌<◌, Bool, true, false, List, [], ◌∷◌, ◌++◌, length, map, codes}
-use Rattle.std.proofs.Common.{take, set, refl, sym, ap, subst, arith, append_assoc, append-nil, length-append, length-set}
+use Rattle.std.proofs.Common.{take, set, refl, sym, ap, subst, arith}
+use Rattle.std.proofs.Common.{append_assoc, append-nil, length-append, length-set}
 use Rattle.std.proofs.lemmas.List.{take_more_set}
 use Rattle.serde_json.specs.Data.{Data}
 use Rattle.serde_json.specs.View.{items_of}
@@ -12,7 +13,8 @@ pub puts_nothing : (old : List ℕ) (at : ℕ) → Puts [] old at old at
 puts_nothing old at = record { kept = refl; fits = λ h. (omega arith, sym (append-nil (take at old))) }
 
 -- a byte
-pub puts_byte : (byte : ℕ) (old : List ℕ) (at : ℕ) → at < length old → Puts (byte ∷ []) old at (set old at byte) (at + 1)
+pub puts_byte : (byte : ℕ) (old : List ℕ) (at : ℕ) → at < length old
+    → Puts (byte ∷ []) old at (set old at byte) (at + 1)
 puts_byte byte old at low = record { kept = length-set old at byte; fits = λ h. (refl, take_more_set old at byte low) }
 
 -- a text, and then another

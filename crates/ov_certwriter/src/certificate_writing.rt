@@ -23,15 +23,15 @@ use std::alloc::Global;
 use std::io::Write;
 use std::thread::Threads;
 
-/// About as many bytes a block has room for. A text takes about a third of its room.
+/// About as many bytes a block has room for. A text takes about a third of its room. Each worker has two blocks.
 const BLOCK_BYTES: usize = 1 << 21;
 
 /// How much room entries need at least before one more thread saves time.
 const ROOM_WORTH_A_THREAD: u64 = 1 << 20;
 
 /// Writes what stands in front of a certificate file, and then the file, as `to_text_group` would make it. The texts of
-/// the entries are made by this number of workers, a part at a time, and no more than these parts is held in memory.
-/// The moment is at most 65,536.
+/// the entries are made by this number of workers, a part at a time, while the part before is written; no more than
+/// two such parts is held in memory. The moment is at most 65,536.
 ///
 /// `Write` (72): the writer failed in this call, and a prefix of the whole was written. `OutOfMemory` (99): an
 /// allocation was refused. All memory is there before the first byte is written; so nothing was written then.
@@ -93,7 +93,7 @@ fn write_parts<R: Threads + Sync, W: Write>(
     Ok(())
 }
 
-/// The blocks for the entries of a certificate: one for each worker who saves time.
+/// The blocks for the entries of a certificate: in each set one for each worker who saves time.
 fn blocks_for<R: Threads + Sync>(
     rt: &R,
     alloc: Global,

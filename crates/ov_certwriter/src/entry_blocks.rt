@@ -4,7 +4,8 @@ ghost use Rattle.std.specs.Prelude.{◌≡◌, ◌≤◌, ◌<◌, ◌+◌, ◌*
 ghost use Rattle.std.specs.Prelude.{OnOk, IfOk};
 ghost use Rattle.std.specs.Io.KnownBytes.{Appends};
 ghost use Rattle.ov_io.specs.Device.{most_faults, write_faults, write_number, AppendsPrefixOf};
-ghost use Rattle.ov_certwriter.specs.Code.Blocks.{items_after, entries_room, AreWithin, block_text, HaveRoom, HoldParts};
+ghost use Rattle.ov_certwriter.specs.Code.Blocks.{items_after, entries_room, AreWithin};
+ghost use Rattle.ov_certwriter.specs.Code.Blocks.{block_text, HaveRoom, HoldParts};
 ghost use Rattle.ov_certwriter.specs.Code.Writing.{WritesFirst};
 
 use crate::entry_texts::Entry;

@@ -13,8 +13,8 @@ use std::thread::Threads;
 /// How many entries there are at least before one more thread saves time.
 const ENTRIES_WORTH_A_THREAD: u64 = 1 << 10;
 
-/// A number that no room of these entries is above; the largest number, if some room is so large. The entries are shared
-/// out among the workers who save time.
+/// A number that no room of these entries is above; the largest number, if some room is so large. The entries are
+/// shared out among the workers who save time. OutOfMemory (99) if an allocation is refused.
 pub(crate) fn largest_room<R: Threads + Sync, T: Entry>(
     rt: &R,
     alloc: Global,

@@ -6,8 +6,8 @@ use Rattle.serde_json.specs.Data.{Data}
 use Rattle.serde_json.specs.Written.{comma_if, compact_text}
 use Rattle.ov_certwriter.specs.declared.entry_blocks.Block.{Block}
 
--- These bytes were put into memory that was there, beginning at a place. If there was room for them all, they stand there
--- now, behind what stood in front of that place, and before the place `end`. The memory is as long as before.
+-- These bytes were put into memory that was there, beginning at a place. If there was room for them all, they stand
+-- there now, behind what stood in front of that place, and before the place `end`. The memory is as long as before.
 pub record Puts (bytes old : List ℕ) (at : ℕ) (new : List ℕ) (end : ℕ) : Type 0 where
   pub kept : length new ≡ length old
   pub fits : at + length bytes ≤ length old → (end ≡ at + length bytes) × (take end new ≡ take at old ++ bytes)

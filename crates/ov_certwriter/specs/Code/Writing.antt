@@ -6,8 +6,8 @@ use Rattle.ov_io.specs.Device.{SinkState, write_faults, write_number, AppendsPre
 use Rattle.ov_io.specs.declared.fault.WriteFault.{WriteFault}
 use Rattle.ov_certwriter.specs.Code.Blocks.{items_after}
 
--- The texts of the first items were written, of which there are so many: those of the others would make the texts whole.
--- If the writer failed, it took some prefix of the texts of all.
+-- The texts of the first items were written, of which there are so many: those of the others would make the texts
+-- whole. If the writer failed, it took some prefix of the texts of all.
 pub record WritesFirst {X W : Type 0} (as_data : X → Data) (later : Bool) (count : ℕ) (xs : List X)
     (contents : W → Option (List ℕ)) (old new : SinkState W) (result : Result (Unit {0}) WriteFault) : Type 0 where
   pub bytes : OnOk result ((done : List ℕ) × Appends (contents old.writer) (contents new.writer) done

@@ -10,9 +10,9 @@ pub returns-clause-fans : goal.returns-clause-fans
 returns-clause-fans g c =
     let most = c.max-room.ensures in
     let own = c.in_ok-fan_room.ensures (omega (arith, most, c.in_ok-new.ensures.small, c.in_ok-new.ensures.room)) in
-    let fans = subst (λ (xs : List FanPaths). AreWithin (λ e. e.paths) c.in_ok-fan_room.fan_room xs) c.as_slice-fans.ensures
-    own in
-    let all = within_more (λ (e : FanPaths). e.paths) c.in_ok-fan_room.fan_room c.max-room.result c.args.split.now.fans
+    let room = c.in_ok-fan_room.fan_room in
+    let fans = subst (λ (xs : List FanPaths). AreWithin (λ e. e.paths) room xs) c.as_slice-fans.ensures own in
+    let all = within_more (λ (e : FanPaths). e.paths) room c.max-room.result c.args.split.now.fans
     (omega (arith, most)) fans in
     subst (λ (r : ℕ). AreWithin (λ (e : FanPaths). e.paths) r c.args.split.now.fans) (sym c.in_ok-new.ensures.room) all
 
@@ -20,8 +20,9 @@ pub returns-clause-pairs : goal.returns-clause-pairs
 returns-clause-pairs g c =
     let most = c.max-room.ensures in
     let own = c.in_ok-pair_room.ensures (omega (arith, most, c.in_ok-new.ensures.small, c.in_ok-new.ensures.room)) in
-    let pairs = subst (λ (xs : List PairPaths). AreWithin (λ e. e.paths) c.in_ok-pair_room.pair_room xs)
-    c.as_slice-pairs.ensures own in
-    let all = within_more (λ (e : PairPaths). e.paths) c.in_ok-pair_room.pair_room c.max-room.result c.args.split.now.pairs
+    let room = c.in_ok-pair_room.pair_room in
+    let pairs = subst (λ (xs : List PairPaths). AreWithin (λ e. e.paths) room xs) c.as_slice-pairs.ensures own in
+    let all = within_more (λ (e : PairPaths). e.paths) room c.max-room.result c.args.split.now.pairs
     (omega (arith, most)) pairs in
-    subst (λ (r : ℕ). AreWithin (λ (e : PairPaths). e.paths) r c.args.split.now.pairs) (sym c.in_ok-new.ensures.room) all
+    subst (λ (r : ℕ). AreWithin (λ (e : PairPaths). e.paths) r c.args.split.now.pairs)
+    (sym c.in_ok-new.ensures.room) all

@@ -42,7 +42,8 @@ loop-id-preserved c =
       text = (
         text.0 ++ (comma_if l.later ++ decimal n),
         puts_then text.0 _ _ _ _ _ _ _ text.1
-            (puts_then (comma_if l.later) (decimal n) _ _ _ _ _ _ c.put_comma-id_at.ensures c.put_whole-end.ensures.text),
+            (puts_then (comma_if l.later) (decimal n) _ _ _ _ _ _ c.put_comma-id_at.ensures
+            c.put_whole-end.ensures.text),
         item_more whole_data n rest l.later text.0 (items_after whole_data false ids)
             (subst (λ (ns : List ℕ). text.0 ++ items_after whole_data l.later ns ≡ items_after whole_data false ids)
             front
