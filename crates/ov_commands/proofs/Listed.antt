@@ -1,6 +1,6 @@
 -- What lists name, and what came of an analysis that they ask for.
 use Rattle.std.proofs.Common.{◌≡◌, ◌∙◌, ◌⊎◌, ℕ, Bool, true, false, List, Option, Some, None, Result, Ok, Err, inl, inr}
-use Rattle.std.proofs.Common.{[], ◌∷◌, ◌++◌, ◌+◌, refl, sym, subst, ap, flat_map, map, replicate, length, if◌then◌else◌}
+use Rattle.std.proofs.Common.{[], ◌∷◌, ◌++◌, ◌+◌, refl, subst, ap, flat_map, replicate, length, if◌then◌else◌}
 use Rattle.std.proofs.lemmas.List.{append_assoc, replicate-append-replicate}
 use Rattle.ov_graph.specs.Links.{LinkGraph}
 use Rattle.ov_graphfile.specs.GraphFiles.{IsGraphFile}
