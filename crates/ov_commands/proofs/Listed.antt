@@ -1,6 +1,7 @@
 -- What lists name, and what came of an analysis that they ask for.
 use Rattle.std.proofs.Common.{◌≡◌, ◌∙◌, ◌⊎◌, ℕ, Bool, true, false, List, Option, Some, None, Result, Ok, Err, inl, inr}
-use Rattle.std.proofs.Common.{refl, sym, ap, map, replicate, length, if◌then◌else◌}
+use Rattle.std.proofs.Common.{[], ◌∷◌, ◌++◌, ◌+◌, refl, subst, ap, flat_map, replicate, length, if◌then◌else◌}
+use Rattle.std.proofs.lemmas.List.{append_assoc, replicate-append-replicate}
 use Rattle.ov_graph.specs.Links.{LinkGraph}
 use Rattle.ov_graphfile.specs.GraphFiles.{IsGraphFile}
 use Rattle.ov_graphfile.specs.NamesState.{NamesState, names_of}
@@ -62,13 +63,42 @@ nothing_told bytes asked contents sink (Group f) is = (is, refl)
 nothing_told bytes asked contents sink (OfFile f) is = absurd is
 
 -- what was answered of the nodes that are left is what was told
-pub answered : {W : Type 0} (bytes : List ℕ) (asked : AnalysisAsked) (gone : List ℕ) (group : Option (List ℕ))
+answered_so : {W : Type 0} (bytes : List ℕ) (asked : AnalysisAsked) (gone : List ℕ) (group : Option (List ℕ))
     (contents : W → Option (List ℕ)) (old new : SinkState W) (result : Result ℕ CommandFault)
     → AreGone bytes asked gone → IsGroupLeft bytes asked gone group
     → WasAnswered bytes gone group asked.certificate asked.named asked.least contents old new result
     → WasTold bytes asked contents old new result
-answered bytes asked gone group contents old new (Ok status) are is was =
+answered_so bytes asked gone group contents old new (Ok status) are is was =
     (gone, group, was.0, are, is, was.1, was.2)
-answered bytes asked gone group contents old new (Err (Run f)) are is was = inl (gone, group, are, is, was)
-answered bytes asked gone group contents old new (Err (Group f)) are is was = absurd was
-answered bytes asked gone group contents old new (Err (OfFile f)) are is was = absurd was
+answered_so bytes asked gone group contents old new (Err (Run f)) are is was = inl (gone, group, are, is, was)
+answered_so bytes asked gone group contents old new (Err (Group f)) are is was = absurd was
+answered_so bytes asked gone group contents old new (Err (OfFile f)) are is was = absurd was
+
+-- what was answered of the nodes that are left, by a request of theirs, is what was told
+pub answered : {W : Type 0} (bytes : List ℕ) (asked : AnalysisAsked) (gone taken : List ℕ)
+    (group members : Option (List ℕ)) (certificate named : Bool)
+    (contents : W → Option (List ℕ)) (old new : SinkState W) (result : Result ℕ CommandFault)
+    → AreGone bytes asked gone → IsGroupLeft bytes asked gone group
+    → taken ≡ gone → members ≡ group → certificate ≡ asked.certificate → named ≡ asked.named
+    → WasAnswered bytes taken members certificate named asked.least contents old new result
+    → WasTold bytes asked contents old new result
+answered bytes asked gone taken group members certificate named contents old new result are is e f h i was =
+    answered_so bytes asked gone group contents old new result are is
+    (subst (λ n. WasAnswered bytes gone group asked.certificate n asked.least contents old new result) i
+    (subst (λ c. WasAnswered bytes gone group c named asked.least contents old new result) h
+    (subst (λ m. WasAnswered bytes gone m certificate named asked.least contents old new result) f
+    (subst (λ t. WasAnswered bytes t members certificate named asked.least contents old new result) e was))))
+
+-- ---- the texts of lists, and no names
+
+-- one more line goes in, with a comma before it
+pub line_more : (text : List ℕ) (n : ℕ) (line : List ℕ) (rest : List (ℕ × List ℕ))
+    → ((text ++ 44 ∷ []) ++ line) ++ flat_map (λ l. 44 ∷ l.1) rest ≡ text ++ flat_map (λ l. 44 ∷ l.1) ((n, line) ∷ rest)
+line_more text n line rest =
+    append_assoc (text ++ 44 ∷ []) line (flat_map (λ l. 44 ∷ l.1) rest)
+    ∙ append_assoc text (44 ∷ []) (line ++ flat_map (λ l. 44 ∷ l.1) rest)
+
+-- one more node without a name
+pub none_more : (names : List (Option (List ℕ))) (count : ℕ) → names ≡ replicate count None
+    → names ++ None ∷ [] ≡ replicate (count + 1) None
+none_more names count are = ap (λ xs. xs ++ None ∷ []) are ∙ replicate-append-replicate count 1 None

@@ -1,5 +1,6 @@
 //! Analyses whose answer is told in names, or in words, or of which lists name nodes.
-ghost use Rattle.std.specs.Prelude.{◌≡◌, ◌<◌, option_map, IfOk};
+ghost use Rattle.std.specs.Prelude.{◌≡◌, ◌<◌, [], option_map, unwrap_or, IfOk};
+ghost use Rattle.ov_ids.specs.Sets.{without_all};
 ghost use Rattle.ov_io.specs.Device.{most_faults};
 ghost use Rattle.ov_commands.specs.Naming.{WasTold, asked_of, picked};
 ghost use Rattle.ov_commands.specs.Statuses.{IsAlarmStatus};
@@ -9,16 +10,26 @@ use crate::analyse_command::print_refusal;
 use crate::analysis_progress::PieceProgress;
 use crate::command_fault::CommandFault;
 use crate::least_number_alarm::alarm_status;
-use crate::listed_nodes::listed_nodes;
+use crate::listed_nodes::{ListedNodes, listed_nodes};
 use crate::node_lists::NodeLists;
 use ov_answers::{Answered, Request, Told, analyse_told, members_left};
 use ov_arguments::AnalysisRequest;
-use ov_ids::NodeId;
+use ov_ids::{NodeId, OutOfMemory};
 use ov_io::Sink;
 use ov_lines::FileKind;
 use ov_reasons::{analysis_reason, print_fault, print_reason, print_unread_tip, without_memory};
+use std::alloc::Global;
 use std::io::Write;
 use std::thread::Threads;
+
+/// What is analysed of a graph.
+#[derive(Drop)]
+struct Subject {
+    /// The nodes that are taken away, if a list says so.
+    gone: Option<Vec<NodeId>>,
+    /// The members of the group that are left, if there is a group.
+    group: Option<Vec<NodeId>>,
+}
 
 /// Analyses the graph file of these bytes, of the file of this name or of standard input, without the nodes that a list
 /// says are gone, and for the group that another list names. Prints the answer in the names that the file gives, and
@@ -37,20 +48,30 @@ pub(crate) fn analyse_in_words<T: Threads + Sync, W: Write>(
     ensures status { IfOk result (IsAlarmStatus analysis.now.at_least) }
 {
     let nodes = listed_nodes(rt, bytes, analysis.names, lists)?;
-    let gone = nodes.gone.as_deref().unwrap_or(&[]);
-    let members = picked_group(&nodes.group, &analysis.group);
-    let Ok(group) = members_left(rt.alloc(), members, gone) else {
+    let ListedNodes { group: named, gone } = nodes;
+    let Ok(group) = group_left(rt.alloc(), &named, &analysis.group, &gone) else {
         return Err(without_memory(rt).into());
     };
-    let request = Request {
-        gone,
-        group: group.as_deref(),
+    let subject = Subject { gone, group };
+    let request = request_of(&subject, analysis);
+    tell(rt, threads, bytes, sink, file, analysis, &request)
+}
+
+/// What these arguments ask for, of this subject.
+fn request_of<'a>(subject: &'a Subject, analysis: &AnalysisRequest) -> Request<'a>
+    ensures gone { result.gone.now ≡ unwrap_or (option_map (λ ids. ids.items) subject.now.gone) [] }
+    ensures group { option_map (λ ids. ids.now) result.group ≡ option_map (λ ids. ids.items) subject.now.group }
+    ensures certificate { result.certificate ≡ analysis.now.certificate }
+    ensures names { result.names ≡ analysis.now.names }
+{
+    Request {
+        gone: ids_of(&subject.gone),
+        group: subject.group.as_deref(),
         workers: analysis.workers,
         certificate: analysis.certificate,
         names: analysis.names,
         explain: analysis.explain,
-    };
-    tell(rt, threads, bytes, sink, file, analysis, &request)
+    }
 }
 
 /// Analyses the graph file of these bytes, as this request asks. Prints what is left to say on standard error.
@@ -83,17 +104,30 @@ fn tell<T: Threads + Sync, W: Write>(
     }
 }
 
-/// The group that is named, or else that of these ids.
-fn picked_group<'a>(
-    named: &'a Option<Vec<NodeId>>,
-    ids: &'a Option<Vec<NodeId>>,
-) -> Option<&'a [NodeId]>
-    ensures { option_map (λ group. group.now) result
-        ≡ picked (option_map (λ group. group.items) named.now) (option_map (λ group. group.items) ids.now) }
+/// The members of the group that is named, or else of that of these ids, without the nodes that are gone.
+fn group_left(
+    alloc: Global,
+    named: &Option<Vec<NodeId>>,
+    ids: &Option<Vec<NodeId>>,
+    gone: &Option<Vec<NodeId>>,
+) -> Result<Option<Vec<NodeId>>, OutOfMemory>
+    ensures left { IfOk result (λ left. option_map (λ group. group.items) left
+        ≡ option_map (without_all (unwrap_or (option_map (λ ids. ids.items) gone.now) []))
+        (picked (option_map (λ group. group.items) named.now) (option_map (λ group. group.items) ids.now))) }
 {
     match named {
-        Some(group) => Some(group.as_slice()),
-        None => ids.as_deref(),
+        Some(group) => members_left(alloc, Some(group.as_slice()), ids_of(gone)),
+        None => members_left(alloc, ids.as_deref(), ids_of(gone)),
+    }
+}
+
+/// The ids of a list, or none without a list.
+fn ids_of(list: &Option<Vec<NodeId>>) -> &[NodeId]
+    ensures { result.now ≡ unwrap_or (option_map (λ ids. ids.items) list.now) [] }
+{
+    match list {
+        Some(ids) => ids.as_slice(),
+        None => &[],
     }
 }
 

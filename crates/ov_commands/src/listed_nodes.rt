@@ -83,6 +83,7 @@ fn list_names<'a>(
 }
 
 /// No names of this many nodes.
+#[tactic(auto, using(crate::proofs::Listed::none_more))]
 fn no_names<'a>(alloc: Global, count: usize) -> Result<Vec<Option<&'a [u8]>>, AllocError>
     ensures names { IfOk result (λ names. map (λ t. option_copied t) names.items ≡ replicate count None) }
     ensures places { IfOk result (λ names. length names.items ≡ count) }
@@ -124,9 +125,9 @@ fn nodes_named(
     option: &str,
     text: Option<&[u8]>,
 ) -> Result<Option<Vec<NodeId>>, CommandFault>
-    ensures named { IfOk result (λ ids. AreNamed names.now (option_map (λ t. t.now) text)
+    ensures named { IfOk result (λ ids. AreNamed names.now (option_map (λ t. t.now) text.entry)
         (option_map (λ v. v.items) ids)) }
-    ensures fault { IfErr result (IsNotNamedBy names.now (option_map (λ t. t.now) text)) }
+    ensures fault { IfErr result (IsNotNamedBy names.now (option_map (λ t. t.now) text.entry)) }
 {
     let Some(text) = text else {
         return Ok(None);

@@ -1,5 +1,5 @@
 -- What was told is of the nodes that are left.
-use Rattle.std.proofs.Common.{[], option_map, unwrap_or}
+use Rattle.std.proofs.Common.{[], option_map, refl, unwrap_or}
 use Rattle.ov_commands.specs.Naming.{AreGone, IsGroupLeft, asked_of}
 use Rattle.ov_commands.proofs.Listed.{answered}
 use Rattle.ov_commands.proofs.analyse_in_names_or_words.analyse_in_words.Goals as goal
@@ -7,12 +7,13 @@ use Rattle.ov_commands.proofs.analyse_in_names_or_words.analyse_in_words.Goals a
 pub returns-clause-told : goal.returns-clause-told
 returns-clause-told g c =
     let asked = asked_of c.args.analysis.now c.args.lists.now in
-    let gone = option_map (λ ids. ids.items) c.in_ok-nodes.nodes.gone in
+    let listed = option_map (λ ids. ids.items) c.in_ok-nodes.nodes.gone in
     let named = option_map (λ ids. ids.items) c.in_ok-nodes.nodes.group in
-    let are : AreGone c.args.bytes.now asked c.unwrap_or-gone.result.now =
-    (gone, c.in_ok-nodes.ensures.gone, c.unwrap_or-gone.ensures) in
-    let is : IsGroupLeft c.args.bytes.now asked c.unwrap_or-gone.result.now
-    (option_map (λ ids. ids.items) c.in_ok-group.group) =
-    (named, c.in_ok-nodes.ensures.group, c.in_ok-group.ensures) in
-    answered c.args.bytes.now asked c.unwrap_or-gone.result.now _ g.W.Write.contents c.args.sink.now c.tell.new.sink
-    c.tell.result are is c.tell.ensures.answered
+    let gone = unwrap_or listed [] in
+    let group = option_map (λ ids. ids.items) c.in-Ok.group in
+    let are : AreGone c.args.bytes.now asked gone = (listed, c.in_ok-nodes.ensures.gone, refl) in
+    let is : IsGroupLeft c.args.bytes.now asked gone group =
+    (named, c.in_ok-nodes.ensures.group, c.in-Ok.ensures.left) in
+    answered c.args.bytes.now asked gone c.request_of-request.result.gone.now group _ _ _ g.W.Write.contents
+    c.args.sink.now c.tell.new.sink c.tell.result are is c.request_of-request.ensures.gone c.request_of-request.ensures.group
+    c.request_of-request.ensures.certificate c.request_of-request.ensures.names c.tell.ensures.answered
