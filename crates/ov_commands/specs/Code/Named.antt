@@ -26,10 +26,10 @@ IsNotNamedBy names text other = ⊥
 
 -- nodes are not found: one of these two lists names none, or memory ran out
 abbrev pub IsNotFound : List ℕ → Bool → Option (List ℕ) → Option (List ℕ) → CommandFault → Type 0
-IsNotFound bytes named gone group (Run fault) = fault ≡ run.OutOfMemory
-IsNotFound bytes named gone group (Group fault) =
-    NamesNobody bytes named gone fault ⊎ NamesNobody bytes named group fault
-IsNotFound bytes named gone group other = ⊥
+IsNotFound bytes named those these (Run fault) = fault ≡ run.OutOfMemory
+IsNotFound bytes named those these (Group fault) =
+    NamesNobody bytes named those fault ⊎ NamesNobody bytes named these fault
+IsNotFound bytes named those these other = ⊥
 
 -- what came of an analysis without these nodes and of this group, and the status of the alarm
 abbrev pub WasAnswered : {W : Type 0} → List ℕ → List ℕ → Option (List ℕ) → Bool → Bool → Option ℕ
