@@ -107,7 +107,7 @@ fn do_asked<T: Threads + Wait + Sync>(
     threads: &T,
     request: Request,
 ) -> Result<u8, ProgramFault>
-    ensures status { IfOk result (IsStatusOf request.entry) }
+    ensures status { IfOk result (IsStatusOf request) }
     ensures fault { IfErr result IsOfRequest }
 {
     match request {

@@ -3,7 +3,7 @@ use Rattle.std.proofs.Common.{map, string_bytes}
 use Rattle.std.proofs.lemmas.Result.{IfOk-weaker}
 use Rattle.overlay.specs.Program.{IsStatusGiven, IsStatusOf}
 use Rattle.overlay.proofs.Alarms.{status_given}
-use Rattle.overlay.proofs.main.answer.Goals as goal
+use Rattle.overlay.proofs.answer.Goals as goal
 
 pub returns-in-Ok-clause-status : goal.returns-in-Ok-clause-status
 returns-in-Ok-clause-status g c =
