@@ -4,7 +4,8 @@ ghost use Rattle.ov_ids.specs.RefillNames.{refill_name, refill_named};
 use std::fmt::{Display, Formatter, Result, Write};
 
 /// When a node that is told DISCONNECT by an active member looks for another one: an extension of ours. (HyParView's
-/// listing of DISCONNECT, Leitão, Pereira, Rodrigues, DSN 2007, Algorithm 1, looks for nobody. Running systems do.)
+/// listing of DISCONNECT, Leitão, Pereira, Rodrigues, DSN 2007, Algorithm 1, looks for nobody. Some running
+/// systems do.)
 #[derive(Clone, Copy, Debug, PartialEq, Eq)]
 pub enum Refill {
     /// It never does: the profile's rule.

@@ -96,14 +96,16 @@ ProfileDisconnect v s choices w changes sends =
     MatchBool ((s == v.me) || not (has v.active s)) (Idles v choices w changes sends)
     ((u : ViewsState) × RemovesActive v s u changes × AddsPassive u s choices w × (sends ≡ []))
 
--- whether the loss of an active member by DISCONNECT starts an attempt. u are the views without that member
+-- whether the loss of an active member by DISCONNECT starts an attempt: never, if nobody is active any more, or
+-- always. u are the views without that member
 abbrev pub starts_attempt : Refill → ViewsState → Bool
 starts_attempt Never u = false
 starts_attempt Alone u = length u.active == 0
 starts_attempt Always u = true
 
 -- DISCONNECT from s: if s is active, it goes down and then becomes passive. Where the rule says so, a new attempt then
--- begins with nobody tried, in place of one that waits, as it does at a crash report
+-- begins with nobody tried, in place of one that waits, as it does at a crash report. Otherwise the attempt stays and
+-- nothing is sent. From anyone else nothing changes
 abbrev pub AllowedDisconnect : ViewsState → AttemptState → ℕ → List Choice → ViewsState → AttemptState →
     List ViewChange → List (ℕ × Message) → Type 0
 AllowedDisconnect v a s choices w b changes sends =
