@@ -28,6 +28,28 @@ use Rattle.ov_commands.specs.declared.node_lists.NodeLists.{NodeLists}
 abbrev pub list_text : List ℕ → List ℕ
 list_text bytes = drop 1 (flat_map (λ line. 44 ∷ line.1) (kept_lines bytes))
 
+-- the argument names the file of a list: a path stands behind `@`
+abbrev pub NamesFile : List ℕ → Type 0
+NamesFile argument = (path : List ℕ) × (argument ≡ 64 ∷ path)
+
+-- the text of the list that an argument gives: the argument itself, or the list in the bytes of the file that it names
+abbrev pub IsListText : List ℕ → List ℕ → Type 0
+IsListText argument text =
+    ((¬ NamesFile argument) × (text ≡ argument))
+    ⊎ (NamesFile argument × ((bytes : List ℕ) × (text ≡ list_text bytes)))
+
+-- the text of a list, if an argument gives one
+abbrev pub IsListGiven : Option (List ℕ) → Option (List ℕ) → Type 0
+IsListGiven None text = text ≡ None
+IsListGiven (Some argument) None = ⊥
+IsListGiven (Some argument) (Some text) = IsListText argument text
+
+-- the same of the nodes that are gone, of which a file may have none
+abbrev pub IsGoneGiven : Option (List ℕ) → Option (List ℕ) → Type 0
+IsGoneGiven None text = text ≡ None
+IsGoneGiven (Some argument) None = NamesFile argument × IsListText argument []
+IsGoneGiven (Some argument) (Some text) = IsListText argument text × (NamesFile argument → text ≢ [])
+
 -- what is asked of an analysis, besides its graph file: the ids of the group, or the text of the list that names it;
 -- the text of the list of the nodes that are gone; whether the certificate file and the lines with names are asked for; and
 -- the least number k

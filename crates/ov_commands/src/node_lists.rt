@@ -1,6 +1,6 @@
 //! Lists of nodes that an analysis is asked for, as texts: in the command line, or in files.
-ghost use Rattle.std.specs.Prelude.{◌≡◌, drop, IfOk, IsTrue, None};
-ghost use Rattle.ov_commands.specs.Naming.{list_text};
+ghost use Rattle.std.specs.Prelude.{◌≡◌, ◌↔◌, ℕ, List, [], drop, option_map, string_bytes, IfOk, IsTrue, None, Some};
+ghost use Rattle.ov_commands.specs.Naming.{list_text, NamesFile, IsListGiven, IsGoneGiven};
 
 use ov_arguments::AnalysisRequest;
 use ov_lines::KeptLines;
@@ -8,8 +8,8 @@ use ov_reasons::{bytes_of_file, without_memory};
 use ov_run_meaning::RunFault;
 use std::alloc::{AllocError, Global};
 
-/// What a text begins with that names the file of a list.
-const FILE: &str = "@";
+/// What an argument begins with that names the file of a list.
+const FILE: char = '@';
 
 /// The texts of the lists that are given: parts with a comma between two, each the name or the id of a node.
 #[derive(Drop)]
@@ -34,25 +34,55 @@ impl NodeLists {
 
 /// The lists that an analysis is asked for. A list of nodes that are gone is none if it is in a file that has none.
 /// Prints why a file can't be read.
-pub(crate) fn lists_of(
-    rt: &HostRuntime,
-    analysis: &AnalysisRequest,
-) -> Result<NodeLists, RunFault> {
-    let gone = match text_given(rt, analysis.gone.as_deref())? {
-        Some(text) if text.is_empty() && is_in_file(analysis.gone.as_deref()) => None,
-        given => given,
-    };
+pub(crate) fn lists_of(rt: &HostRuntime, analysis: &AnalysisRequest) -> Result<NodeLists, RunFault>
+    ensures gone { IfOk result (λ lists. IsGoneGiven (option_map (λ text. string_bytes text) analysis.now.gone)
+        (option_map (λ text. text.items) lists.gone)) }
+    ensures group { IfOk result (λ lists. IsListGiven
+        (option_map (λ text. string_bytes text) analysis.now.group_list)
+        (option_map (λ text. text.items) lists.group)) }
+{
+    let gone = gone_given(rt, analysis.gone.as_deref())?;
     let group = text_given(rt, analysis.group_list.as_deref())?;
     Ok(NodeLists { group, gone })
 }
 
-/// Whether an argument names the file of a list.
-fn is_in_file(argument: Option<&str>) -> bool {
-    argument.unwrap_or("").starts_with(FILE)
+/// The text of the list of the nodes that are gone, if an argument gives one that names somebody.
+fn gone_given(rt: &HostRuntime, argument: Option<&str>) -> Result<Option<Vec<u8>>, RunFault>
+    ensures { IfOk result (λ text. IsGoneGiven (option_map (λ t. t.now) argument.entry)
+        (option_map (λ t. t.items) text)) }
+{
+    let text = text_given(rt, argument)?;
+    if is_in_file(argument) && is_empty(&text) {
+        return Ok(None);
+    }
+    Ok(text)
 }
 
-/// The text of a list: the argument itself, or what is in the file that it names.
-fn text_given(rt: &HostRuntime, argument: Option<&str>) -> Result<Option<Vec<u8>>, RunFault> {
+/// Whether a text is there, and is empty.
+fn is_empty(text: &Option<Vec<u8>>) -> bool
+    ensures { IsTrue result ↔ (option_map (λ t. t.items) text.now ≡ Some []) }
+{
+    match text {
+        Some(text) => text.as_slice().is_empty(),
+        None => false,
+    }
+}
+
+/// Whether an argument names the file of a list.
+fn is_in_file(argument: Option<&str>) -> bool
+    ensures { IsTrue result ↔ ((a : List ℕ) × (option_map (λ t. t.now) argument ≡ Some a) × NamesFile a) }
+{
+    match argument {
+        Some(argument) => argument.starts_with(FILE),
+        None => false,
+    }
+}
+
+/// The text of a list, if an argument gives one: the argument itself, or what is in the file that it names.
+fn text_given(rt: &HostRuntime, argument: Option<&str>) -> Result<Option<Vec<u8>>, RunFault>
+    ensures { IfOk result (λ text. IsListGiven (option_map (λ t. t.now) argument.entry)
+        (option_map (λ t. t.items) text)) }
+{
     let Some(argument) = argument else {
         return Ok(None);
     };

@@ -23,7 +23,7 @@ use ov_ids::{OutOfMemory, Seq, Workers};
 use ov_io::{Sink, WriteFault};
 use ov_net::{Entry, Event};
 use ov_run_meaning::{Outcome, Refusal, RunFault, Strictness, write_done, write_entry, write_look};
-use ov_scenario::{Line, LineToRun, LinesToRun, SectionLine, Subject};
+use ov_scenario::{Line, LineToRun, LinesToRun, Look, SectionLine, Subject};
 use ov_snap::Core;
 use ov_words::Words;
 use std::alloc::Global;
@@ -167,7 +167,7 @@ type LineDone<'a, N> = (Came<'a>, RunHall<N>);
 fn run_line<'a, N: HallName + Send + Sync, T: Threads + Wait + Sync, W: Write>(
     rt: &T,
     alloc: Global,
-    mut hall: RunHall<N>,
+    hall: RunHall<N>,
     recent: &mut RecentReports,
     line: Line<'a>,
     sink: &mut Sink<W>,
@@ -177,25 +177,80 @@ fn run_line<'a, N: HallName + Send + Sync, T: Threads + Wait + Sync, W: Write>(
     ensures ran { LineRan W.contents hall line.entry (λ r. r.0) (λ r. r.1) sink.old sink.new result }
 {
     match line {
-        Line::Event { event, words } => {
-            let outcome = run_event(alloc, &mut hall, event, &words, sink)?;
-            Ok((Came::Alone(outcome), hall))
-        }
-        Line::Look(look) => {
-            let outcome = write_look(alloc, hall.core(), look, sink)?;
-            Ok((Came::Alone(outcome), hall))
-        }
+        Line::Event { event, words } => run_event_line(alloc, hall, event, &words, sink),
+        Line::Look(look) => run_look_line(alloc, hall, look, sink),
         Line::Analyse { subject, workers } => {
-            sink.flush()?;
-            let outcome = run_analysis(rt, alloc, &mut hall, recent, &subject, workers, sink)?;
-            Ok((Came::Alone(outcome), hall))
+            run_analysis_line(rt, alloc, hall, recent, &subject, workers, sink)
         }
-        Line::Together(sections) => {
-            sink.flush()?;
-            let (block, hall) = run_block(rt, alloc, hall, sections)?;
-            Ok((Came::Block(block), hall))
-        }
+        Line::Together(sections) => run_block_line(rt, alloc, hall, sections, sink),
     }
+}
+
+/// Runs the line of an event.
+fn run_event_line<'a, N: HallName, W: Write>(
+    alloc: Global,
+    mut hall: RunHall<N>,
+    event: Event,
+    words: &Words,
+    sink: &mut Sink<W>,
+) -> Result<LineDone<'a, N>, RunFault>
+    requires faults { sink.old.faults < most_faults }
+    ensures ran { LineRan W.contents hall (kind.Event event words.now) (λ r. r.0) (λ r. r.1) sink.old sink.new
+        result }
+{
+    let outcome = run_event(alloc, &mut hall, event, words, sink)?;
+    Ok((Came::Alone(outcome), hall))
+}
+
+/// Runs the line of a look.
+fn run_look_line<'a, N: HallName, W: Write>(
+    alloc: Global,
+    hall: RunHall<N>,
+    look: Look,
+    sink: &mut Sink<W>,
+) -> Result<LineDone<'a, N>, RunFault>
+    requires faults { sink.old.faults < most_faults }
+    ensures ran { LineRan W.contents hall (kind.Look look) (λ r. r.0) (λ r. r.1) sink.old sink.new result }
+{
+    let outcome = write_look(alloc, hall.core(), look, sink)?;
+    Ok((Came::Alone(outcome), hall))
+}
+
+/// Runs the line of an analysis, after what the writer keeps back was handed on.
+fn run_analysis_line<'a, N: HallName, T: Threads + Sync, W: Write>(
+    rt: &T,
+    alloc: Global,
+    mut hall: RunHall<N>,
+    recent: &mut RecentReports,
+    subject: &Subject,
+    workers: Workers,
+    sink: &mut Sink<W>,
+) -> Result<LineDone<'a, N>, RunFault>
+    requires faults { sink.old.faults < most_faults }
+    ensures ran { LineRan W.contents hall (kind.Analyse subject.now workers) (λ r. r.0) (λ r. r.1) sink.old sink.new
+        result }
+{
+    sink.flush()?;
+    let outcome = run_analysis(rt, alloc, &mut hall, recent, subject, workers, sink)?;
+    Ok((Came::Alone(outcome), hall))
+}
+
+/// Runs a block of sections, after what the writer keeps back was handed on.
+fn run_block_line<'a, N: HallName + Send + Sync, T: Threads + Wait + Sync, W: Write>(
+    rt: &T,
+    alloc: Global,
+    hall: RunHall<N>,
+    sections: Seq<Seq<SectionLine<'a>>>,
+    sink: &mut Sink<W>,
+) -> Result<LineDone<'a, N>, RunFault>
+    requires faults { sink.old.faults < most_faults }
+    requires drivers { length sections ≤ N.drivers }
+    ensures ran { LineRan W.contents hall (kind.Together sections.entry) (λ r. r.0) (λ r. r.1) sink.old sink.new
+        result }
+{
+    sink.flush()?;
+    let (block, hall) = run_block(rt, alloc, hall, sections)?;
+    Ok((Came::Block(block), hall))
 }
 
 /// Runs the sections of a block at once, each by a driver of its own, and returns after all of them ended.
