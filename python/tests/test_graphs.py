@@ -59,7 +59,7 @@ class Edges(unittest.TestCase):
         self.assertEqual(named_graph([]).text, "")
 
     def test_what_is_no_edge(self):
-        for edge in "ab", b"ab", ("a",), ("a", "b", {}), 1, None, (["a"], "b"), ("a", "a"):
+        for edge in "ab", b"ab", ("a",), ("a", "b", {}), 1, None, (["a"], "b"):
             with self.assertRaises(BadGraph, msg=edge):
                 named_graph([edge])
 
@@ -114,10 +114,14 @@ class Networkx(unittest.TestCase):
     def test_links_that_occur_twice_count_once(self):
         self.assertEqual(named_graph(networkx.MultiGraph([(1, 2), (2, 1), (2, 3)])).links, [[1, 2], [2, 3]])
 
-    def test_directed_graphs_and_loops_are_refused(self):
-        for graph in networkx.DiGraph([(1, 2)]), networkx.Graph([(1, 1)]):
-            with self.assertRaises(BadGraph):
-                named_graph(graph)
+    def test_directed_graphs_are_refused(self):
+        with self.assertRaises(BadGraph):
+            named_graph(networkx.DiGraph([(1, 2)]))
+
+    def test_links_of_a_node_to_itself_are_passed_over(self):
+        for kind in networkx.Graph, networkx.MultiGraph:
+            with self.assertWarnsRegex(ViewsDiffer, "^lists itself: 1\n1 lists itself\na link of a name to itself is passed"):
+                self.assertEqual(named_graph(kind([(1, 1), (1, 2)])).links, [[1, 2]])
 
 
 if __name__ == "__main__":

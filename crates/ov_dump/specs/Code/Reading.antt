@@ -2,12 +2,14 @@
 use Rattle.std.specs.Prelude.{◌≡◌, ◌↔◌, ◌⊎◌, ⊤, ℕ, Bool, true, nat_eq, List, [], ◌∷◌, ◌++◌, if◌then◌else◌, Option, Some}
 use Rattle.std.specs.Prelude.{None, Result, Ok, Err}
 use Rattle.ov_ids.specs.Members.{Has}
-use Rattle.json.specs.Json.{Json, array, object, Items, Members}
+use Rattle.json.specs.Json.{Json, null, array, object, Items, no_items, Members}
 use Rattle.ov_dump.specs.declared.dump_and_graph_types.Dump.{Dump}
 use Rattle.ov_dump.specs.declared.dump_and_graph_types.Entry.{Entry}
 use Rattle.ov_dump.specs.EdgeLines.{IsBlankLine, IsEdge, IsReadable, IsWhy, before_mark, is_blank, is_name_byte}
 use Rattle.ov_dump.specs.Views.{LacksView, SayDump}
 use Rattle.ov_dump.specs.declared.edge_line.EdgeLine.{EdgeLine}
+use Rattle.ov_dump.specs.declared.views_reading.Listed.{Listed}
+use Rattle.ov_dump.specs.declared.views_reading.Listed.TheVariants.{Nobody, Peer, NoName}
 use Rattle.ov_dump.specs.declared.edge_line.EdgeLine.TheVariants.{Blank, Edge, Unread}
 use Rattle.ov_dump.specs.declared.reading_fault.ReadingFault.{ReadingFault}
 use Rattle.ov_dump.specs.declared.reading_fault.ReadingFault.TheVariants.{NotViews, NoView, UnreadLine}
@@ -15,8 +17,9 @@ use Rattle.ov_dump.specs.declared.reading_fault.ReadingFault.TheVariants.{OutOfM
 
 -- ---- views
 
--- the items of a list
+-- the items of a list. `null` has none
 abbrev pub as_items : Json → Option Items
+as_items null = Some no_items
 as_items (array js) = Some js
 as_items other = None
 
@@ -25,13 +28,19 @@ abbrev pub as_members : Json → Option Members
 as_members (object ms) = Some ms
 as_members other = None
 
--- the entry of this number and name is no list of texts
+-- the names that an item lists, as they were read
+abbrev pub names_read : Listed → Option (List (List ℕ))
+names_read Nobody = Some []
+names_read (Peer name) = Some (name.now ∷ [])
+names_read NoName = None
+
+-- the entry of this number and name is no list of names
 abbrev pub FailsAt : ℕ → List ℕ → Option (List (List ℕ)) → ReadingFault → Type 0
 FailsAt at name said (NoView entry wrong) = (entry ≡ at) × (wrong ≡ name) × (said ≡ None)
 FailsAt at name said OutOfMemory = ⊤
 FailsAt at name said other = ⊥
 
--- one of these members is no list of texts
+-- one of these members is no list of names
 abbrev pub FailsFrom : ℕ → Members → ReadingFault → Type 0
 FailsFrom at ms (NoView entry wrong) = LacksView at ms entry wrong
 FailsFrom at ms OutOfMemory = ⊤
