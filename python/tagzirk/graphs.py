@@ -157,8 +157,8 @@ def in_order(names: Iterable[Node]) -> List[Node]:
 
 def numbered(names: Iterable[Node], pairs: Iterable[Tuple[Node, Node]]) -> NamedGraph[Node]:
     """A graph of these nodes and links. Its ids are the names, if all of these are ids, and else 1, 2, 3, ..: in the
-    order of the bytes of names in UTF-8 if all are texts, as `overlay import` has it, and else as they are given. A link
-    of a name to itself is passed over."""
+    order of the bytes of names in UTF-8 if all are texts, as `overlay import` has it, and else as they are given. A
+    link of a name to itself is passed over."""
     names = in_order(names)
     if all(type(name) is int and 0 <= name <= MOST_ID for name in names):
         ids: Dict[Node, int] = {name: name for name in names}  # type: ignore[misc]

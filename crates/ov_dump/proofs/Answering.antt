@@ -250,37 +250,34 @@ without_entry d entries names up own m = record {
 -- the name of a listing that has only one is added
 pub one_name : (l : Listing) (names later : List (List ℕ)) → l.from ≡ l.to
     → ((n : List ℕ) → Has later n ↔ ((l.from ≡ n) ⊎ Has names n))
-    → (n : List ℕ) → Has later n ↔ (((l.from, l.to) ≡ (n, n)) ⊎ Has names n)
+    → (n : List ℕ) → Has later n ↔ (((l.from ≡ n) × (l.to ≡ n)) ⊎ Has names n)
 one_name l names later same more n = (
-  (λ h. elim ((more n).0 h) [
-    | inl e ↦ inl (ap₂ (λ (x y : List ℕ). (x, y)) e (sym same ∙ e))
-    | inr m ↦ inr m
-  ]),
-  (λ h. (more n).1 (elim h [
-    | inl e ↦ inl (ap (λ (p : List ℕ × List ℕ). p.0) e)
-    | inr m ↦ inr m
-  ])),
+  (λ h. elim ((more n).0 h) [ inl e ↦ inl (e, sym same ∙ e) | inr m ↦ inr m ]),
+  (λ h. (more n).1 (elim h [ inl e ↦ inl e.0 | inr m ↦ inr m ])),
 )
 
 -- a listing of two names says of none that it lists itself
 pub two_names : (l : Listing) (names : List (List ℕ)) → l.from ≢ l.to
-    → (n : List ℕ) → Has names n ↔ (((l.from, l.to) ≡ (n, n)) ⊎ Has names n)
+    → (n : List ℕ) → Has names n ↔ (((l.from ≡ n) × (l.to ≡ n)) ⊎ Has names n)
 two_names l names differ n = (
   (λ h. inr h),
-  (λ h. elim h [
-    | inl e ↦ absurd (differ (ap (λ (p : List ℕ × List ℕ). p.0) e ∙ sym (ap (λ (p : List ℕ × List ℕ). p.1) e)))
-    | inr m ↦ m
-  ]),
+  (λ h. elim h [ inl e ↦ absurd (differ (e.0 ∙ sym e.1)) | inr m ↦ m ]),
 )
 
 -- the names of listings and one more
 pub self_more : (before : List Listing) (l : Listing) (names later : List (List ℕ))
     → ((n : List ℕ) → Has names n ↔ Has (ends_of before) (n, n))
-    → ((n : List ℕ) → Has later n ↔ (((l.from, l.to) ≡ (n, n)) ⊎ Has names n))
+    → ((n : List ℕ) → Has later n ↔ (((l.from ≡ n) × (l.to ≡ n)) ⊎ Has names n))
     → (n : List ℕ) → Has later n ↔ Has (ends_of (before ++ l ∷ [])) (n, n)
 self_more before l names later own more n = (
-  (λ h. (ends_more before l (n, n)).1 (elim ((more n).0 h) [ inl same ↦ inl same | inr m ↦ inr ((own n).0 m) ])),
-  (λ h. (more n).1 (elim ((ends_more before l (n, n)).0 h) [ inl same ↦ inl same | inr m ↦ inr ((own n).1 m) ])),
+  (λ h. (ends_more before l (n, n)).1 (elim ((more n).0 h) [
+    | inl e ↦ inl (ap₂ (λ (x y : List ℕ). (x, y)) e.0 e.1)
+    | inr m ↦ inr ((own n).0 m)
+  ])),
+  (λ h. (more n).1 (elim ((ends_more before l (n, n)).0 h) [
+    | inl e ↦ inl (ap (λ (p : List ℕ × List ℕ). p.0) e, ap (λ (p : List ℕ × List ℕ). p.1) e)
+    | inr m ↦ inr ((own n).1 m)
+  ])),
 )
 
 pub list_themselves : (d : Dump) (names : List (List ℕ)) → Ordered ComesBefore names

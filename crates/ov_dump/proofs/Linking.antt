@@ -387,9 +387,9 @@ by_nodes false d names i j h = ((h.0, h.1, h.2, h.3, h.5.0), (h.1, h.0, h.3, h.2
 -- the links of a choice
 pub by_choice : (either : Bool) (names : List (List ℕ)) (listings : List Listing) (g : LinkGraph)
     → (either ≡ true → (i j : ℕ) → i ≢ j
-        → (Linked g i j ↔ (NodeLists names listings i j ⊎ NodeLists names listings j i)))
+    → (Linked g i j ↔ (NodeLists names listings i j ⊎ NodeLists names listings j i)))
     → (either ≡ false → (i j : ℕ) → i ≢ j
-        → (Linked g i j ↔ (NodeLists names listings i j × NodeLists names listings j i)))
+    → (Linked g i j ↔ (NodeLists names listings i j × NodeLists names listings j i)))
     → (i j : ℕ) → i ≢ j → (Linked g i j ↔ NodesAreLinked either names listings i j)
 by_choice true names listings g one both = one refl
 by_choice false names listings g one both = both refl
@@ -416,9 +416,9 @@ pub follows_dump : (choice : Choice) (d : Dump) (g : LinkGraph) (names : List (L
     → listings ≡ d.listings → Ordered ComesBefore names
     → ((n : List ℕ) → Has names n ↔ IsTaken choice d n) → IsGraph g → g.nodes ≡ numbers (length names)
     → (choice.either ≡ true → (i j : ℕ) → i ≢ j
-        → (Linked g i j ↔ (NodeLists names listings i j ⊎ NodeLists names listings j i)))
+    → (Linked g i j ↔ (NodeLists names listings i j ⊎ NodeLists names listings j i)))
     → (choice.either ≡ false → (i j : ℕ) → i ≢ j
-        → (Linked g i j ↔ (NodeLists names listings i j × NodeLists names listings j i)))
+    → (Linked g i j ↔ (NodeLists names listings i j × NodeLists names listings j i)))
     → IsGraphOf choice d g names
 follows_dump choice d g names listings same up taken graph nodes one both =
     is_graph_of choice d g names up taken graph nodes

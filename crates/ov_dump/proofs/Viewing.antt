@@ -1,7 +1,8 @@
 -- Members of an object and items of a list that are read one after another.
 use Rattle.std.proofs.Common.{◌≡◌, ◌≢◌, ◌∙◌, ◌+◌, ◌<◌, ◌≤◌, ℕ, zero, suc, List, [], ◌∷◌, ◌++◌, inl, inr, sym, ap, subst}
 use Rattle.std.proofs.Common.{refl, append_assoc, append-nil, arith, drop, get_or, length, Bor, Option, Some, None}
-use Rattle.std.proofs.Common.{unwrap_or}
+use Rattle.std.proofs.Common.{unwrap_or, true, false}
+use Rattle.json.specs.Find.{is_null}
 use Rattle.json.specs.Json.{Json, null, boolean, number, string, array, object, Items, no_items, item}
 use Rattle.json.specs.Json.{Members, no_members, member}
 use Rattle.json.specs.Value.{items_view, members_view, value_view}
@@ -227,20 +228,33 @@ no_member_left (m ∷ ms) (suc i) l = no_member_left ms i (omega arith)
 -- ---- the peers of a value
 
 pub peers_of_list : (v : Json) (js : Items) → as_items v ≡ Some js → peers v ≡ listed js
-peers_of_list null js e = ap listed (ap (λ o. unwrap_or o js) e)
+peers_of_list null js e = absurd (cc)
 peers_of_list (boolean b) js e = absurd (cc)
 peers_of_list (number t) js e = absurd (cc)
 peers_of_list (string t) js e = absurd (cc)
 peers_of_list (array is) js e = ap listed (ap (λ o. unwrap_or o js) e)
 peers_of_list (object ms) js e = absurd (cc)
 
-pub peers_of_other : (v : Json) → as_items v ≡ None → peers v ≡ None
-peers_of_other null e = absurd (cc)
-peers_of_other (boolean b) e = refl
-peers_of_other (number t) e = refl
-peers_of_other (string t) e = refl
-peers_of_other (array is) e = absurd (cc)
-peers_of_other (object ms) e = refl
+pub peers_of_other : (v : Json) → is_null v ≡ false → as_items v ≡ None → peers v ≡ None
+peers_of_other null no e = absurd (cc)
+peers_of_other (boolean b) no e = refl
+peers_of_other (number t) no e = refl
+peers_of_other (string t) no e = refl
+peers_of_other (array is) no e = absurd (cc)
+peers_of_other (object ms) no e = refl
+
+pub peers_of_null : (v : Json) → is_null v ≡ true → peers v ≡ Some []
+peers_of_null null e = refl
+peers_of_null (boolean b) e = absurd (cc)
+peers_of_null (number t) e = absurd (cc)
+peers_of_null (string t) e = absurd (cc)
+peers_of_null (array is) e = absurd (cc)
+peers_of_null (object ms) e = absurd (cc)
+
+-- without its name, or for want of memory, an entry fails
+pub memory_fails : (at : ℕ) (name : List ℕ) (said : Option (List (List ℕ))) (fault : ReadingFault)
+    → fault ≡ OutOfMemory → FailsAt at name said fault
+memory_fails at name said fault e = subst (FailsAt at name said) (sym e) tt
 
 -- ---- the file
 

@@ -32,7 +32,7 @@ fn self_listed(alloc: Global, listings: &[Listing]) -> Result<NameSet, OutOfMemo
 /// Adds the name of a listing that has only one.
 fn add_if_same(alloc: Global, names: &mut NameSet, listing: &Listing) -> Result<(), OutOfMemory>
     ensures { OnOk result ((n : List ℕ) → Has names.new n
-        ↔ (((listing.now.from, listing.now.to) ≡ (n, n)) ⊎ Has names.old n)) }
+        ↔ (((listing.now.from ≡ n) × (listing.now.to ≡ n)) ⊎ Has names.old n)) }
 {
     if !are_same(&listing.from, &listing.to) {
         return Ok(());

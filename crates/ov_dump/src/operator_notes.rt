@@ -11,6 +11,17 @@ use std::fmt::Write;
 /// How many listings, and how many names, are told of at most. (Chosen here.)
 const MOST_TOLD: usize = 10;
 
+/// What `--either` does, where few listings are answered.
+const EITHER: &str = "more than half of the listings are not answered; \
+    --either links two names also if only one of them lists the other\n";
+
+/// What becomes of a link of a name to itself.
+const PASSED_OVER: &str = "a link of a name to itself is passed over\n";
+
+/// Who reads lines of neighbours behind a colon.
+const ADJACENCY: &str = "a line `a: b c` of an adjacency list is no form of a dump here; \
+    `tagzirk import` of the Python package reads it\n";
+
 /// What an operator should know of a dump: that it has no name; how many listings the other end does not answer, how
 /// many names are listed and have no entry, as those of dead peers, how many list themselves, and how many end in a
 /// colon; the first ten of each, and what becomes of them. Empty if there is none of it. OutOfMemory (99) is returned if
@@ -48,17 +59,6 @@ pub fn header_note(alloc: Global, dump: &Dump) -> Result<String, OutOfMemory> {
     }
     Ok(note)
 }
-
-/// What `--either` does, where few listings are answered.
-const EITHER: &str = "more than half of the listings are not answered; \
-    --either links two names also if only one of them lists the other\n";
-
-/// What becomes of a link of a name to itself.
-const PASSED_OVER: &str = "a link of a name to itself is passed over\n";
-
-/// Who reads lines of neighbours behind a colon.
-const ADJACENCY: &str = "a line `a: b c` of an adjacency list is no form of a dump here; \
-    `tagzirk import` of the Python package reads it\n";
 
 /// Whether a part is more than half of a number.
 fn is_most(part: usize, all: usize) -> bool {

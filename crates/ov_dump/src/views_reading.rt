@@ -3,6 +3,7 @@ ghost use Rattle.json.specs.Value.{items_view, members_view, value_view};
 ghost use Rattle.ov_dump.specs.Views.{IsViewsFault, SayDump, SaysViews, is_point, is_whole, listed, listings_of};
 ghost use Rattle.ov_dump.specs.Views.{names_in, peers};
 ghost use Rattle.ov_dump.specs.Code.Reading.{DumpOf, FailsAt, FailsFrom, as_items, as_members, names_read};
+ghost use Rattle.ov_dump.specs.declared.reading_fault.ReadingFault.TheVariants.{OutOfMemory as out_of_memory};
 
 use crate::name_and_listing_making::{listing_of, name_of};
 use crate::reading_fault::ReadingFault;
@@ -76,14 +77,14 @@ fn members_in<'v, 'a>(value: &'v Value<'a>) -> Option<&'v [(&'a str, Value<'a>)]
     }
 }
 
-/// The items of a list. `null` has none.
+/// The items of a list.
 fn items_in<'v, 'a>(value: &'v Value<'a>) -> Option<&'v [Value<'a>]>
     ensures { option_map (λ vs. items_view vs.now) result ≡ as_items (value_view value.now) }
 {
-    match value {
-        Value::Null => Some(&[]),
-        Value::Array(items) => Some(items),
-        _ => None,
+    if let Value::Array(items) = value {
+        Some(items)
+    } else {
+        None
     }
 }
 
@@ -116,14 +117,32 @@ fn add_view(
         × (parts.new.listings.items ≡ parts.old.listings.items ++ listings_of at name.now names)) }
     ensures fault { IfErr result (FailsAt at name.now (peers (value_view view.now))) }
 {
+    if view.is_null() {
+        return add_entry(alloc, &mut parts.entries, at, name);
+    }
     match items_in(view) {
         Some(items) => {
-            let entry = name_of(alloc, name)?;
-            parts.entries.push(Entry { at, name: entry })?;
+            add_entry(alloc, &mut parts.entries, at, name)?;
             add_peers(alloc, &mut parts.listings, at, name, items)
         }
         None => Err(no_view(alloc, at, name)),
     }
+}
+
+/// Adds an entry without listings.
+fn add_entry(
+    alloc: Global,
+    entries: &mut Vec<Entry>,
+    at: u64,
+    name: &str,
+) -> Result<(), ReadingFault>
+    ensures entry { OnOk result (entries.new.items
+        ≡ entries.old.items ++ record { at = at; name = name.now } ∷ []) }
+    ensures fault { IfErr result (λ fault. fault ≡ out_of_memory) }
+{
+    let entry = name_of(alloc, name)?;
+    entries.push(Entry { at, name: entry })?;
+    Ok(())
 }
 
 /// Adds the listings of an entry.

@@ -2,7 +2,7 @@
 use Rattle.std.specs.Prelude.{◌≡◌, ◌↔◌, ◌⊎◌, ⊤, ℕ, Bool, true, nat_eq, List, [], ◌∷◌, ◌++◌, if◌then◌else◌, Option, Some}
 use Rattle.std.specs.Prelude.{None, Result, Ok, Err}
 use Rattle.ov_ids.specs.Members.{Has}
-use Rattle.json.specs.Json.{Json, null, array, object, Items, no_items, Members}
+use Rattle.json.specs.Json.{Json, array, object, Items, Members}
 use Rattle.ov_dump.specs.declared.dump_and_graph_types.Dump.{Dump}
 use Rattle.ov_dump.specs.declared.dump_and_graph_types.Entry.{Entry}
 use Rattle.ov_dump.specs.EdgeLines.{IsBlankLine, IsEdge, IsReadable, IsWhy, before_mark, is_blank, is_name_byte}
@@ -17,9 +17,8 @@ use Rattle.ov_dump.specs.declared.reading_fault.ReadingFault.TheVariants.{OutOfM
 
 -- ---- views
 
--- the items of a list. `null` has none
+-- the items of a list
 abbrev pub as_items : Json → Option Items
-as_items null = Some no_items
 as_items (array js) = Some js
 as_items other = None
 
