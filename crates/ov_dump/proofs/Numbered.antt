@@ -139,6 +139,13 @@ one_lists names l from to up f t i j = (
   )),
 )
 
+-- a listing of one node by itself says nothing of two nodes
+pub of_itself : (names : List (List ℕ)) (l : Listing) (from to : ℕ) → Ordered ComesBefore names
+    → IsNameOf names from l.from → IsNameOf names to l.to → from ≡ to
+    → (i j : ℕ) → i ≢ j → NodeLists names (l ∷ []) i j → ⊥
+of_itself names l from to up f t same i j far h =
+    let e = (one_lists names l from to up f t i j).0 h in far (e.0 ∙ same ∙ sym e.1)
+
 pub from_stranger : (names : List (List ℕ)) (l : Listing) (i j : ℕ) → ¬ Has names l.from
     → NodeLists names (l ∷ []) i j → ⊥
 from_stranger names l i j none (a, b, p, q, k) =

@@ -4,7 +4,8 @@
 use Rattle.std.specs.Prelude.{◌≡◌, ◌≢◌, ◌⊎◌, ⊤, ℕ, ◌+◌, List, [], ◌∷◌, ◌++◌, map, IsUtf8, Option, Some, None}
 use Rattle.std.specs.Prelude.{Bool, not, nat_eq, ◌||◌, if◌then◌else◌}
 use Rattle.std.specs.List.{list_all}
-use Rattle.json.specs.Json.{Json, null, number, string, array, object, Items, no_items, item}
+use Rattle.json.specs.Json as json
+use Rattle.json.specs.Json.{Json, number, string, array, object, Items, no_items, item}
 use Rattle.json.specs.Json.{Members, no_members, member, document}
 use Rattle.ov_ids.specs.Options.{◌>>=◌}
 use Rattle.ov_dump.specs.declared.dump_and_graph_types.Dump.{Dump}
@@ -13,19 +14,19 @@ use Rattle.ov_dump.specs.declared.reading_fault.ReadingFault.{ReadingFault}
 use Rattle.ov_dump.specs.declared.reading_fault.ReadingFault.TheVariants.{NotJson, NotViews, NoView}
 use Rattle.ov_dump.specs.declared.reading_fault.ReadingFault.TheVariants.{OutOfMemory}
 
--- with this byte, `.`, `e` or `E`, a fraction or an exponent begins
-abbrev pub is_point : ℕ → Bool
-is_point b = nat_eq b 46 || (nat_eq b 101 || nat_eq b 69)
+-- with this byte, `.`, `e` or `E`, the whole part of a number ends: a fraction or an exponent begins
+abbrev pub ends_whole : ℕ → Bool
+ends_whole b = nat_eq b 46 || (nat_eq b 101 || nat_eq b 69)
 
 -- a number, as it is written, has no fraction and no exponent
 abbrev pub is_whole : List ℕ → Bool
-is_whole written = list_all (λ b. not (is_point b)) written
+is_whole written = list_all (λ b. not (ends_whole b)) written
 
 -- the names that an item lists: a text and a whole number, as it is written, are one name, and `null` is nobody
 abbrev pub names_in : Json → Option (List (List ℕ))
-names_in null = Some []
 names_in (string s) = Some (s ∷ [])
 names_in (number s) = if is_whole s then Some (s ∷ []) else None
+names_in json.null = Some []
 names_in other = None
 
 -- the names that these items list, if each lists some or nobody
@@ -35,8 +36,8 @@ listed (item v more) = names_in v >>= λ names. listed more >>= λ rest. Some (n
 
 -- the names that a value lists, if it is a list of names. `null` lists nobody
 abbrev pub peers : Json → Option (List (List ℕ))
-peers null = Some []
 peers (array js) = listed js
+peers json.null = Some []
 peers other = None
 
 -- the listings of one entry

@@ -1,7 +1,7 @@
 ghost use Rattle.std.specs.Prelude.{◌≡◌, ◌++◌, ◌∷◌, [], ℕ, List, IfErr, IfOk, OnOk, None, Some, option_map};
 ghost use Rattle.json.specs.Value.{items_view, members_view, value_view};
-ghost use Rattle.ov_dump.specs.Views.{IsViewsFault, SayDump, SaysViews, is_point, is_whole, listed, listings_of};
-ghost use Rattle.ov_dump.specs.Views.{names_in, peers};
+ghost use Rattle.ov_dump.specs.Views.{IsViewsFault, SayDump, SaysViews, ends_whole, is_whole, listed};
+ghost use Rattle.ov_dump.specs.Views.{listings_of, names_in, peers};
 ghost use Rattle.ov_dump.specs.Code.Reading.{DumpOf, FailsAt, FailsFrom, as_items, as_members, names_read};
 ghost use Rattle.ov_dump.specs.declared.reading_fault.ReadingFault.TheVariants.{OutOfMemory as out_of_memory};
 
@@ -190,15 +190,16 @@ fn is_whole(written: &str) -> bool
     ensures { result ≡ is_whole written.now }
 {
     for byte in written.as_bytes() {
-        if is_point(*byte) {
+        if ends_whole(*byte) {
             return false;
         }
     }
     true
 }
 
-fn is_point(byte: u8) -> bool
-    ensures { result ≡ is_point byte }
+/// Whether a byte begins a fraction or an exponent.
+fn ends_whole(byte: u8) -> bool
+    ensures { result ≡ ends_whole byte }
 {
     byte == b'.' || byte == b'e' || byte == b'E'
 }

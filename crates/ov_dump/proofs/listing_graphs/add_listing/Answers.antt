@@ -1,7 +1,7 @@
 -- A listing of a name that is none of a node, one of a node by itself, and one of two nodes.
-use Rattle.std.proofs.Common.{ℕ, List, inl, inr, sym, subst}
+use Rattle.std.proofs.Common.{◌∙◌, ℕ, List, inl, inr, sym, subst, eqb-true}
 use Rattle.ov_ids.specs.Members.{Has}
-use Rattle.ov_dump.proofs.Numbered.{from_stranger, named_node, one_lists, to_stranger}
+use Rattle.ov_dump.proofs.Numbered.{from_stranger, named_node, of_itself, one_lists, to_stranger}
 use Rattle.ov_dump.proofs.Places.{none_given}
 use Rattle.ov_dump.proofs.listing_graphs.add_listing.Goals as goal
 
@@ -21,6 +21,17 @@ returns-in_default-node_of-clause-lists c = λ i j far.
       (λ h. inr h),
       (λ h. elim h [
         | inl k ↦ absurd (to_stranger c.args.names.now c.args.listing.now i j none k)
+        | inr k ↦ k
+      ]),
+    )
+
+pub returns-then-eq-clause-lists : goal.returns-then-eq-clause-lists
+returns-then-eq-clause-lists c = λ i j far.
+    let same = eqb-true c.in-Some.from c.in-Some-node_of.to (sym c.eq.ensures ∙ c.if-eq.true) in (
+      (λ h. inr h),
+      (λ h. elim h [
+        | inl k ↦ absurd (of_itself c.args.names.now c.args.listing.now c.in-Some.from c.in-Some-node_of.to
+            c.requires.ascend c.in-Some.ensures.some c.in-Some-node_of.ensures.some same i j far k)
         | inr k ↦ k
       ]),
     )
