@@ -248,7 +248,8 @@ fn tell_refusal(rt: &HostRuntime, refusal: &DumpFault, place: &str) {
 }
 
 /// What can be done about a dump with too many names.
-const PART: &str = "analyse a part as a dump of its own, such as the hosts of one site, or a group of hosts with their \
+const PART: &str =
+    "analyse a part as a dump of its own, such as the hosts of one site, or a group of hosts with their \
     neighbourhood; its k is that of the part";
 
 /// Prints what an operator should know of a dump. Prints nothing if an allocation for it is refused.

@@ -236,12 +236,12 @@ peers_of_list (array is) js e = ap listed (ap (λ o. unwrap_or o js) e)
 peers_of_list (object ms) js e = absurd (cc)
 
 pub peers_of_other : (v : Json) → is_null v ≡ false → as_items v ≡ None → peers v ≡ None
-peers_of_other null no e = absurd (cc)
-peers_of_other (boolean b) no e = refl
-peers_of_other (number t) no e = refl
-peers_of_other (string t) no e = refl
-peers_of_other (array is) no e = absurd (cc)
-peers_of_other (object ms) no e = refl
+peers_of_other null other e = absurd (cc)
+peers_of_other (boolean b) other e = refl
+peers_of_other (number t) other e = refl
+peers_of_other (string t) other e = refl
+peers_of_other (array is) other e = absurd (cc)
+peers_of_other (object ms) other e = refl
 
 pub peers_of_null : (v : Json) → is_null v ≡ true → peers v ≡ Some []
 peers_of_null null e = refl

@@ -158,11 +158,12 @@ fn add_peers(
     ensures fault { IfErr result (FailsAt at name.now (listed (items_view items.now))) }
 {
     for item in items {
-        match listed_by(item) {
-            Listed::Nobody => {}
-            Listed::Peer(to) => listings.push(listing_of(alloc, at, name, to)?)?,
+        let to = match listed_by(item) {
+            Listed::Nobody => continue,
+            Listed::Peer(to) => to,
             Listed::NoName => return Err(no_view(alloc, at, name)),
-        }
+        };
+        listings.push(listing_of(alloc, at, name, to)?)?;
     }
     Ok(())
 }

@@ -26,8 +26,8 @@ loop-item-preserved c =
     ∙ ap (λ w. item (value_view w) (items_view (drop (i + 1) all))) (sym c.item-item.is) in
     let now = c.loop-item.listings.items in
     let later = c.push.new.self.items in
-    let pushed : later ≡ now ++ c.in_ok-listing_of-in-Peer.field-0 ∷ [] = search rules in
+    let pushed : later ≡ now ++ c.in_ok-listing_of.field-0 ∷ [] = search rules in
     lists_peer c.args.at c.args.name.now (items_view all) c.args.listings.now.items now later (items_view (drop i all))
     (items_view (drop (i + 1) all)) (value_view next) c.in-Peer.to.now c.loop-item.invariant first
     (sym c.in-Peer.ensures)
-    (pushed ∙ ap (λ (l : Listing). now ++ l ∷ []) c.in_ok-listing_of-in-Peer.ensures)
+    (pushed ∙ ap (λ (l : Listing). now ++ l ∷ []) c.in_ok-listing_of.ensures)
