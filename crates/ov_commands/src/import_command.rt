@@ -29,6 +29,11 @@ pub(crate) enum UnreadDump {
 /// The number of the fault that a file looks like another file than a dump. (Chosen here.)
 const NO_DUMP: u32 = 88;
 
+/// What can be done about a dump with too many names.
+const PART: &str =
+    "analyse a part as a dump of its own, such as the hosts of one site, or a group of hosts with their \
+    neighbourhood; its k is that of the part";
+
 /// Writes the graph that follows from a dump of these bytes as a graph file with its names, in the form that is asked
 /// for, or that the bytes look like. Standard error says what an operator should know of the dump; or, if nothing is
 /// written, why, and how the bytes were read, if no form was asked for.
@@ -246,11 +251,6 @@ fn tell_refusal(rt: &HostRuntime, refusal: &DumpFault, place: &str) {
         DumpFault::OutOfMemory => eprintln!(rt; "out of memory"),
     };
 }
-
-/// What can be done about a dump with too many names.
-const PART: &str =
-    "analyse a part as a dump of its own, such as the hosts of one site, or a group of hosts with their \
-    neighbourhood; its k is that of the part";
 
 /// Prints what an operator should know of a dump. Prints nothing if an allocation for it is refused.
 fn tell_notes(rt: &HostRuntime, dump: &Dump, choice: Choice, format: DumpFormat) {
