@@ -72,17 +72,32 @@ def views_of(names, links):
 
 
 def some_views(chance):
-    """Views of nodes some of which have crashed or list whom lists them not: a dict from name to the names listed."""
-    names = [f"{chance.choice('xyz')}{at}" for at in range(chance.randint(1, 14))]
+    """Views of nodes some of which have crashed, list whom lists them not, or list themselves: a dict from name to the
+    names listed. Some names are numerals, and some end in a colon."""
+    names = [f"{chance.choice(['x', 'y', '', '', '-'])}{at}{':' * (chance.random() < 0.2)}"
+             for at in range(chance.randint(1, 14))]
     entries = [name for name in names if chance.random() < 0.8]
-    return {name: [it for it in names if it != name and chance.random() < 0.4] for name in entries}
+    density, loops = chance.choice([0.1, 0.4, 0.9]), chance.choice([0, 0.3, 1])
+    return {name: [it for it in names if chance.random() < (loops if it == name else density)] for name in entries}
+
+
+def written(views, chance):
+    """Views as JSON, in which some numerals are numbers, nobody stands here and there, and some lists of none are
+    nobody."""
+    def item(name):
+        return int(name) if re.fullmatch(r"-?[1-9]\d*|0", name) and chance.random() < 0.5 else name
+
+    def view(peers):
+        items = [it for name in peers for it in [None] * (chance.random() < 0.2) + [item(name)]]
+        return items or chance.choice([None, [], [None]])
+    return json.dumps({name: view(peers) for name, peers in views.items()})
 
 
 def graph_of_views(views, either, entries):
     """The graph file that follows from views."""
     listings = [(name, peer) for name, peers in views.items() for peer in peers]
     names = set(views) if entries else set(views) | {peer for _, peer in listings}
-    links = [(a, b) for a, b in listings if {a, b} <= names and (either or (b, a) in listings)]
+    links = [(a, b) for a, b in listings if a != b and {a, b} <= names and (either or (b, a) in listings)]
     return graph_file(names, links)
 
 
@@ -90,22 +105,57 @@ def notes_of_views(views, either, entries):
     """What is told of views on standard error."""
     listings = [(name, peer) for name, peers in views.items() for peer in peers]
     alone = [(a, b) for a, b in listings if (b, a) not in listings]
-    missing = sorted({peer for _, peer in listings} - set(views), key=str.encode)
+    missing = {peer for _, peer in listings} - set(views)
     told = [] if views else ["the dump has no names"]
     told += [f"listed by one end only: {len(alone)}"] if alone else []
     told += [f"{a} lists {b}, and {b} does not list {a}" for a, b in alone[:10]]
-    told += [f"listed without an entry: {len(missing)}"] if missing else []
-    told += [f"{name} is listed and has no entry" for name in missing[:10]]
+    if not either and 2 * len(alone) > sum(a != b for a, b in listings):
+        told.append("more than half of the listings are not answered; "
+                    "--either links two names also if only one of them lists the other")
+    told += notes_of_names(missing, "listed without an entry", "is listed and has no entry")
     if missing and not entries:
         become = "are linked, and so look alive" if either else "become nodes without links"
         told.append(f"they {become}; --entries leaves them out")
+    told += notes_of_names({a for a, b in listings if a == b}, *["lists itself"] * 2,
+                           "a link of a name to itself is passed over")
+    told += notes_of_names({it for it in {*views, *(peer for _, peer in listings)} if it[-1] == ":"},
+                           *["ends in a colon"] * 2, "a line `a: b c` of an adjacency list is no form of a dump here; "
+                           "`tagzirk import` of the Python package reads it")
     return "".join(f"{line}\n" for line in told)
+
+
+def notes_of_names(names, kind, is_so, *behind):
+    """What is told of names of a kind: how many there are, the first ten, and what stands behind them."""
+    told = [f"{name} {is_so}" for name in sorted(names, key=str.encode)[:10]]
+    return [f"{kind}: {len(names)}", *told, *behind] if names else []
 
 
 def arrows_of(views):
     """The same views in DOT."""
-    lines = [f'"{name}"; {"".join(f"{name} -> {peer}; " for peer in peers)}' for name, peers in views.items()]
+    arrow = '"{}" -> "{}"; '.format
+    lines = [f'"{name}"; {"".join(arrow(name, peer) for peer in peers)}' for name, peers in views.items()]
     return "\n".join(["digraph {", *lines, "}"])
+
+
+def some_lines(chance):
+    """Lines of two names, each with its number; some say two that stand in no other line, and some one name twice."""
+    names = [f"n{at}" for at in range(chance.randint(2, 6))]
+    pairs = [chance.choices(names, k=2) for _ in range(chance.randint(0, 5))]
+    if chance.random() < 0.5:
+        pairs.insert(chance.choice([0, 0, len(pairs)]), ["source", "target"])
+    return [(2 * at, a, b) for at, (a, b) in enumerate(pairs, 1)]
+
+
+def notes_of_lines(lines):
+    """What is told of lines of two names on standard error."""
+    if not lines:
+        return "the dump has no names\n"
+    (at, a, b), *others = lines
+    is_apart = a != b and others and not {a, b} & {name for _, *pair in others for name in pair}
+    told = [f"line {at}: {a} and {b} stand in no other line; if it is a header, remove it"] if is_apart else []
+    told += notes_of_names({a for _, a, b in lines if a == b}, *["lists itself"] * 2,
+                           "a link of a name to itself is passed over")
+    return "".join(f"{line}\n" for line in told)
 
 
 def edges_of(links, seed):
@@ -142,12 +192,27 @@ class Dumps(unittest.TestCase):
         chance = random.Random(4)
         for _ in range(60):
             views = some_views(chance)
-            for form, dump in ("--views", json.dumps(views)), ("--dot", arrows_of(views)):
+            for form, dump in ("--views", written(views, chance)), ("--dot", arrows_of(views)):
                 for either in (), ("--either",):
                     for entries in (), ("--entries",):
                         choice = views, either, entries
                         wanted = graph_of_views(*choice), notes_of_views(*choice), 0
                         self.assertEqual(overlay("import", form, *either, *entries, given=dump), wanted, choice)
+
+    def test_lines_that_differ(self):
+        chance = random.Random(6)
+        for _ in range(60):
+            lines = some_lines(chance)
+            dump = "".join(f"# before\n{a}{chance.choice([' ', ','])}{b}\n" for _, a, b in lines)
+            links = [(a, b) for _, a, b in lines if a != b]
+            wanted = graph_file({name for _, *pair in lines for name in pair}, links), notes_of_lines(lines), 0
+            self.assertEqual(overlay("import", "--edges", given=dump), wanted, dump)
+
+    def test_what_is_no_list_of_names(self):
+        for value in '"b"', "1", "true", "{}", "[1.0]", "[1e2]", "[null, 2E0]", "[false]", "[[]]", "[{}]", '["b", 0.5]':
+            told = "refused 83\nentry 2, of a, is no list of names: texts or whole numbers\n"
+            given = f'{{"b": [null, -7], "a": {value}}}'
+            self.assertEqual(overlay("import", "--views", given=given), ("", told, 1), value)
 
     def test_names_come_back(self):
         names, pairs = some_overlay(50, 60, 1)

@@ -20,8 +20,6 @@ GRAPH_FILE = re.compile(r"(?:[ \t\r]*(?:#[^\n]*)?\n)*[ \t\r]*(?:node|link) +\d")
 NAME = re.compile(r"# (\d+) (.*)")
 ONE_SIDED = re.compile(r"^listed by one end only: (\d+)$", re.MULTILINE)
 WITHOUT_ENTRY = re.compile(r"^listed without an entry: (\d+)$", re.MULTILINE)
-TOO_MANY = """
-leave hosts out of the dump: ask about one site after the other, or about some hosts with all that they are linked to"""
 # The words of a refusal of DOT that Graphviz may read all the same.
 BY_GRAPHVIZ = ("in place of a subgraph", "an HTML text")
 
@@ -145,8 +143,7 @@ def named_error(why: Exception, name: str) -> Exception:
         reason = re.sub(
             r"--(views|edges|dot)\b", r"--form \1", why.reason.replace("tip: standard input", f"tip: {name}")
         )
-        advice = TOO_MANY if why.number == 31 else ""
-        return Refused(why.number, why.line, f"{name}: {reason}{advice}")
+        return Refused(why.number, why.line, f"{name}: {reason}")
     return type(why)(f"{name}: {why}")
 
 

@@ -20,9 +20,9 @@ class LibraryMissing(TagzirkError):
 
 
 class ViewsDiffer(UserWarning):
-    """A warning: some node of a dict of views lists whom lists it not, or whom has no view. It says how many, and the
-    first ten. `warnings.simplefilter("ignore", ViewsDiffer)` silences it, and "error" in place of "ignore" makes it an
-    error."""
+    """A warning: some node of a dict of views lists whom lists it not, or whom has no view; or a node of any graph is
+    linked to itself, which is passed over. It says how many, and the first ten.
+    `warnings.simplefilter("ignore", ViewsDiffer)` silences it, and "error" in place of "ignore" makes it an error."""
 
 
 class ProgramMissing(TagzirkError):

@@ -157,7 +157,8 @@ def in_order(names: Iterable[Node]) -> List[Node]:
 
 def numbered(names: Iterable[Node], pairs: Iterable[Tuple[Node, Node]]) -> NamedGraph[Node]:
     """A graph of these nodes and links. Its ids are the names, if all of these are ids, and else 1, 2, 3, ..: in the
-    order of the bytes of names in UTF-8 if all are texts, as `overlay import` has it, and else as they are given."""
+    order of the bytes of names in UTF-8 if all are texts, as `overlay import` has it, and else as they are given. A
+    link of a name to itself is passed over."""
     names = in_order(names)
     if all(type(name) is int and 0 <= name <= MOST_ID for name in names):
         ids: Dict[Node, int] = {name: name for name in names}  # type: ignore[misc]
@@ -166,17 +167,25 @@ def numbered(names: Iterable[Node], pairs: Iterable[Tuple[Node, Node]]) -> Named
     links: Set[Tuple[int, int]] = set()
     for one, other in pairs:
         a, b = sorted((ids[one], ids[other]))
-        if a == b:
-            raise BadGraph(f"{one!r} is linked to itself")
-        links.add((a, b))
+        if a < b:
+            links.add((a, b))
     return NamedGraph(ids, [list(link) for link in sorted(links)])
+
+
+def warn(notes: Sequence[str]) -> None:
+    """Warns of what should be known of a graph, if there is something."""
+    if notes:
+        # it is told of the line that calls `analyse`, which calls `named_graph`, which calls who calls this
+        warnings.warn("\n".join(notes), ViewsDiffer, stacklevel=5)
 
 
 def of_networkx(graph: Any) -> NamedGraph[Any]:
     if graph.is_directed():
         raise BadGraph("the graph is directed: give graph.to_undirected(reciprocal=True) if a link needs both "
                        "directions, and graph.to_undirected() if one is enough")
-    return numbered(graph.nodes(), graph.edges())
+    edges = [(edge[0], edge[1]) for edge in graph.edges()]
+    warn(notes_of_loops(edges))
+    return numbered(graph.nodes(), edges)
 
 
 def of_views(views: Mapping[Node, Iterable[Node]]) -> NamedGraph[Node]:
@@ -189,10 +198,7 @@ def of_views(views: Mapping[Node, Iterable[Node]]) -> NamedGraph[Node]:
         except TypeError:
             raise BadGraph(f"the view of {name!r} is no collection of names: {view!r}") from None
     graph = numbered(peers, ((a, b) for a, view in peers.items() for b in view if a in peers.get(b, ())))
-    notes = notes_of(peers)
-    if notes:
-        # it is told of the line that calls `analyse`, which calls `named_graph`
-        warnings.warn("\n".join(notes), ViewsDiffer, stacklevel=4)
+    warn([*notes_of(peers), *notes_of_loops((a, b) for a, view in peers.items() for b in view)])
     return graph
 
 
@@ -210,6 +216,15 @@ def notes_of(peers: Mapping[Node, Mapping[Node, None]]) -> List[str]:
     return notes + [f"{shown(name)} is listed and has no entry" for name in gone[:MOST_TOLD]]
 
 
+def notes_of_loops(pairs: Iterable[Tuple[Any, Any]]) -> List[str]:
+    """How many names list themselves, and the first ten, in the words of `overlay import`."""
+    names = in_order(one for one, other in pairs if one == other)
+    if not names:
+        return []
+    told = [f"{shown(name)} lists itself" for name in names[:MOST_TOLD]]
+    return [f"lists itself: {len(names)}", *told, "a link of a name to itself is passed over"]
+
+
 def of_edges(edges: Iterable[Sequence[Node]]) -> NamedGraph[Node]:
     pairs = []
     for edge in edges:
@@ -217,6 +232,7 @@ def of_edges(edges: Iterable[Sequence[Node]]) -> NamedGraph[Node]:
         if len(ends) != 2 or not all(map(is_name, ends)):
             raise BadGraph(f"an edge is a pair of names, and this is none: {edge!r}")
         pairs.append((ends[0], ends[1]))
+    warn(notes_of_loops(pairs))
     return numbered((name for pair in pairs for name in pair), pairs)
 
 

@@ -140,6 +140,8 @@ def analyse(graph: Graph[Node], group: Optional[Iterable[Node]] = None, workers:
       The nodes are the keys: a peer without a view of its own is none. A warning, `ViewsDiffer`, tells of listings
       that are not answered, and of such peers.
 
+    A link of a node to itself is passed over, with the same warning.
+
     In the certificate whole numbers from 0 to 4294967295 are their own ids, if all names are such. Else nodes are
     numbered 1, 2, 3, ..: in the order of the bytes of names in UTF-8 if all names are texts, as `overlay import`
     numbers them, and else in the order in which they are given.

@@ -108,6 +108,25 @@ class Import(Commands):
             self.assertEqual((out, status), ((DUMPS / f"{kept}.out").read_text(), 0))
             self.assertIn("listed by one end only: 3\n", err)
 
+    def test_links_to_itself_numbers_and_nobody(self):
+        wanted = named_graph({"1": ["2"], "2": ["1"], "3": []}).text_with_names
+        for name, text in (
+            ("views.json", '{"1": [1, 2, null], "2": ["1"], "3": null}'),
+            ("hosts.json", '{"1": {"peers": [1, null, "2"]}, "2": {"peers": [1]}, "3": {"peers": null}}'),
+            (
+                "links.json",
+                '{"nodes": [{"id": 1}, {"id": "2"}, {"id": 3}], "links": [{"source": 1, "target": 1}, '
+                '{"source": 2, "target": 1}]}',
+            ),
+            ("net.csv", "host,peer\n1,1\n1,2\n2,1\n3,\n"),
+            ("net.lists", "1: 2 1\n2: 1\n3:\n"),
+            ("net.dot", "digraph { 1 -> 1 -> 2; 2 -> 1; 3 }"),
+        ):
+            out, err, status = self.tagzirk("import", self.file(name, text))
+            self.assertEqual((out, status), (wanted, 0), name)
+            told = "lists itself: 1\n1 lists itself\na link of a name to itself is passed over\n"
+            self.assertTrue(err.endswith(told) and "one end only" not in err, err)
+
     @unittest.skipUnless(shutil.which("dot"), "Graphviz is not there")
     def test_subgraphs(self):
         out, err, status = self.tagzirk("import", self.file("net.dot", "graph { a -- {b c} }"))

@@ -46,9 +46,17 @@ class Views(unittest.TestCase):
                 named_graph({"a": ["b"]})
 
     def test_what_is_no_view(self):
-        for views in {"a": "b", "b": "a"}, {"a": 1}, {"a": ["a"]}, {"a": [["b"]]}:
+        for views in {"a": "b", "b": "a"}, {"a": 1}, {"a": None}, {"a": [["b"]]}:
             with self.assertRaises(BadGraph, msg=views):
                 named_graph(views)
+
+
+    def test_who_lists_itself_is_linked_to_nobody_by_that(self):
+        with self.assertWarns(ViewsDiffer) as caught:
+            graph = named_graph({"b": ["b", "a"], "a": ["b", "a"], "c": ["c"]})
+        self.assertEqual((graph.ids, graph.links), ({"a": 1, "b": 2, "c": 3}, [[1, 2]]))
+        told = ["lists itself: 3", *(f"{it} lists itself" for it in "abc"), "a link of a name to itself is passed over"]
+        self.assertEqual(str(caught.warning).split("\n"), told)
 
 
 class Edges(unittest.TestCase):
@@ -58,8 +66,13 @@ class Edges(unittest.TestCase):
         self.assertEqual(graph.links, [[1, 2], [1, 3], [2, 3]])
         self.assertEqual(named_graph([]).text, "")
 
+    def test_links_of_a_node_to_itself_are_passed_over(self):
+        with self.assertWarnsRegex(ViewsDiffer, "^lists itself: 1\nc lists itself\n"):
+            graph = named_graph([("c", "c"), ("a", "b"), ("c", "c")])
+        self.assertEqual((graph.nodes, graph.links), ([1, 2, 3], [[1, 2]]))
+
     def test_what_is_no_edge(self):
-        for edge in "ab", b"ab", ("a",), ("a", "b", {}), 1, None, (["a"], "b"), ("a", "a"):
+        for edge in "ab", b"ab", ("a",), ("a", "b", {}), 1, None, (["a"], "b"):
             with self.assertRaises(BadGraph, msg=edge):
                 named_graph([edge])
 
@@ -114,10 +127,14 @@ class Networkx(unittest.TestCase):
     def test_links_that_occur_twice_count_once(self):
         self.assertEqual(named_graph(networkx.MultiGraph([(1, 2), (2, 1), (2, 3)])).links, [[1, 2], [2, 3]])
 
-    def test_directed_graphs_and_loops_are_refused(self):
-        for graph in networkx.DiGraph([(1, 2)]), networkx.Graph([(1, 1)]):
-            with self.assertRaises(BadGraph):
-                named_graph(graph)
+    def test_directed_graphs_are_refused(self):
+        with self.assertRaises(BadGraph):
+            named_graph(networkx.DiGraph([(1, 2)]))
+
+    def test_links_of_a_node_to_itself_are_passed_over(self):
+        for kind in networkx.Graph, networkx.MultiGraph:
+            with self.assertWarnsRegex(ViewsDiffer, "^lists itself: 1\n1 lists itself\n"):
+                self.assertEqual(named_graph(kind([(1, 1), (1, 2)])).links, [[1, 2]])
 
 
 if __name__ == "__main__":

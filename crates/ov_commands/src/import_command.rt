@@ -9,8 +9,8 @@ use crate::conversion_fault::FileCommandFault;
 use ov_arguments::{DumpFormat, ImportRequest};
 use ov_dot::{DotFault, read_dot};
 use ov_dump::{
-    Choice, Dump, DumpFault, ImportFault, ReadingFault, import_dump, import_notes, read_edges,
-    read_views,
+    Choice, Dump, DumpFault, ImportFault, ReadingFault, header_note, import_dump, import_notes,
+    read_edges, read_views,
 };
 use ov_io::Sink;
 use ov_lines::{FileKind, looks_like};
@@ -29,12 +29,17 @@ pub(crate) enum UnreadDump {
 /// The number of the fault that a file looks like another file than a dump. (Chosen here.)
 const NO_DUMP: u32 = 88;
 
+/// What can be done about a dump with too many names.
+const PART: &str =
+    "analyse a part as a dump of its own, such as the hosts of one site, or a group of hosts with their \
+    neighbourhood; its k is that of the part";
+
 /// Writes the graph that follows from a dump of these bytes as a graph file with its names, in the form that is asked
 /// for, or that the bytes look like. Standard error says what an operator should know of the dump; or, if nothing is
 /// written, why, and how the bytes were read, if no form was asked for.
 ///
 /// `Refused` has the number of the fault: no form is asked for, and the bytes look like another file than a dump (88);
-/// or they are no dump of their form (60, 70, 83); or no graph follows from it (31, 80 to 82). `Write` (72): the writer
+/// or they are no dump of their form (60, 70, 83); or no graph follows from it (31, 80, 82). `Write` (72): the writer
 /// failed. `OutOfMemory` (99): an allocation was refused.
 pub fn print_dump<W: Write>(
     rt: &HostRuntime,
@@ -75,7 +80,7 @@ fn read_and_print<W: Write>(
     };
     match import_dump(rt.alloc(), &dump, choice, sink) {
         Ok(()) => {
-            tell_notes(rt, &dump, choice);
+            tell_notes(rt, &dump, choice, format);
             Ok(())
         }
         Err(fault) => Err(not_imported(rt, &fault, format)),
@@ -237,11 +242,10 @@ fn tell_refusal(rt: &HostRuntime, refusal: &DumpFault, place: &str) {
         DumpFault::NameTwice { at, name } => {
             eprintln!(rt; "{place} {at}: {name} has an entry already")
         }
-        DumpFault::ListsItself { at, name } => eprintln!(rt; "{place} {at}: {name} lists itself"),
         DumpFault::EmptyName { at } => eprintln!(rt; "{place} {at}: a name is empty"),
         DumpFault::TooManyNodes { at, name } => {
             eprintln!(rt;
-                "{place} {at}: {name} is one name too many, since a graph may have 1024 nodes at most"
+                "{place} {at}: {name} is one name too many, since a graph may have 1024 nodes at most\n{PART}"
             )
         }
         DumpFault::OutOfMemory => eprintln!(rt; "out of memory"),
@@ -249,7 +253,12 @@ fn tell_refusal(rt: &HostRuntime, refusal: &DumpFault, place: &str) {
 }
 
 /// Prints what an operator should know of a dump. Prints nothing if an allocation for it is refused.
-fn tell_notes(rt: &HostRuntime, dump: &Dump, choice: Choice) {
+fn tell_notes(rt: &HostRuntime, dump: &Dump, choice: Choice, format: DumpFormat) {
+    if matches!(format, DumpFormat::Edges) {
+        if let Ok(note) = header_note(rt.alloc(), dump) {
+            let _ = eprint!(rt; "{note}");
+        }
+    }
     if let Ok(notes) = import_notes(rt.alloc(), dump, choice) {
         let _ = eprint!(rt; "{notes}");
     }

@@ -1,10 +1,12 @@
--- Listings that are looked at one after another, for those that are not answered; and names without an entry.
-use Rattle.std.proofs.Common.{◌≡◌, ◌∙◌, ◌↔◌, ◌⊎◌, ◌+◌, ◌<◌, ◌≤◌, ℕ, zero, suc, List, [], ◌∷◌, ◌++◌, inl, inr, sym, ap}
+-- Listings that are looked at one after another, for those that are not answered; names without an entry, and names
+-- that list themselves.
+use Rattle.std.proofs.Common.{◌≡◌, ◌≢◌, ◌∙◌, ◌↔◌, ◌⊎◌, ◌+◌, ◌<◌, ◌≤◌, ℕ, zero, suc, List, [], ◌∷◌, ◌++◌, inl, inr}
+use Rattle.std.proofs.Common.{sym, ap, ap₂}
 use Rattle.std.proofs.Common.{subst, refl, take, slice_get, Some, unwrap_or, length, get_or, arith, eq-or-lt_of_le}
 use Rattle.ov_ids.specs.Members.{Ascends, Has, Ordered}
 use Rattle.ov_ids.proofs.Members.{has_append_cases, has_append_left, has_append_right}
 use Rattle.ov_dump.specs.Dumps.{ends_of, names_of}
-use Rattle.ov_dump.specs.Code.Listed.{AreUnanswered, AreWithoutEntry, IsUnanswered, Missing}
+use Rattle.ov_dump.specs.Code.Listed.{AreUnanswered, AreWithoutEntry, IsUnanswered, ListThemselves, Missing}
 use Rattle.ov_dump.specs.Names.{ComesBefore}
 use Rattle.ov_dump.specs.declared.dump_and_graph_types.Dump.{Dump}
 use Rattle.ov_dump.specs.declared.dump_and_graph_types.Entry.{Entry}
@@ -242,3 +244,42 @@ without_entry d entries names up own m = record {
     (λ h. (m.each n).1 (h.0, (λ k. h.1 ((own n).0 k)))),
   );
 }
+
+-- ---- names that list themselves
+
+-- the name of a listing that has only one is added
+pub one_name : (l : Listing) (names later : List (List ℕ)) → l.from ≡ l.to
+    → ((n : List ℕ) → Has later n ↔ ((l.from ≡ n) ⊎ Has names n))
+    → (n : List ℕ) → Has later n ↔ (((l.from ≡ n) × (l.to ≡ n)) ⊎ Has names n)
+one_name l names later same more n = (
+  (λ h. elim ((more n).0 h) [ inl e ↦ inl (e, sym same ∙ e) | inr m ↦ inr m ]),
+  (λ h. (more n).1 (elim h [ inl e ↦ inl e.0 | inr m ↦ inr m ])),
+)
+
+-- a listing of two names says of none that it lists itself
+pub two_names : (l : Listing) (names : List (List ℕ)) → l.from ≢ l.to
+    → (n : List ℕ) → Has names n ↔ (((l.from ≡ n) × (l.to ≡ n)) ⊎ Has names n)
+two_names l names differ n = (
+  (λ h. inr h),
+  (λ h. elim h [ inl e ↦ absurd (differ (e.0 ∙ sym e.1)) | inr m ↦ m ]),
+)
+
+-- the names of listings and one more
+pub self_more : (before : List Listing) (l : Listing) (names later : List (List ℕ))
+    → ((n : List ℕ) → Has names n ↔ Has (ends_of before) (n, n))
+    → ((n : List ℕ) → Has later n ↔ (((l.from ≡ n) × (l.to ≡ n)) ⊎ Has names n))
+    → (n : List ℕ) → Has later n ↔ Has (ends_of (before ++ l ∷ [])) (n, n)
+self_more before l names later own more n = (
+  (λ h. (ends_more before l (n, n)).1 (elim ((more n).0 h) [
+    | inl e ↦ inl (ap₂ (λ (x y : List ℕ). (x, y)) e.0 e.1)
+    | inr m ↦ inr ((own n).0 m)
+  ])),
+  (λ h. (more n).1 (elim ((ends_more before l (n, n)).0 h) [
+    | inl e ↦ inl (ap (λ (p : List ℕ × List ℕ). p.0) e, ap (λ (p : List ℕ × List ℕ). p.1) e)
+    | inr m ↦ inr ((own n).1 m)
+  ])),
+)
+
+pub list_themselves : (d : Dump) (names : List (List ℕ)) → Ordered ComesBefore names
+    → ((n : List ℕ) → Has names n ↔ Has (ends_of d.listings) (n, n)) → ListThemselves d names
+list_themselves d names up each = record { ascend = up; each = each }

@@ -8,13 +8,12 @@ use Rattle.ov_graph.proofs.EvenTest.Walks.{linked_sym}
 use Rattle.ov_graph.proofs.GraphValues.OneGraph.{linked_differ, same_graphs}
 use Rattle.ov_dump.specs.Code.Numbering.{Follows, NodeLists}
 use Rattle.ov_dump.specs.Dumps.{AreLinked, IsGraphOf, IsNameOf, IsTaken, Lists, numbers}
-use Rattle.ov_dump.specs.Faults.{AreSoundListings}
 use Rattle.ov_dump.specs.Names.{ComesBefore}
 use Rattle.ov_dump.specs.declared.dump_and_graph_types.Choice.{Choice}
 use Rattle.ov_dump.specs.declared.dump_and_graph_types.Dump.{Dump}
 use Rattle.ov_dump.specs.declared.dump_and_graph_types.Listing.{Listing}
 use Rattle.ov_dump.proofs.NameLists.{same_names}
-use Rattle.ov_dump.proofs.Numbered.{lists_more, name_one, none_lists, sound_differ}
+use Rattle.ov_dump.proofs.Numbered.{lists_more, name_one, names_differ, nodes_differ, none_lists}
 use Rattle.ov_dump.proofs.Places.{cases_lt}
 
 -- ---- one node lists another
@@ -70,7 +69,7 @@ follows_down up down after from to low gains i j = (
 pub record FollowsSoFar (names : List (List ℕ)) (before : List Listing) (up down : LinkGraph) : Type 0 where
   pub up_nodes : up.nodes ≡ numbers (length names)
   pub down_nodes : down.nodes ≡ numbers (length names)
-  pub lists : (i j : ℕ) → Follows up down i j ↔ NodeLists names before i j
+  pub lists : (i j : ℕ) → i ≢ j → (Follows up down i j ↔ NodeLists names before i j)
 
 pub follows_begun : (names : List (List ℕ)) (up down : LinkGraph)
     → up ≡ record { nodes = numbers (length names); links = [] }
@@ -79,7 +78,7 @@ pub follows_begun : (names : List (List ℕ)) (up down : LinkGraph)
 follows_begun names up down e f = record {
   up_nodes = ap (λ g. g.nodes) e;
   down_nodes = ap (λ g. g.nodes) f;
-  lists = λ i j. (
+  lists = λ i j far. (
     (λ h. elim h [
       | inl l ↦ absurd (unlinked up i j (ap (λ g. g.links) e) l.1)
       | inr l ↦ absurd (unlinked down i j (ap (λ g. g.links) f) l.1)
@@ -91,19 +90,19 @@ follows_begun names up down e f = record {
 pub follows_more : (names : List (List ℕ)) (before : List Listing) (l : Listing) (up down up' down' : LinkGraph)
     → FollowsSoFar names before up down → up'.nodes ≡ numbers (length names)
     → down'.nodes ≡ numbers (length names)
-    → ((i j : ℕ) → Follows up' down' i j ↔ (NodeLists names (l ∷ []) i j ⊎ Follows up down i j))
+    → ((i j : ℕ) → i ≢ j → (Follows up' down' i j ↔ (NodeLists names (l ∷ []) i j ⊎ Follows up down i j)))
     → FollowsSoFar names (before ++ l ∷ []) up' down'
 follows_more names before l up down up' down' s e f grown = record {
   up_nodes = e;
   down_nodes = f;
-  lists = λ i j. (
-    (λ h. (lists_more names before l i j).1 (elim ((grown i j).0 h) [
+  lists = λ i j far. (
+    (λ h. (lists_more names before l i j).1 (elim ((grown i j far).0 h) [
       | inl k ↦ inl k
-      | inr k ↦ inr ((s.lists i j).0 k)
+      | inr k ↦ inr ((s.lists i j far).0 k)
     ])),
-    (λ h. (grown i j).1 (elim ((lists_more names before l i j).0 h) [
+    (λ h. (grown i j far).1 (elim ((lists_more names before l i j).0 h) [
       | inl k ↦ inl k
-      | inr k ↦ inr ((s.lists i j).1 k)
+      | inr k ↦ inr ((s.lists i j far).1 k)
     ])),
   );
 }
@@ -303,22 +302,24 @@ shared_links up down g is_up links i j = (
 
 -- by who lists whom
 pub either_lists : (names : List (List ℕ)) (listings : List Listing) (up down g : LinkGraph)
-    → ((i j : ℕ) → Follows up down i j ↔ NodeLists names listings i j)
+    → ((i j : ℕ) → i ≢ j → (Follows up down i j ↔ NodeLists names listings i j))
     → ((i j : ℕ) → Linked g i j ↔ (Follows up down i j ⊎ Follows up down j i))
-    → (i j : ℕ) → Linked g i j ↔ (NodeLists names listings i j ⊎ NodeLists names listings j i)
-either_lists names listings up down g lists links i j = (
-  (λ h. elim ((links i j).0 h) [ inl f ↦ inl ((lists i j).0 f) | inr f ↦ inr ((lists j i).0 f) ]),
-  (λ h. (links i j).1 (elim h [ inl f ↦ inl ((lists i j).1 f) | inr f ↦ inr ((lists j i).1 f) ])),
-)
+    → (i j : ℕ) → i ≢ j → (Linked g i j ↔ (NodeLists names listings i j ⊎ NodeLists names listings j i))
+either_lists names listings up down g lists links i j far =
+    let back : j ≢ i = λ same. far (sym same) in (
+      (λ h. elim ((links i j).0 h) [ inl f ↦ inl ((lists i j far).0 f) | inr f ↦ inr ((lists j i back).0 f) ]),
+      (λ h. (links i j).1 (elim h [ inl f ↦ inl ((lists i j far).1 f) | inr f ↦ inr ((lists j i back).1 f) ])),
+    )
 
 pub both_list : (names : List (List ℕ)) (listings : List Listing) (up down g : LinkGraph)
-    → ((i j : ℕ) → Follows up down i j ↔ NodeLists names listings i j)
+    → ((i j : ℕ) → i ≢ j → (Follows up down i j ↔ NodeLists names listings i j))
     → ((i j : ℕ) → Linked g i j ↔ (Follows up down i j × Follows up down j i))
-    → (i j : ℕ) → Linked g i j ↔ (NodeLists names listings i j × NodeLists names listings j i)
-both_list names listings up down g lists links i j = (
-  (λ h. let r = (links i j).0 h in ((lists i j).0 r.0, (lists j i).0 r.1)),
-  (λ h. (links i j).1 ((lists i j).1 h.0, (lists j i).1 h.1)),
-)
+    → (i j : ℕ) → i ≢ j → (Linked g i j ↔ (NodeLists names listings i j × NodeLists names listings j i))
+both_list names listings up down g lists links i j far =
+    let back : j ≢ i = λ same. far (sym same) in (
+      (λ h. let r = (links i j).0 h in ((lists i j far).0 r.0, (lists j i back).0 r.1)),
+      (λ h. (links i j).1 ((lists i j far).1 h.0, (lists j i back).1 h.1)),
+    )
 
 -- the links of a graph that had none, after those of two graphs, or those that they share, were added
 pub added_either : (up down old mid g : LinkGraph) → IsGraph up → IsGraph down → old.links ≡ []
@@ -356,13 +357,13 @@ NodesAreLinked either names listings i j =
     MatchBool either (NodeLists names listings i j ⊎ NodeLists names listings j i)
     (NodeLists names listings i j × NodeLists names listings j i)
 
-by_names : (either : Bool) (d : Dump) (names : List (List ℕ)) (i j : ℕ) → AreSoundListings d.listings
+by_names : (either : Bool) (d : Dump) (names : List (List ℕ)) (i j : ℕ) → Ordered ComesBefore names → i ≢ j
     → NodesAreLinked either names d.listings i j → NamesAreLinked either d names i j
-by_names true d names i j sound h = elim h [
-  | inl r ↦ (r.0, r.1, r.2, r.3, sound_differ d.listings r.0 r.1 sound r.4, inl r.4)
-  | inr r ↦ (r.1, r.0, r.3, r.2, (λ same. sound_differ d.listings r.0 r.1 sound r.4 (sym same)), inr r.4)
+by_names true d names i j up far h = elim h [
+  | inl r ↦ (r.0, r.1, r.2, r.3, names_differ names i j r.0 r.1 up far r.2 r.3, inl r.4)
+  | inr r ↦ (r.1, r.0, r.3, r.2, names_differ names i j r.1 r.0 up far r.3 r.2, inr r.4)
 ]
-by_names false d names i j sound h =
+by_names false d names i j up far h =
     let r = h.0 in
     let s = h.1 in
     let first : s.1 ≡ r.0 = name_one names i s.1 r.0 s.3 r.2 in
@@ -371,7 +372,7 @@ by_names false d names i j sound h =
       r.1,
       r.2,
       r.3,
-      sound_differ d.listings r.0 r.1 sound r.4,
+      names_differ names i j r.0 r.1 up far r.2 r.3,
       (r.4, subst (λ (x : List ℕ). Lists d x r.0) second (subst (λ (y : List ℕ). Lists d s.0 y) first s.4)),
     )
 
@@ -385,39 +386,43 @@ by_nodes false d names i j h = ((h.0, h.1, h.2, h.3, h.5.0), (h.1, h.0, h.3, h.2
 
 -- the links of a choice
 pub by_choice : (either : Bool) (names : List (List ℕ)) (listings : List Listing) (g : LinkGraph)
-    → (either ≡ true → (i j : ℕ) → Linked g i j ↔ (NodeLists names listings i j ⊎ NodeLists names listings j i))
-    → (either ≡ false → (i j : ℕ) → Linked g i j ↔ (NodeLists names listings i j × NodeLists names listings j i))
-    → (i j : ℕ) → Linked g i j ↔ NodesAreLinked either names listings i j
+    → (either ≡ true → (i j : ℕ) → i ≢ j
+    → (Linked g i j ↔ (NodeLists names listings i j ⊎ NodeLists names listings j i)))
+    → (either ≡ false → (i j : ℕ) → i ≢ j
+    → (Linked g i j ↔ (NodeLists names listings i j × NodeLists names listings j i)))
+    → (i j : ℕ) → i ≢ j → (Linked g i j ↔ NodesAreLinked either names listings i j)
 by_choice true names listings g one both = one refl
 by_choice false names listings g one both = both refl
 
 -- a graph with these nodes and links is the one that follows
-pub is_graph_of : (choice : Choice) (d : Dump) (g : LinkGraph) (names : List (List ℕ)) → AreSoundListings d.listings
+pub is_graph_of : (choice : Choice) (d : Dump) (g : LinkGraph) (names : List (List ℕ))
     → Ordered ComesBefore names → ((n : List ℕ) → Has names n ↔ IsTaken choice d n) → IsGraph g
     → g.nodes ≡ numbers (length names)
-    → ((i j : ℕ) → Linked g i j ↔ NodesAreLinked choice.either names d.listings i j)
+    → ((i j : ℕ) → i ≢ j → (Linked g i j ↔ NodesAreLinked choice.either names d.listings i j))
     → IsGraphOf choice d g names
-is_graph_of choice d g names sound up taken graph nodes links = record {
+is_graph_of choice d g names up taken graph nodes links = record {
   ascend = up;
   taken = taken;
   graph = graph;
   nodes = nodes;
   links = λ i j. (
-    (λ h. by_names choice.either d names i j sound ((links i j).0 h)),
-    (λ h. (links i j).1 (by_nodes choice.either d names i j h)),
+    (λ h. let far = linked_differ g i j graph h in by_names choice.either d names i j up far ((links i j far).0 h)),
+    (λ h. (links i j (nodes_differ names i j h.0 h.1 h.4 h.2 h.3)).1 (by_nodes choice.either d names i j h)),
   );
 }
 
 -- the same, of what the code made
 pub follows_dump : (choice : Choice) (d : Dump) (g : LinkGraph) (names : List (List ℕ)) (listings : List Listing)
-    → listings ≡ d.listings → AreSoundListings d.listings → Ordered ComesBefore names
+    → listings ≡ d.listings → Ordered ComesBefore names
     → ((n : List ℕ) → Has names n ↔ IsTaken choice d n) → IsGraph g → g.nodes ≡ numbers (length names)
-    → (choice.either ≡ true → (i j : ℕ) → Linked g i j ↔ (NodeLists names listings i j ⊎ NodeLists names listings j i))
-    → (choice.either ≡ false → (i j : ℕ) → Linked g i j ↔ (NodeLists names listings i j × NodeLists names listings j i))
+    → (choice.either ≡ true → (i j : ℕ) → i ≢ j
+    → (Linked g i j ↔ (NodeLists names listings i j ⊎ NodeLists names listings j i)))
+    → (choice.either ≡ false → (i j : ℕ) → i ≢ j
+    → (Linked g i j ↔ (NodeLists names listings i j × NodeLists names listings j i)))
     → IsGraphOf choice d g names
-follows_dump choice d g names listings same sound up taken graph nodes one both =
-    is_graph_of choice d g names sound up taken graph nodes
-    (subst (λ (ls : List Listing). (i j : ℕ) → Linked g i j ↔ NodesAreLinked choice.either names ls i j) same
+follows_dump choice d g names listings same up taken graph nodes one both =
+    is_graph_of choice d g names up taken graph nodes
+    (subst (λ (ls : List Listing). (i j : ℕ) → i ≢ j → (Linked g i j ↔ NodesAreLinked choice.either names ls i j)) same
     (by_choice choice.either names listings g one both))
 
 -- ---- one graph

@@ -13,7 +13,6 @@ use Rattle.ov_ids.specs.Members.{Has, Ordered}
 use Rattle.ov_ids.proofs.Members.{all_member, has_append_cases, has_append_left, has_append_right, ordered_at}
 use Rattle.ov_dump.specs.Code.Numbering.{NodeLists}
 use Rattle.ov_dump.specs.Dumps.{IsNameOf, ends_of, numbers}
-use Rattle.ov_dump.specs.Faults.{AreSoundListings, IsSoundListing}
 use Rattle.ov_dump.specs.Names.{ComesBefore}
 use Rattle.ov_dump.specs.declared.dump_and_graph_types.Listing.{Listing}
 use Rattle.ov_dump.proofs.Answering.{ends_append}
@@ -94,6 +93,17 @@ pub node_one : (names : List (List ℕ)) (i j : ℕ) (a : List ℕ) → Ordered 
     → IsNameOf names j a → i ≡ j
 node_one names i j a up (p, e, s) (q, f, t) = e ∙ ap suc (place_one names p q a up s t) ∙ sym f
 
+-- different nodes have different names
+pub names_differ : (names : List (List ℕ)) (i j : ℕ) (a b : List ℕ) → Ordered ComesBefore names → i ≢ j
+    → IsNameOf names i a → IsNameOf names j b → a ≢ b
+names_differ names i j a b up far p q same = far (node_one names i j b up (subst (IsNameOf names i) same p) q)
+
+-- different names are those of different nodes
+pub nodes_differ : (names : List (List ℕ)) (i j : ℕ) (a b : List ℕ) → a ≢ b
+    → IsNameOf names i a → IsNameOf names j b → i ≢ j
+nodes_differ names i j a b far p q same =
+    far (name_one names j a b (subst (λ (x : ℕ). IsNameOf names x a) same p) q)
+
 -- a node with a name is one of the numbers
 pub named_node : (names : List (List ℕ)) (i : ℕ) (a : List ℕ) → IsNameOf names i a
     → Has (numbers (length names)) i
@@ -129,6 +139,13 @@ one_lists names l from to up f t i j = (
   )),
 )
 
+-- a listing of one node by itself says nothing of two nodes
+pub of_itself : (names : List (List ℕ)) (l : Listing) (from to : ℕ) → Ordered ComesBefore names
+    → IsNameOf names from l.from → IsNameOf names to l.to → from ≡ to
+    → (i j : ℕ) → i ≢ j → NodeLists names (l ∷ []) i j → ⊥
+of_itself names l from to up f t same i j far h =
+    let e = (one_lists names l from to up f t i j).0 h in far (e.0 ∙ same ∙ sym e.1)
+
 pub from_stranger : (names : List (List ℕ)) (l : Listing) (i j : ℕ) → ¬ Has names l.from
     → NodeLists names (l ∷ []) i j → ⊥
 from_stranger names l i j none (a, b, p, q, k) =
@@ -138,12 +155,6 @@ pub to_stranger : (names : List (List ℕ)) (l : Listing) (i j : ℕ) → ¬ Has
     → NodeLists names (l ∷ []) i j → ⊥
 to_stranger names l i j none (a, b, p, q, k) =
     none (subst (Has names) (sym (ends_from l a b k).1) (name_is names j b q))
-
--- the two nodes of a sound listing differ
-pub nodes_differ : (names : List (List ℕ)) (l : Listing) (from to : ℕ) → IsSoundListing l
-    → IsNameOf names from l.from → IsNameOf names to l.to → from ≢ to
-nodes_differ names l from to sound f t same =
-    sound.differ (name_one names to l.from l.to (subst (λ (x : ℕ). IsNameOf names x l.from) same f) t)
 
 -- ---- several listings
 
@@ -178,13 +189,3 @@ lists_more names before l i j =
 
 pub none_lists : (names : List (List ℕ)) (i j : ℕ) → NodeLists names [] i j → ⊥
 none_lists names i j (a, b, p, q, k) = k
-
--- names of which one lists the other in sound listings differ
-pub sound_differ : (listings : List Listing) (a b : List ℕ) → AreSoundListings listings
-    → Has (ends_of listings) (a, b) → a ≢ b
-sound_differ [] a b sound h = absurd h
-sound_differ (l ∷ listings) a b sound h = elim h [
-  | inl e ↦ λ same. (sound l (inl refl)).differ
-      (ap (λ (p : List ℕ × List ℕ). p.0) e ∙ same ∙ sym (ap (λ (p : List ℕ × List ℕ). p.1) e))
-  | inr k ↦ sound_differ listings a b (λ x m. sound x (inr m)) k
-]

@@ -11,8 +11,7 @@ use Rattle.ov_dump.specs.declared.dump_and_graph_types.Dump.{Dump}
 use Rattle.ov_dump.specs.declared.dump_and_graph_types.Entry.{Entry}
 use Rattle.ov_dump.specs.declared.dump_and_graph_types.Listing.{Listing}
 use Rattle.ov_dump.specs.declared.fault.DumpFault.{DumpFault}
-use Rattle.ov_dump.specs.declared.fault.DumpFault.TheVariants.{NameTwice, ListsItself, EmptyName, TooManyNodes}
-use Rattle.ov_dump.specs.declared.fault.DumpFault.TheVariants.{OutOfMemory}
+use Rattle.ov_dump.specs.declared.fault.DumpFault.TheVariants.{NameTwice, EmptyName, TooManyNodes, OutOfMemory}
 use Rattle.ov_dump.proofs.Places.{ordered_more}
 
 -- ---- entries
@@ -79,7 +78,6 @@ flaw entries before after e seen (NameTwice at name) s split f =
       subst (Has (names_of before)) (sym f.1) ((s.each e.name).0 f.2),
     )
 flaw entries before after e seen OutOfMemory s split f = inl refl
-flaw entries before after e seen (ListsItself at name) s split f = absurd f
 flaw entries before after e seen (TooManyNodes at name) s split f = absurd f
 
 -- ---- listings
@@ -98,11 +96,9 @@ more_listed before l sound one x h = elim (has_append_cases before (l ∷ []) x 
 -- the next listing is not sound
 pub flaw_listed : (listings before after : List Listing) (l : Listing) (fault : DumpFault)
     → AreSoundListings before → listings ≡ before ++ l ∷ after → ListingFails l fault
-    → (fault ≡ OutOfMemory) ⊎ IsListingFlaw listings fault
-flaw_listed listings before after l (EmptyName at) s split f = inr (l, (before, after, split, s), f.0, f.1)
-flaw_listed listings before after l (ListsItself at name) s split f =
-    inr (l, (before, after, split, s), f.0, f.1, f.2, f.3)
-flaw_listed listings before after l OutOfMemory s split f = inl refl
+    → IsListingFlaw listings fault
+flaw_listed listings before after l (EmptyName at) s split f = (l, (before, after, split, s), f.0, f.1)
+flaw_listed listings before after l OutOfMemory s split f = absurd f
 flaw_listed listings before after l (NameTwice at name) s split f = absurd f
 flaw_listed listings before after l (TooManyNodes at name) s split f = absurd f
 
@@ -113,9 +109,9 @@ pub of_entries : (d : Dump) (fault : DumpFault) → (fault ≡ OutOfMemory) ⊎ 
 of_entries d fault f = elim f [ inl e ↦ inl e | inr k ↦ inr (inl k) ]
 
 pub of_listings : (d : Dump) (fault : DumpFault) → AreSoundEntries d.entries
-    → (fault ≡ OutOfMemory) ⊎ IsListingFlaw d.listings fault
+    → IsListingFlaw d.listings fault
     → (fault ≡ OutOfMemory) ⊎ IsFlaw d fault
-of_listings d fault sound f = elim f [ inl e ↦ inl e | inr k ↦ inr (inr (sound, k)) ]
+of_listings d fault sound f = inr (inr (sound, f))
 
 -- what is wrong with a dump that is not sound is its fault
 pub is_fault : (choice : Choice) (d : Dump) (fault : DumpFault) → (fault ≡ OutOfMemory) ⊎ IsFlaw d fault
@@ -123,7 +119,6 @@ pub is_fault : (choice : Choice) (d : Dump) (fault : DumpFault) → (fault ≡ O
 is_fault choice d OutOfMemory f = tt
 is_fault choice d (EmptyName at) f = elim f [ inl e ↦ absurd (cc) | inr k ↦ k ]
 is_fault choice d (NameTwice at name) f = elim f [ inl e ↦ absurd (cc) | inr k ↦ k ]
-is_fault choice d (ListsItself at name) f = elim f [ inl e ↦ absurd (cc) | inr k ↦ k ]
 is_fault choice d (TooManyNodes at name) f = elim f [
   | inl e ↦ absurd (cc)
   | inr k ↦ elim k [ inl m ↦ absurd m | inr m ↦ absurd m.1 ]

@@ -15,8 +15,7 @@ use Rattle.ov_dump.specs.declared.dump_and_graph_types.Dump.{Dump}
 use Rattle.ov_dump.specs.declared.dump_and_graph_types.Entry.{Entry}
 use Rattle.ov_dump.specs.declared.dump_and_graph_types.Listing.{Listing}
 use Rattle.ov_dump.specs.declared.fault.DumpFault.{DumpFault}
-use Rattle.ov_dump.specs.declared.fault.DumpFault.TheVariants.{NameTwice, ListsItself, EmptyName, TooManyNodes}
-use Rattle.ov_dump.specs.declared.fault.DumpFault.TheVariants.{OutOfMemory}
+use Rattle.ov_dump.specs.declared.fault.DumpFault.TheVariants.{NameTwice, EmptyName, TooManyNodes, OutOfMemory}
 
 -- ---- lists of names
 
@@ -133,7 +132,6 @@ runs_after old mid all before more rest (TooManyNodes at name) first whole (b, a
 runs_after old mid all before more rest OutOfMemory first whole r = tt
 runs_after old mid all before more rest (EmptyName at) first whole r = absurd r
 runs_after old mid all before more rest (NameTwice at name) first whole r = absurd r
-runs_after old mid all before more rest (ListsItself at name) first whole r = absurd r
 
 pub runs_first : (old : List (List ℕ)) (all more rest : List Naming) (fault : DumpFault)
     → length old ≤ most_nodes → all ≡ more ++ rest → RunsOver old more fault → RunsOver old all fault
@@ -258,4 +256,3 @@ beyond choice d (TooManyNodes at name) sound (before, after, kept, split, gains,
 beyond choice d OutOfMemory sound r = tt
 beyond choice d (EmptyName at) sound r = absurd r
 beyond choice d (NameTwice at name) sound r = absurd r
-beyond choice d (ListsItself at name) sound r = absurd r

@@ -1,8 +1,8 @@
 -- Members of an object and items of a list that are read one after another.
 use Rattle.std.proofs.Common.{◌≡◌, ◌≢◌, ◌∙◌, ◌+◌, ◌<◌, ◌≤◌, ℕ, zero, suc, List, [], ◌∷◌, ◌++◌, inl, inr, sym, ap, subst}
 use Rattle.std.proofs.Common.{refl, append_assoc, append-nil, arith, drop, get_or, length, Bor, Option, Some, None}
-use Rattle.std.proofs.Common.{option_map, unwrap_or}
-use Rattle.json.specs.Find.{as_str}
+use Rattle.std.proofs.Common.{unwrap_or, true, false}
+use Rattle.json.specs.Find.{is_null}
 use Rattle.json.specs.Json.{Json, null, boolean, number, string, array, object, Items, no_items, item}
 use Rattle.json.specs.Json.{Members, no_members, member}
 use Rattle.json.specs.Value.{items_view, members_view, value_view}
@@ -11,25 +11,30 @@ use Rattle.ov_dump.specs.declared.dump_and_graph_types.Dump.{Dump}
 use Rattle.ov_dump.specs.declared.dump_and_graph_types.Entry.{Entry}
 use Rattle.ov_dump.specs.declared.dump_and_graph_types.Listing.{Listing}
 use Rattle.ov_dump.specs.Code.Reading.{FailsAt, FailsFrom, IsDumpIn, IsNoObject, as_items, as_members}
-use Rattle.ov_dump.specs.Views.{IsJson, IsViewsFault, SayDump, SaysViews, listings_of, peers, texts}
+use Rattle.ov_dump.specs.Views.{IsJson, IsViewsFault, SayDump, SaysViews, listed, listings_of, names_in, peers}
+use Rattle.ov_ids.specs.Options.{◌>>=◌}
 use Rattle.ov_dump.specs.declared.reading_fault.ReadingFault.{ReadingFault}
 use Rattle.ov_dump.specs.declared.reading_fault.ReadingFault.TheVariants.{NotJson, NotViews, NoView, UnreadLine}
 use Rattle.ov_dump.specs.declared.reading_fault.ReadingFault.TheVariants.{OutOfMemory}
 
 -- ---- items
 
+-- these names, and those that follow
+abbrev pub with : List (List ℕ) → Option (List (List ℕ)) → Option (List (List ℕ))
+with names later = later >>= λ rest. Some (names ++ rest)
+
 -- the listings of the items so far, and what the items say with those that are left
 pub record Lists (at : ℕ) (name : List ℕ) (all : Items) (old now : List Listing) (left : Items) : Type 0 where
   pub done : List (List ℕ)
   pub written : now ≡ old ++ listings_of at name done
-  pub says : texts all ≡ option_map (λ ts. done ++ ts) (texts left)
+  pub says : listed all ≡ with done (listed left)
 
-same_texts : (said : Option (List (List ℕ))) → said ≡ option_map (λ ts. [] ++ ts) said
-same_texts None = refl
-same_texts (Some ts) = refl
+with_none : (said : Option (List (List ℕ))) → said ≡ with [] said
+with_none None = refl
+with_none (Some names) = refl
 
 pub lists_begun : (at : ℕ) (name : List ℕ) (all : Items) (old : List Listing) → Lists at name all old old all
-lists_begun at name all old = record { done = []; written = sym (append-nil old); says = same_texts (texts all) }
+lists_begun at name all old = record { done = []; written = sym (append-nil old); says = with_none (listed all) }
 
 listings_append : (at : ℕ) (name : List ℕ) (xs ys : List (List ℕ))
     → listings_of at name (xs ++ ys) ≡ listings_of at name xs ++ listings_of at name ys
@@ -37,57 +42,60 @@ listings_append at name [] ys = refl
 listings_append at name (x ∷ xs) ys =
     ap (λ ls. record { at = at; from = name; to = x } ∷ ls) (listings_append at name xs ys)
 
-longer_texts : (done : List (List ℕ)) (s : List ℕ) (said : Option (List (List ℕ)))
-    → option_map (λ ts. done ++ ts) (option_map (λ ts. s ∷ ts) said) ≡ option_map (λ ts. (done ++ s ∷ []) ++ ts) said
-longer_texts done s None = refl
-longer_texts done s (Some ts) = ap Some (sym (append_assoc done (s ∷ []) ts))
+with_both : (done names : List (List ℕ)) (said : Option (List (List ℕ)))
+    → with done (with names said) ≡ with (done ++ names) said
+with_both done names None = refl
+with_both done names (Some rest) = ap Some (sym (append_assoc done names rest))
 
-is_string : (v : Json) (s : List ℕ) → as_str v ≡ Some s → v ≡ string s
-is_string null s e = absurd (cc)
-is_string (boolean b) s e = absurd (cc)
-is_string (number t) s e = absurd (cc)
-is_string (string t) s e = ap string (ap (λ o. unwrap_or o s) e)
-is_string (array js) s e = absurd (cc)
-is_string (object ms) s e = absurd (cc)
-
-no_string : (v : Json) (rest : Items) → as_str v ≡ None → texts (item v rest) ≡ None
-no_string null rest e = refl
-no_string (boolean b) rest e = refl
-no_string (number t) rest e = refl
-no_string (string t) rest e = absurd (cc)
-no_string (array js) rest e = refl
-no_string (object ms) rest e = refl
-
--- one text more
+-- one item more
 pub lists_more : (at : ℕ) (name : List ℕ) (all : Items) (old now later : List Listing) (left rest : Items) (v : Json)
-    (s : List ℕ)
-    → Lists at name all old now left → left ≡ item v rest → as_str v ≡ Some s
-    → later ≡ now ++ record { at = at; from = name; to = s } ∷ []
+    (names : List (List ℕ))
+    → Lists at name all old now left → left ≡ item v rest → names_in v ≡ Some names
+    → later ≡ now ++ listings_of at name names
     → Lists at name all old later rest
-lists_more at name all old now later left rest v s l first text grown = record {
-  done = l.done ++ s ∷ [];
+lists_more at name all old now later left rest v names l first said grown = record {
+  done = l.done ++ names;
   written = grown
-      ∙ ap (λ (ls : List Listing). ls ++ listings_of at name (s ∷ [])) l.written
-      ∙ append_assoc old (listings_of at name l.done) (listings_of at name (s ∷ []))
-      ∙ ap (λ ls. old ++ ls) (sym (listings_append at name l.done (s ∷ [])));
+      ∙ ap (λ (ls : List Listing). ls ++ listings_of at name names) l.written
+      ∙ append_assoc old (listings_of at name l.done) (listings_of at name names)
+      ∙ ap (λ ls. old ++ ls) (sym (listings_append at name l.done names));
   says = l.says
-      ∙ ap (λ js. option_map (λ ts. l.done ++ ts) (texts js)) (first ∙ ap (λ j. item j rest) (is_string v s text))
-      ∙ longer_texts l.done s (texts rest);
+      ∙ ap (λ js. with l.done (listed js)) first
+      ∙ ap (λ o. with l.done (o >>= λ ns. with ns (listed rest))) said
+      ∙ with_both l.done names (listed rest);
 }
 
--- the next item is no text
+-- one item more, which is the name of a peer
+pub lists_peer : (at : ℕ) (name : List ℕ) (all : Items) (old now later : List Listing) (left rest : Items) (v : Json)
+    (s : List ℕ)
+    → Lists at name all old now left → left ≡ item v rest → names_in v ≡ Some (s ∷ [])
+    → later ≡ now ++ record { at = at; from = name; to = s } ∷ []
+    → Lists at name all old later rest
+lists_peer at name all old now later left rest v s l first said grown =
+    lists_more at name all old now later left rest v (s ∷ []) l first said grown
+
+-- one item more, which is nobody
+pub lists_nobody : (at : ℕ) (name : List ℕ) (all : Items) (old now : List Listing) (left rest : Items) (v : Json)
+    → Lists at name all old now left → left ≡ item v rest → names_in v ≡ Some []
+    → Lists at name all old now rest
+lists_nobody at name all old now left rest v l first said =
+    lists_more at name all old now now left rest v [] l first said (sym (append-nil now))
+
+-- the next item is no name
 pub lists_wrong : (at : ℕ) (name : List ℕ) (all : Items) (old now : List Listing) (left rest : Items) (v : Json)
-    → Lists at name all old now left → left ≡ item v rest → as_str v ≡ None → texts all ≡ None
+    → Lists at name all old now left → left ≡ item v rest → names_in v ≡ None → listed all ≡ None
 lists_wrong at name all old now left rest v l first none =
-    l.says ∙ ap (option_map (λ ts. l.done ++ ts)) (ap texts first ∙ no_string v rest none)
+    l.says
+    ∙ ap (λ js. with l.done (listed js)) first
+    ∙ ap (λ o. with l.done (o >>= λ ns. with ns (listed rest))) none
 
 -- no item is left
 pub lists_all : (at : ℕ) (name : List ℕ) (all : Items) (old now : List Listing) (left : Items)
     → Lists at name all old now left → left ≡ no_items
-    → (names : List (List ℕ)) × (texts all ≡ Some names) × (now ≡ old ++ listings_of at name names)
+    → (names : List (List ℕ)) × (listed all ≡ Some names) × (now ≡ old ++ listings_of at name names)
 lists_all at name all old now left l none = (
   l.done,
-  l.says ∙ ap (λ js. option_map (λ ts. l.done ++ ts) (texts js)) none ∙ ap Some (append-nil l.done),
+  l.says ∙ ap (λ js. with l.done (listed js)) none ∙ ap Some (append-nil l.done),
   l.written,
 )
 
@@ -170,7 +178,7 @@ here_fails at name v rest NotJson f = absurd f
 here_fails at name v rest NotViews f = absurd f
 here_fails at name v rest (UnreadLine line why) f = absurd f
 
--- the next member is no list of texts
+-- the next member is no list of names
 pub reads_wrong : (all : Members) (at : ℕ) (entries : List Entry) (listings : List Listing) (left rest : Members)
     (name : List ℕ) (v : Json) (fault : ReadingFault)
     → ReadsOn all at entries listings left → left ≡ member name v rest → FailsAt at name (peers v) fault
@@ -219,21 +227,34 @@ no_member_left (m ∷ ms) (suc i) l = no_member_left ms i (omega arith)
 
 -- ---- the peers of a value
 
-pub peers_of_list : (v : Json) (js : Items) → as_items v ≡ Some js → peers v ≡ texts js
+pub peers_of_list : (v : Json) (js : Items) → as_items v ≡ Some js → peers v ≡ listed js
 peers_of_list null js e = absurd (cc)
 peers_of_list (boolean b) js e = absurd (cc)
 peers_of_list (number t) js e = absurd (cc)
 peers_of_list (string t) js e = absurd (cc)
-peers_of_list (array is) js e = ap texts (ap (λ o. unwrap_or o js) e)
+peers_of_list (array is) js e = ap listed (ap (λ o. unwrap_or o js) e)
 peers_of_list (object ms) js e = absurd (cc)
 
-pub peers_of_other : (v : Json) → as_items v ≡ None → peers v ≡ None
-peers_of_other null e = refl
-peers_of_other (boolean b) e = refl
-peers_of_other (number t) e = refl
-peers_of_other (string t) e = refl
-peers_of_other (array is) e = absurd (cc)
-peers_of_other (object ms) e = refl
+pub peers_of_other : (v : Json) → is_null v ≡ false → as_items v ≡ None → peers v ≡ None
+peers_of_other null other e = absurd (cc)
+peers_of_other (boolean b) other e = refl
+peers_of_other (number t) other e = refl
+peers_of_other (string t) other e = refl
+peers_of_other (array is) other e = absurd (cc)
+peers_of_other (object ms) other e = refl
+
+pub peers_of_null : (v : Json) → is_null v ≡ true → peers v ≡ Some []
+peers_of_null null e = refl
+peers_of_null (boolean b) e = absurd (cc)
+peers_of_null (number t) e = absurd (cc)
+peers_of_null (string t) e = absurd (cc)
+peers_of_null (array is) e = absurd (cc)
+peers_of_null (object ms) e = absurd (cc)
+
+-- without its name, or for want of memory, an entry fails
+pub memory_fails : (at : ℕ) (name : List ℕ) (said : Option (List (List ℕ))) (fault : ReadingFault)
+    → fault ≡ OutOfMemory → FailsAt at name said fault
+memory_fails at name said fault e = subst (FailsAt at name said) (sym e) tt
 
 -- ---- the file
 

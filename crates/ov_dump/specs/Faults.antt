@@ -11,13 +11,11 @@ use Rattle.ov_dump.specs.declared.dump_and_graph_types.Dump.{Dump}
 use Rattle.ov_dump.specs.declared.dump_and_graph_types.Entry.{Entry}
 use Rattle.ov_dump.specs.declared.dump_and_graph_types.Listing.{Listing}
 use Rattle.ov_dump.specs.declared.fault.DumpFault.{DumpFault}
-use Rattle.ov_dump.specs.declared.fault.DumpFault.TheVariants.{NameTwice, ListsItself, EmptyName, TooManyNodes}
-use Rattle.ov_dump.specs.declared.fault.DumpFault.TheVariants.{OutOfMemory}
+use Rattle.ov_dump.specs.declared.fault.DumpFault.TheVariants.{NameTwice, EmptyName, TooManyNodes, OutOfMemory}
 
--- the number of each fault. 80 to 82 are chosen here
+-- the number of each fault. 80 and 82 are chosen here
 abbrev pub number_of : DumpFault → ℕ
 number_of (NameTwice at name) = 80
-number_of (ListsItself at name) = 81
 number_of (EmptyName at) = 82
 number_of (TooManyNodes at name) = 31
 number_of OutOfMemory = 99
@@ -29,11 +27,10 @@ pub record AreSoundEntries (entries : List Entry) : Type 0 where
   pub named : (e : Entry) → Has entries e → e.name ≢ []
   pub differ : Ordered (λ m n. m ≢ n) (names_of entries)
 
--- a listing is sound: no name is empty, and the names differ
+-- a listing is sound: no name is empty. They may be one name, since who lists itself is linked to nobody by that
 pub record IsSoundListing (l : Listing) : Type 0 where
   pub lists : l.from ≢ []
   pub listed : l.to ≢ []
-  pub differ : l.from ≢ l.to
 
 -- each of these listings is sound
 abbrev pub AreSoundListings : List Listing → Type 0
@@ -62,12 +59,10 @@ IsEntryFlaw entries (NameTwice at name) =
     × Has (names_of before) name
 IsEntryFlaw entries other = ⊥
 
--- what is wrong with the first listing that is not sound. An empty name comes before a name that lists itself
+-- what is wrong with the first listing that is not sound
 abbrev pub IsListingFlaw : List Listing → DumpFault → Type 0
 IsListingFlaw listings (EmptyName at) =
     (l : Listing) × IsNextListing listings l × (at ≡ l.at) × ((l.from ≡ []) ⊎ (l.to ≡ []))
-IsListingFlaw listings (ListsItself at name) =
-    (l : Listing) × IsNextListing listings l × (at ≡ l.at) × (name ≡ l.from) × (l.from ≡ l.to) × (l.from ≢ [])
 IsListingFlaw listings other = ⊥
 
 -- what is wrong with the first entry or listing of a dump that is not sound

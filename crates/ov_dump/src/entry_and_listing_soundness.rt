@@ -1,4 +1,4 @@
-ghost use Rattle.std.specs.Prelude.{◌≡◌, ◌≢◌, ◌↔◌, ◌⊎◌, ℕ, List, [], IfErr, IsTrue, OnOk};
+ghost use Rattle.std.specs.Prelude.{◌≡◌, ◌≢◌, ◌↔◌, ◌⊎◌, ℕ, List, [], IfErr, OnOk};
 ghost use Rattle.ov_ids.specs.Members.{Has};
 ghost use Rattle.ov_dump.specs.Faults.{AreSoundEntries, AreSoundListings, IsSound, IsSoundListing};
 ghost use Rattle.ov_dump.specs.Faults.{IsEntryFlaw, IsFlaw, IsListingFlaw};
@@ -7,7 +7,6 @@ ghost use Rattle.ov_dump.specs.declared.fault.DumpFault.TheVariants.{OutOfMemory
 
 use crate::dump_and_graph_types::{Dump, Entry, Listing};
 use crate::fault::DumpFault;
-use crate::name::Name;
 use crate::name_set::NameSet;
 use std::alloc::Global;
 
@@ -17,7 +16,7 @@ pub(crate) fn judge(alloc: Global, dump: &Dump) -> Result<(), DumpFault>
     ensures fault { IfErr result (λ fault. (fault ≡ out_of_memory) ⊎ IsFlaw dump.now fault) }
 {
     judge_entries(alloc, dump.entries.as_slice())?;
-    judge_listings(alloc, dump.listings.as_slice())?;
+    judge_listings(dump.listings.as_slice())?;
     Ok(())
 }
 
@@ -51,17 +50,17 @@ fn judge_entry(alloc: Global, seen: &mut NameSet, entry: &Entry) -> Result<(), D
     Ok(())
 }
 
-fn judge_listings(alloc: Global, listings: &[Listing]) -> Result<(), DumpFault>
+fn judge_listings(listings: &[Listing]) -> Result<(), DumpFault>
     ensures sound { OnOk result (AreSoundListings listings.now) }
-    ensures fault { IfErr result (λ fault. (fault ≡ out_of_memory) ⊎ IsListingFlaw listings.now fault) }
+    ensures fault { IfErr result (IsListingFlaw listings.now) }
 {
     for listing in listings {
-        judge_listing(alloc, listing)?;
+        judge_listing(listing)?;
     }
     Ok(())
 }
 
-fn judge_listing(alloc: Global, listing: &Listing) -> Result<(), DumpFault>
+fn judge_listing(listing: &Listing) -> Result<(), DumpFault>
     ensures sound { OnOk result (IsSoundListing listing.now) }
     ensures fault { IfErr result (ListingFails listing.now) }
 {
@@ -69,15 +68,5 @@ fn judge_listing(alloc: Global, listing: &Listing) -> Result<(), DumpFault>
     if listing.from.is_empty() || listing.to.is_empty() {
         return Err(DumpFault::EmptyName { at });
     }
-    if are_same(&listing.from, &listing.to) {
-        let name = listing.from.copy(alloc)?;
-        return Err(DumpFault::ListsItself { at, name });
-    }
     Ok(())
-}
-
-fn are_same(a: &Name, b: &Name) -> bool
-    ensures { IsTrue result ↔ (a.now ≡ b.now) }
-{
-    a == b
 }

@@ -8,15 +8,12 @@ use std::alloc::{AllocError, AllocFailed};
 use thiserror::Error;
 
 /// Why no graph follows from a dump. `at` is the place of the entry or of the listing at fault, as these have it. The
-/// numbers 80 to 82 are chosen here.
+/// numbers 80 and 82 are chosen here.
 #[derive(Debug, Drop, Error)]
 pub enum DumpFault {
     /// 80: an entry before this one has the same name.
     #[error("place {at}: {name} has an entry already")]
     NameTwice { at: u64, name: Name },
-    /// 81: a name lists itself.
-    #[error("place {at}: {name} lists itself")]
-    ListsItself { at: u64, name: Name },
     /// 82: a name is empty.
     #[error("place {at}: a name is empty")]
     EmptyName { at: u64 },
@@ -35,7 +32,6 @@ impl DumpFault {
     {
         match self {
             DumpFault::NameTwice { .. } => 80,
-            DumpFault::ListsItself { .. } => 81,
             DumpFault::EmptyName { .. } => 82,
             DumpFault::TooManyNodes { .. } => 31,
             DumpFault::OutOfMemory => 99,

@@ -2,7 +2,7 @@ ghost use Rattle.std.specs.Prelude.{◌≡◌, ◌≢◌, ◌↔◌, ◌⊎◌, 
 ghost use Rattle.ov_ids.specs.Members.{Has, Ordered};
 ghost use Rattle.ov_graph.specs.Links.{IsGraph, IsWithinLimit, Linked, most_nodes};
 ghost use Rattle.ov_dump.specs.Dumps.{IsGraphOf, numbers};
-ghost use Rattle.ov_dump.specs.Faults.{AreSoundListings, IsDumpFault, IsSound};
+ghost use Rattle.ov_dump.specs.Faults.{IsDumpFault, IsSound};
 ghost use Rattle.ov_dump.specs.Names.{ComesBefore};
 ghost use Rattle.ov_dump.specs.Code.Numbering.{Follows, NodeLists};
 
@@ -17,10 +17,10 @@ use ov_graph::Graph;
 use ov_ids::{OutOfMemory, Seq};
 use std::alloc::Global;
 
-/// The graph that follows from a dump, with the names of its nodes. EmptyName (82), NameTwice (80) or ListsItself (81)
-/// says what is wrong with the first entry or listing that is not sound; the entries come before the listings.
-/// TooManyNodes (31) is returned if all are sound, and says the first name that is one too many for a graph.
-/// OutOfMemory (99) is returned if an allocation was refused.
+/// The graph that follows from a dump, with the names of its nodes. Who lists itself is linked to nobody by that.
+/// EmptyName (82) or NameTwice (80) says what is wrong with the first entry or listing that is not sound; the entries
+/// come before the listings. TooManyNodes (31) is returned if all are sound, and says the first name that is one too
+/// many for a graph. OutOfMemory (99) is returned if an allocation was refused.
 pub fn named_graph(alloc: Global, dump: &Dump, choice: Choice) -> Result<NamedGraph, DumpFault>
     ensures graph { IfOk result (λ named. IsGraphOf choice dump.now named.graph named.names) }
     ensures within { IfOk result (λ named. IsWithinLimit named.graph) }
@@ -45,13 +45,12 @@ fn graph_of(
 ) -> Result<Graph, OutOfMemory>
     requires ascend { Ordered ComesBefore names.now }
     requires few { length names.now ≤ most_nodes }
-    requires sound { AreSoundListings listings.now }
     ensures nodes { IfOk result (λ g. g.nodes ≡ numbers (length names.now)) }
     ensures graph { IfOk result IsGraph }
-    ensures either { IfOk result (λ g. choice.either ≡ true → (i j : ℕ) → Linked g i j
-        ↔ (NodeLists names.now listings.now i j ⊎ NodeLists names.now listings.now j i)) }
-    ensures both { IfOk result (λ g. choice.either ≡ false → (i j : ℕ) → Linked g i j
-        ↔ (NodeLists names.now listings.now i j × NodeLists names.now listings.now j i)) }
+    ensures either { IfOk result (λ g. choice.either ≡ true → (i j : ℕ) → i ≢ j → (Linked g i j
+        ↔ (NodeLists names.now listings.now i j ⊎ NodeLists names.now listings.now j i))) }
+    ensures both { IfOk result (λ g. choice.either ≡ false → (i j : ℕ) → i ≢ j → (Linked g i j
+        ↔ (NodeLists names.now listings.now i j × NodeLists names.now listings.now j i))) }
 {
     let mut graph = unlinked_graph(alloc, names.len())?;
     let graphs = listing_graphs(alloc, names, listings)?;

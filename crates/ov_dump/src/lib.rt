@@ -15,6 +15,7 @@ mod name;
 mod name_and_listing_making;
 mod name_set;
 mod names_in_graph_file_theorems;
+mod names_listing_themselves;
 mod names_shown_on_one_line;
 mod names_without_entry;
 mod node_names_by_choice;
@@ -37,7 +38,7 @@ pub use name::Name;
 pub use names_in_graph_file_theorems::{
     names_are_read, names_come_back, names_differ, one_shown_name,
 };
-pub use operator_notes::import_notes;
+pub use operator_notes::{header_note, import_notes};
 pub use reading_fault::ReadingFault;
 pub use refusal_or_write_fault::ImportFault;
 pub use unread_edge_line_reason::Why;

@@ -2,7 +2,6 @@ ghost use Rattle.std.specs.Prelude.{◌≡◌, ◌≢◌, ◌↔◌, ◌⊎◌, 
 ghost use Rattle.ov_ids.specs.Members.{Has, Ordered};
 ghost use Rattle.ov_graph.specs.Links.{Linked, most_nodes};
 ghost use Rattle.ov_dump.specs.Dumps.{ends_of, numbers};
-ghost use Rattle.ov_dump.specs.Faults.{AreSoundListings, IsSoundListing};
 ghost use Rattle.ov_dump.specs.Names.{ComesBefore};
 ghost use Rattle.ov_dump.specs.Code.Numbering.{Follows, NodeLists};
 
@@ -21,7 +20,7 @@ pub(crate) struct ListingGraphs {
     pub(crate) down: Graph,
 }
 
-/// Who lists whom, by nodes. Listings of names that are no names of nodes are passed over.
+/// Who lists whom, by nodes. Listings of names that are no names of nodes, and of a name by itself, are passed over.
 pub(crate) fn listing_graphs(
     alloc: Global,
     names: &[Name],
@@ -29,10 +28,10 @@ pub(crate) fn listing_graphs(
 ) -> Result<ListingGraphs, OutOfMemory>
     requires ascend { Ordered ComesBefore names.now }
     requires few { length names.now ≤ most_nodes }
-    requires sound { AreSoundListings listings.now }
     ensures up { IfOk result (λ g. g.up.nodes ≡ numbers (length names.now)) }
     ensures down { IfOk result (λ g. g.down.nodes ≡ numbers (length names.now)) }
-    ensures lists { IfOk result (λ g. (i j : ℕ) → Follows g.up g.down i j ↔ NodeLists names.now listings.now i j) }
+    ensures lists { IfOk result (λ g. (i j : ℕ) → i ≢ j
+        → (Follows g.up g.down i j ↔ NodeLists names.now listings.now i j)) }
 {
     let mut up = unlinked_graph(alloc, names.len())?;
     let mut down = unlinked_graph(alloc, names.len())?;
@@ -45,13 +44,12 @@ pub(crate) fn listing_graphs(
 fn add_listing(up: &mut Graph, down: &mut Graph, names: &[Name], listing: &Listing)
     requires ascend { Ordered ComesBefore names.now }
     requires few { length names.now ≤ most_nodes }
-    requires sound { IsSoundListing listing.now }
     requires up { up.old.nodes ≡ numbers (length names.now) }
     requires down { down.old.nodes ≡ numbers (length names.now) }
     ensures up { up.new.nodes ≡ numbers (length names.now) }
     ensures down { down.new.nodes ≡ numbers (length names.now) }
-    ensures lists { (i j : ℕ) → Follows up.new down.new i j
-        ↔ (NodeLists names.now (listing.now ∷ []) i j ⊎ Follows up.old down.old i j) }
+    ensures lists { (i j : ℕ) → i ≢ j → (Follows up.new down.new i j
+        ↔ (NodeLists names.now (listing.now ∷ []) i j ⊎ Follows up.old down.old i j)) }
 {
     let Some(from) = node_of(names, &listing.from) else {
         return;
@@ -59,6 +57,9 @@ fn add_listing(up: &mut Graph, down: &mut Graph, names: &[Name], listing: &Listi
     let Some(to) = node_of(names, &listing.to) else {
         return;
     };
+    if from == to {
+        return;
+    }
     add_following(up, down, from, to);
 }
 

@@ -62,7 +62,7 @@ fn add_unless_in(
 }
 
 /// Adds a name.
-fn add(alloc: Global, names: &mut NameSet, name: &Name) -> Result<(), OutOfMemory>
+pub(crate) fn add(alloc: Global, names: &mut NameSet, name: &Name) -> Result<(), OutOfMemory>
     ensures { OnOk result ((n : List ℕ) → Has names.new n ↔ ((name.now ≡ n) ⊎ Has names.old n)) }
 {
     if names.contains(name) {

@@ -1,6 +1,9 @@
-use crate::names_without_entry::without_entry;
+use crate::name_set::NameSet;
+use crate::names_listing_themselves::{are_same, listing_themselves};
+use crate::names_without_entry::{add, without_entry};
+use crate::pair_set::PairSet;
 use crate::unanswered_listings::listed_by_one;
-use crate::{Choice, Dump, Name};
+use crate::{Choice, Dump, Entry, Listing, Name};
 use ov_ids::OutOfMemory;
 use std::alloc::{AllocError, Global};
 use std::fmt::Write;
@@ -8,10 +11,21 @@ use std::fmt::Write;
 /// How many listings, and how many names, are told of at most. (Chosen here.)
 const MOST_TOLD: usize = 10;
 
-/// What an operator should know of a dump: that it has no name; how many listings the other end does not answer, and
-/// how many names are listed and have no entry, as those of dead peers; the first ten of each, and what becomes of
-/// names without an entry, if they are not left out. Empty if there is none of it. OutOfMemory (99) is returned if an
-/// allocation was refused.
+/// What `--either` does, where few listings are answered.
+const EITHER: &str = "more than half of the listings are not answered; \
+    --either links two names also if only one of them lists the other\n";
+
+/// What becomes of a link of a name to itself.
+const PASSED_OVER: &str = "a link of a name to itself is passed over\n";
+
+/// Who reads lines of neighbours behind a colon.
+const ADJACENCY: &str = "a line `a: b c` of an adjacency list is no form of a dump here; \
+    `tagzirk import` of the Python package reads it\n";
+
+/// What an operator should know of a dump: that it has no name; how many listings the other end does not answer, how
+/// many names are listed and have no entry, as those of dead peers, how many list themselves, and how many end in a
+/// colon; the first ten of each, and what becomes of them. Empty if there is none of it. OutOfMemory (99) is returned if
+/// an allocation was refused.
 pub fn import_notes(alloc: Global, dump: &Dump, choice: Choice) -> Result<String, OutOfMemory> {
     let mut notes = String::new(alloc);
     if dump.entries.as_slice().is_empty() && dump.listings.as_slice().is_empty() {
@@ -19,21 +33,49 @@ pub fn import_notes(alloc: Global, dump: &Dump, choice: Choice) -> Result<String
     }
     let places = listed_by_one(alloc, dump)?;
     note_listings(&mut notes, dump, &places)?;
-    let names = without_entry(alloc, dump)?;
-    note_names(&mut notes, &names)?;
-    if !choice.entries_only && !names.is_empty() {
-        notes.push_str(what_becomes(choice))?;
+    if !choice.either && is_most(places.len(), count_listings(alloc, dump)?) {
+        notes.push_str(EITHER)?;
     }
+    note_strangers(alloc, &mut notes, dump, choice)?;
+    note_themselves(alloc, &mut notes, dump)?;
+    note_colons(alloc, &mut notes, dump)?;
     Ok(notes)
 }
 
-/// What becomes of names without an entry, if they are not left out.
-fn what_becomes(choice: Choice) -> &'static str {
-    if choice.either {
-        "they are linked, and so look alive; --entries leaves them out\n"
-    } else {
-        "they become nodes without links; --entries leaves them out\n"
+/// What an operator should know of a dump of lines of two names: that the first of them looks like a header, since
+/// neither name stands in another line. Empty if it does not. OutOfMemory (99) is returned if an allocation was refused.
+pub fn header_note(alloc: Global, dump: &Dump) -> Result<String, OutOfMemory> {
+    let mut note = String::new(alloc);
+    let listings = dump.listings.as_slice();
+    let Some(first) = listings.first() else {
+        return Ok(note);
+    };
+    if stands_apart(first, listings) {
+        let (at, from, to) = (first.at, &first.from, &first.to);
+        writeln!(
+            note,
+            "line {at}: {from} and {to} stand in no other line; if it is a header, remove it"
+        )?;
     }
+    Ok(note)
+}
+
+/// Whether a part is more than half of a number.
+fn is_most(part: usize, all: usize) -> bool {
+    part > all / 2
+}
+
+/// How many listings of different names there are. Each pair of names counts once.
+fn count_listings(alloc: Global, dump: &Dump) -> Result<usize, OutOfMemory> {
+    let mut said = PairSet::new(alloc);
+    let mut count: usize = 0;
+    for listing in dump.listings.as_slice() {
+        let (from, to) = (&listing.from, &listing.to);
+        if !are_same(from, to) && said.insert(from, to)? {
+            count = count.saturating_add(1);
+        }
+    }
+    Ok(count)
 }
 
 fn note_listings(notes: &mut String, dump: &Dump, places: &[usize]) -> Result<(), AllocError> {
@@ -53,14 +95,117 @@ fn note_listings(notes: &mut String, dump: &Dump, places: &[usize]) -> Result<()
     Ok(())
 }
 
-fn note_names(notes: &mut String, names: &[Name]) -> Result<(), AllocError> {
+/// Tells the names that are listed without an entry, and what becomes of them.
+fn note_strangers(
+    alloc: Global,
+    notes: &mut String,
+    dump: &Dump,
+    choice: Choice,
+) -> Result<(), OutOfMemory> {
+    let names = without_entry(alloc, dump)?;
     if names.is_empty() {
         return Ok(());
     }
-    let count = names.len();
-    writeln!(notes, "listed without an entry: {count}")?;
-    for name in names.iter().take(MOST_TOLD) {
-        writeln!(notes, "{name} is listed and has no entry")?;
+    note_names(
+        notes,
+        &names,
+        "listed without an entry",
+        "is listed and has no entry",
+    )?;
+    if !choice.entries_only {
+        notes.push_str(what_becomes(choice))?;
     }
     Ok(())
+}
+
+/// What becomes of names without an entry, if they are not left out.
+fn what_becomes(choice: Choice) -> &'static str {
+    if choice.either {
+        "they are linked, and so look alive; --entries leaves them out\n"
+    } else {
+        "they become nodes without links; --entries leaves them out\n"
+    }
+}
+
+/// Tells the names that list themselves.
+fn note_themselves(alloc: Global, notes: &mut String, dump: &Dump) -> Result<(), OutOfMemory> {
+    let names = listing_themselves(alloc, dump)?;
+    if names.is_empty() {
+        return Ok(());
+    }
+    note_names(notes, &names, "lists itself", "lists itself")?;
+    notes.push_str(PASSED_OVER)?;
+    Ok(())
+}
+
+/// Tells the names that end in a colon.
+fn note_colons(alloc: Global, notes: &mut String, dump: &Dump) -> Result<(), OutOfMemory> {
+    let mut found = NameSet::new(alloc);
+    add_entries(alloc, &mut found, dump.entries.as_slice())?;
+    add_listed(alloc, &mut found, dump.listings.as_slice())?;
+    let names = found.into_names(alloc)?;
+    if names.is_empty() {
+        return Ok(());
+    }
+    note_names(notes, &names, "ends in a colon", "ends in a colon")?;
+    notes.push_str(ADJACENCY)?;
+    Ok(())
+}
+
+/// Adds the names of entries that end in a colon.
+fn add_entries(alloc: Global, names: &mut NameSet, entries: &[Entry]) -> Result<(), OutOfMemory> {
+    for entry in entries {
+        if ends_in_colon(&entry.name) {
+            add(alloc, names, &entry.name)?;
+        }
+    }
+    Ok(())
+}
+
+/// Adds the names that are listed and end in a colon.
+fn add_listed(alloc: Global, names: &mut NameSet, listings: &[Listing]) -> Result<(), OutOfMemory> {
+    for listing in listings {
+        if ends_in_colon(&listing.to) {
+            add(alloc, names, &listing.to)?;
+        }
+    }
+    Ok(())
+}
+
+fn ends_in_colon(name: &Name) -> bool {
+    name.as_str().as_bytes().last() == Some(&b':')
+}
+
+/// Tells how many names there are of a kind, and of the first ones that they are of it.
+fn note_names(
+    notes: &mut String,
+    names: &[Name],
+    kind: &str,
+    is_so: &str,
+) -> Result<(), AllocError> {
+    let count = names.len();
+    writeln!(notes, "{kind}: {count}")?;
+    for name in names.iter().take(MOST_TOLD) {
+        writeln!(notes, "{name} {is_so}")?;
+    }
+    Ok(())
+}
+
+/// Whether a line has two names neither of which stands in another line, and there are other lines.
+fn stands_apart(line: &Listing, listings: &[Listing]) -> bool {
+    let mut has_others = false;
+    for other in listings {
+        if other.at == line.at {
+            continue;
+        }
+        if is_end_of(&line.from, other) || is_end_of(&line.to, other) {
+            return false;
+        }
+        has_others = true;
+    }
+    has_others && !are_same(&line.from, &line.to)
+}
+
+fn is_end_of(name: &Name, listing: &Listing) -> bool {
+    are_same(name, &listing.from) || are_same(name, &listing.to)
 }

@@ -17,8 +17,8 @@ pub enum ReadingFault {
     /// 83: the file is JSON, but no object.
     #[error("the file is no JSON object of lists of names")]
     NotViews,
-    /// 83: the entry of this number, counted from 1, is no list of texts.
-    #[error("entry {entry}, of {name}, is no list of names in quotes")]
+    /// 83: the entry of this number, counted from 1, is no list of names.
+    #[error("entry {entry}, of {name}, is no list of names: texts or whole numbers")]
     NoView { entry: u64, name: Name },
     /// 70: the line of this number, counted from 1, is no pair of names.
     #[error("line {line} is no pair of names: {why}")]

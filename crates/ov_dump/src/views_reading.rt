@@ -1,7 +1,9 @@
 ghost use Rattle.std.specs.Prelude.{◌≡◌, ◌++◌, ◌∷◌, [], ℕ, List, IfErr, IfOk, OnOk, None, Some, option_map};
 ghost use Rattle.json.specs.Value.{items_view, members_view, value_view};
-ghost use Rattle.ov_dump.specs.Views.{IsViewsFault, SayDump, SaysViews, listings_of, peers, texts};
-ghost use Rattle.ov_dump.specs.Code.Reading.{DumpOf, FailsAt, FailsFrom, as_items, as_members};
+ghost use Rattle.ov_dump.specs.Views.{IsViewsFault, SayDump, SaysViews, ends_whole, is_whole, listed};
+ghost use Rattle.ov_dump.specs.Views.{listings_of, names_in, peers};
+ghost use Rattle.ov_dump.specs.Code.Reading.{DumpOf, FailsAt, FailsFrom, as_items, as_members, names_read};
+ghost use Rattle.ov_dump.specs.declared.reading_fault.ReadingFault.TheVariants.{OutOfMemory as out_of_memory};
 
 use crate::name_and_listing_making::{listing_of, name_of};
 use crate::reading_fault::ReadingFault;
@@ -17,11 +19,23 @@ struct ViewParts {
     listings: Vec<Listing>,
 }
 
+/// What an item of a list lists.
+#[derive(Clone, Copy)]
+pub(crate) enum Listed<'a> {
+    /// Nobody.
+    Nobody,
+    /// The peer of this name.
+    Peer(&'a str),
+    /// It is no name.
+    NoName,
+}
+
 /// Reads a dump that is a JSON object (RFC 8259). Each key is a name with an entry, and its value is the list of the
-/// names that it lists. A key that is there twice gives two entries.
+/// names that it lists: texts, and whole numbers as they are written. `null` lists nobody, and is passed over in a list.
+/// A key that is there twice gives two entries.
 ///
 /// NotJson (60): the bytes are no UTF-8 or no JSON. NotViews (83): they are another JSON value than an object. NoView
-/// (83) says the first entry whose value is no list of texts. OutOfMemory (99) is returned if an allocation was
+/// (83) says the first entry whose value is no list of names. OutOfMemory (99) is returned if an allocation was
 /// refused.
 pub fn read_views(alloc: Global, bytes: &[u8]) -> Result<Dump, ReadingFault>
     ensures dump { IfOk result (SaysViews bytes.now) }
@@ -103,14 +117,32 @@ fn add_view(
         × (parts.new.listings.items ≡ parts.old.listings.items ++ listings_of at name.now names)) }
     ensures fault { IfErr result (FailsAt at name.now (peers (value_view view.now))) }
 {
+    if view.is_null() {
+        return add_entry(alloc, &mut parts.entries, at, name);
+    }
     match items_in(view) {
         Some(items) => {
-            let entry = name_of(alloc, name)?;
-            parts.entries.push(Entry { at, name: entry })?;
+            add_entry(alloc, &mut parts.entries, at, name)?;
             add_peers(alloc, &mut parts.listings, at, name, items)
         }
         None => Err(no_view(alloc, at, name)),
     }
+}
+
+/// Adds an entry without listings.
+fn add_entry(
+    alloc: Global,
+    entries: &mut Vec<Entry>,
+    at: u64,
+    name: &str,
+) -> Result<(), ReadingFault>
+    ensures entry { OnOk result (entries.new.items
+        ≡ entries.old.items ++ record { at = at; name = name.now } ∷ []) }
+    ensures fault { IfErr result (λ fault. fault ≡ out_of_memory) }
+{
+    let entry = name_of(alloc, name)?;
+    entries.push(Entry { at, name: entry })?;
+    Ok(())
 }
 
 /// Adds the listings of an entry.
@@ -121,20 +153,59 @@ fn add_peers(
     name: &str,
     items: &[Value<'_>],
 ) -> Result<(), ReadingFault>
-    ensures listings { OnOk result ((names : List (List ℕ)) × (texts (items_view items.now) ≡ Some names)
+    ensures listings { OnOk result ((names : List (List ℕ)) × (listed (items_view items.now) ≡ Some names)
         × (listings.new.items ≡ listings.old.items ++ listings_of at name.now names)) }
-    ensures fault { IfErr result (FailsAt at name.now (texts (items_view items.now))) }
+    ensures fault { IfErr result (FailsAt at name.now (listed (items_view items.now))) }
 {
     for item in items {
-        match item.as_str() {
-            Some(to) => listings.push(listing_of(alloc, at, name, to)?)?,
-            None => return Err(no_view(alloc, at, name)),
-        }
+        let to = match listed_by(item) {
+            Listed::Nobody => continue,
+            Listed::Peer(to) => to,
+            Listed::NoName => return Err(no_view(alloc, at, name)),
+        };
+        listings.push(listing_of(alloc, at, name, to)?)?;
     }
     Ok(())
 }
 
-/// The fault of an entry whose value is no list of texts.
+/// What an item lists.
+fn listed_by<'a>(item: &Value<'a>) -> Listed<'a>
+    ensures { names_read result ≡ names_in (value_view item.now) }
+{
+    match item {
+        Value::Null => Listed::Nobody,
+        Value::String(text) => Listed::Peer(text),
+        Value::Number(written) => {
+            if is_whole(written) {
+                Listed::Peer(written)
+            } else {
+                Listed::NoName
+            }
+        }
+        Value::Bool(_) | Value::Array(_) | Value::Object(_) => Listed::NoName,
+    }
+}
+
+/// Whether a number, as it is written, has no fraction and no exponent.
+fn is_whole(written: &str) -> bool
+    ensures { result ≡ is_whole written.now }
+{
+    for byte in written.as_bytes() {
+        if ends_whole(*byte) {
+            return false;
+        }
+    }
+    true
+}
+
+/// Whether a byte begins a fraction or an exponent.
+fn ends_whole(byte: u8) -> bool
+    ensures { result ≡ ends_whole byte }
+{
+    byte == b'.' || byte == b'e' || byte == b'E'
+}
+
+/// The fault of an entry whose value is no list of names.
 fn no_view(alloc: Global, entry: u64, name: &str) -> ReadingFault
     ensures { FailsAt entry name.now None result }
 {

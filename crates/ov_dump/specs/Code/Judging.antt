@@ -4,7 +4,7 @@ use Rattle.ov_ids.specs.Members.{Has}
 use Rattle.ov_dump.specs.declared.dump_and_graph_types.Entry.{Entry}
 use Rattle.ov_dump.specs.declared.dump_and_graph_types.Listing.{Listing}
 use Rattle.ov_dump.specs.declared.fault.DumpFault.{DumpFault}
-use Rattle.ov_dump.specs.declared.fault.DumpFault.TheVariants.{NameTwice, ListsItself, EmptyName, OutOfMemory}
+use Rattle.ov_dump.specs.declared.fault.DumpFault.TheVariants.{NameTwice, EmptyName, OutOfMemory}
 
 -- what is wrong with an entry behind these names
 abbrev pub EntryFails : List (List ℕ) → Entry → DumpFault → Type 0
@@ -16,6 +16,4 @@ EntryFails seen e other = ⊥
 -- what is wrong with a listing
 abbrev pub ListingFails : Listing → DumpFault → Type 0
 ListingFails l (EmptyName at) = (at ≡ l.at) × ((l.from ≡ []) ⊎ (l.to ≡ []))
-ListingFails l (ListsItself at name) = (at ≡ l.at) × (name ≡ l.from) × (l.from ≡ l.to) × (l.from ≢ [])
-ListingFails l OutOfMemory = ⊤
 ListingFails l other = ⊥

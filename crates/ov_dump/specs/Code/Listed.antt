@@ -1,8 +1,9 @@
--- What an operator should look at: names that are listed and have no entry, and listings that are not answered.
+-- What an operator should look at: names that are listed and have no entry, listings that are not answered, and names
+-- that list themselves.
 use Rattle.std.specs.Prelude.{◌≡◌, ◌↔◌, ℕ, List, take, slice_get, Some}
 use Rattle.ov_ids.specs.Members.{Has, Ordered, Ascends}
 use Rattle.ov_dump.specs.Names.{ComesBefore}
-use Rattle.ov_dump.specs.Dumps.{ends_of, HasEntry, IsListed}
+use Rattle.ov_dump.specs.Dumps.{ends_of, HasEntry, IsListed, Lists}
 use Rattle.ov_dump.specs.declared.dump_and_graph_types.Dump.{Dump}
 use Rattle.ov_dump.specs.declared.dump_and_graph_types.Listing.{Listing}
 
@@ -22,6 +23,11 @@ IsUnanswered listings p = (l : Listing) × (slice_get listings p ≡ Some l)
 pub record AreUnanswered (d : Dump) (places : List ℕ) : Type 0 where
   pub ascend : Ascends places
   pub each : (p : ℕ) → Has places p ↔ IsUnanswered d.listings p
+
+-- names are those that list themselves. They strictly ascend
+pub record ListThemselves (d : Dump) (names : List (List ℕ)) : Type 0 where
+  pub ascend : Ordered ComesBefore names
+  pub each : (n : List ℕ) → Has names n ↔ Lists d n n
 
 -- names are those that one of these listings lists, but for those in `entries`
 pub record Missing (listings : List Listing) (entries names : List (List ℕ)) : Type 0 where

@@ -8,6 +8,8 @@ use Rattle.ov_dump.specs.declared.dump_and_graph_types.Entry.{Entry}
 use Rattle.ov_dump.specs.EdgeLines.{IsBlankLine, IsEdge, IsReadable, IsWhy, before_mark, is_blank, is_name_byte}
 use Rattle.ov_dump.specs.Views.{LacksView, SayDump}
 use Rattle.ov_dump.specs.declared.edge_line.EdgeLine.{EdgeLine}
+use Rattle.ov_dump.specs.declared.views_reading.Listed.{Listed}
+use Rattle.ov_dump.specs.declared.views_reading.Listed.TheVariants.{Nobody, Peer, NoName}
 use Rattle.ov_dump.specs.declared.edge_line.EdgeLine.TheVariants.{Blank, Edge, Unread}
 use Rattle.ov_dump.specs.declared.reading_fault.ReadingFault.{ReadingFault}
 use Rattle.ov_dump.specs.declared.reading_fault.ReadingFault.TheVariants.{NotViews, NoView, UnreadLine}
@@ -25,13 +27,19 @@ abbrev pub as_members : Json → Option Members
 as_members (object ms) = Some ms
 as_members other = None
 
--- the entry of this number and name is no list of texts
+-- the names that an item lists, as they were read
+abbrev pub names_read : Listed → Option (List (List ℕ))
+names_read Nobody = Some []
+names_read (Peer name) = Some (name.now ∷ [])
+names_read NoName = None
+
+-- the entry of this number and name is no list of names
 abbrev pub FailsAt : ℕ → List ℕ → Option (List (List ℕ)) → ReadingFault → Type 0
 FailsAt at name said (NoView entry wrong) = (entry ≡ at) × (wrong ≡ name) × (said ≡ None)
 FailsAt at name said OutOfMemory = ⊤
 FailsAt at name said other = ⊥
 
--- one of these members is no list of texts
+-- one of these members is no list of names
 abbrev pub FailsFrom : ℕ → Members → ReadingFault → Type 0
 FailsFrom at ms (NoView entry wrong) = LacksView at ms entry wrong
 FailsFrom at ms OutOfMemory = ⊤

@@ -17,6 +17,6 @@ returns-clause-graph c =
     let same = sym c.deref.ensures.value in
     subst (λ (ns : List (List ℕ)). IsGraphOf choice d g ns) (c.deref.ensures.value ∙ sym c.new-names.ensures)
     (follows_dump choice d g names c.as_slice-listings.result.now c.as_slice-listings.ensures
-    c.in_ok-judge.ensures.sound.1 (subst (Ordered ComesBefore) same taken.ascend)
+    (subst (Ordered ComesBefore) same taken.ascend)
     (subst (λ (ns : List (List ℕ)). (n : List ℕ) → Has ns n ↔ IsTaken choice d n) same taken.taken)
     made.graph made.nodes made.either made.both)

@@ -1,8 +1,6 @@
 -- One listing more, and all.
-use Rattle.std.proofs.Common.{◌∙◌, ◌↔◌, ◌++◌, ◌∷◌, [], ℕ, List, take, take_all, ap, sym, subst}
+use Rattle.std.proofs.Common.{◌≢◌, ◌∙◌, ◌↔◌, ◌++◌, ◌∷◌, [], ℕ, List, take, take_all, ap, sym, subst}
 use Rattle.std.proofs.lemmas.List.{take_more}
-use Rattle.ov_ids.specs.Members.{Has}
-use Rattle.ov_ids.proofs.Members.{has_place}
 use Rattle.ov_dump.specs.Code.Numbering.{Follows, NodeLists}
 use Rattle.ov_dump.specs.declared.dump_and_graph_types.Listing.{Listing}
 use Rattle.ov_dump.proofs.Linking.{FollowsSoFar, follows_begun, follows_more}
@@ -11,14 +9,6 @@ use Rattle.ov_dump.proofs.listing_graphs.listing_graphs.Goals as goal
 pub loop-listing-init : goal.loop-listing-init
 loop-listing-init c =
     follows_begun c.args.names.now c.in_ok-up.up c.in_ok-down.down c.in_ok-up.ensures.graph c.in_ok-down.ensures.graph
-
-pub add_listing-requires-clause-sound : goal.add_listing-requires-clause-sound
-add_listing-requires-clause-sound c =
-    let listings = c.args.listings.now in
-    let l = c.listing-item.result in
-    c.requires.sound l
-    (subst (Has listings) (sym c.listing-item.is)
-    (has_place listings c.loop-listing.listing-index l c.loop-listing-test.true))
 
 pub loop-listing-preserved : goal.loop-listing-preserved
 loop-listing-preserved c =
@@ -37,5 +27,5 @@ pub returns-clause-lists : goal.returns-clause-lists
 returns-clause-lists c =
     let s = c.loop-listing in
     let all = take_all s.listing-index c.args.listings.now c.loop-listing-test.false in
-    subst (λ (ls : List Listing). (i j : ℕ) → Follows s.up s.down i j ↔ NodeLists c.args.names.now ls i j) all
+    subst (λ (ls : List Listing). (i j : ℕ) → i ≢ j → (Follows s.up s.down i j ↔ NodeLists c.args.names.now ls i j)) all
     s.invariant.lists
