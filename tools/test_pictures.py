@@ -3,8 +3,8 @@
 
 TAGZIRK_OVERLAY names the program overlay. What a picture shows is held against a reading of the certificate that is
 written here: which class each node and each link has, which path goes along which link, what nodes are called, and
-which components the crash leaves, which networkx walks through. Where things stand is looked at only roughly. The pictures of docs/ are made again, and compared; with --write they
-are written.
+which components the crash leaves, which networkx walks through. Where things stand is looked at only roughly. The
+pictures of docs/ are made again, and compared; with --write they are written.
 """
 
 import json
@@ -279,12 +279,13 @@ class Pictures(unittest.TestCase):
             self.assertEqual(len(set(ground.values())), COLOURED + 1)
         items = [(text, [it for it in kinds if it in picture.grounds[0]]) for text, kinds in picture.legend]
         self.assertEqual([(text, *kinds) for text, kinds in items if kinds], components.legend(said))
-        counts = {"in the cut": len(said.get("cut", [])), "nodes": len(said["nodes"]) - len(components.numbers)}
-        plain = [(text, kinds) for text, kinds in items if not kinds and "not in the group" not in text]
-        shapes = ["nodes"] if said["verdict"] == "linked" else ["near", *["in the cut"][:len(said["cut"])], "far"]
-        self.assertEqual([text for text, _ in plain], [f"{counts[it]} {it}" if it in counts else it for it in shapes])
+        plain = [text for text, kinds in items if not kinds and "not in the group" not in text]
+        if said["verdict"] == "linked":
+            self.assertEqual(plain, [counted(len(said["nodes"]), "node")])
+        else:
+            self.assertEqual(plain, ["near", *([f"{len(said['cut'])} in the cut"] if said["cut"] else []), "far"])
         end = end_of(said, names)
-        wanted = [*components.told(said), *[f"All names end in {end}"][:len(end)]]
+        wanted = [*components.told(said), *([f"All names end in {end}"] if end else [])]
         begins = ("The crash leaves", "Without any crash", "All names")
         self.assertEqual([it for it in picture.told if it.startswith(begins)], wanted)
 
@@ -390,13 +391,15 @@ class Pictures(unittest.TestCase):
                     "from node abcdefghijklmnopqrstuvwx")
         self.assertEqual(picture.top.find(f"{SVG}title").text, sentence)
         text = picture_with_names(certificate, graph, "--dot")
-        self.assertIn(f'label="{sentence}"', text.replace("\\n", " "))
+        told = "The crash leaves 2 components, of sizes 1 and 6"
+        self.assertIn(f'label="{sentence} {told}"', text.replace("\\n", " "))
         self.assertIn('label="cassandra-production-eu-west-1a"', text)
 
     def test_components(self):
-        """Of one to nine components round a hub, some of them of one node, each is told and coloured."""
-        for sizes in (3, 2), (1, 1), (2, 5, 3), (4, 1, 3, 2), (2, 2, 2, 2, 2), (6, 5, 4, 3, 2, 1), (1,) * 7, (5, 4, 3, 3,
-                     2, 2, 1, 1, 1), (90, 120, 60, 30, 1):
+        """Of two to nine components round a hub, some of them of one node, each is told and coloured."""
+        cases = ["3 2", "1 1", "2 5 3", "4 1 3 2", "2 2 2 2 2", "6 5 4 3 2 1", "1 1 1 1 1 1 1", "5 4 3 3 2 2 1 1 1",
+                 "90 120 60 30 1"]
+        for sizes in (list(map(int, case.split())) for case in cases):
             with self.subTest(sizes=sizes):
                 graph = round_a_hub(sizes)
                 certificate = certificate_of(graph)
@@ -438,7 +441,8 @@ class Pictures(unittest.TestCase):
                 said, called = json.loads(certificate), names_in(graph)
                 self.assertEqual(end_of(said, called), end)
                 picture = Picture(picture_with_names(certificate, graph))
-                self.assertEqual([it for it in picture.told if it.startswith("All")], [f"All names end in {end}"][:len(end)])
+                told = [it for it in picture.told if it.startswith("All")]
+                self.assertEqual(told, [f"All names end in {end}"] if end else [])
                 if all(letters(name.removesuffix(end)) <= 24 for name in names):
                     self.assertEqual(sorted(picture.labels), sorted(name.removesuffix(end) for name in names))
                 self.assertEqual(sorted(name for _, _, name in picture.shapes.values()), sorted(names))
@@ -467,10 +471,11 @@ class Pictures(unittest.TestCase):
                 self.assertLess(len(line.text) * wide, float(picture.top.get("width")))
 
     def test_kept_examples(self):
-        for name, dot in ("picture", False), ("picture-dot", True):
-            text, graph = (DUMPS / f"{name}.out").read_text(), (DUMPS / "import-entries.out").read_text()
-            said = json.loads((DUMPS / "certificate.json").read_text())
-            (self.judge_dot if dot else self.judge)(text, said, names_in(graph))
+        for of, certificate, names in (("", "certificate.json", "import-entries.out"),
+                                       ("-of-seven-components", "seven-parts.json", "seven-parts.graph")):
+            said, names = json.loads((DUMPS / certificate).read_text()), names_in((DUMPS / names).read_text())
+            self.judge((DUMPS / f"picture{of}.out").read_text(), said, names)
+            self.judge_dot((DUMPS / f"picture-dot{of}.out").read_text(), said, names)
 
     def test_signs(self):
         said = {"verdict": "linked", "nodes": [1, 2], "links": [[1, 2]]}
