@@ -16,10 +16,10 @@ use std::alloc::{AllocError, Global};
 use std::fmt::Write;
 
 /// A drawing in DOT, the language of Graphviz: each node by its id with its class, the number of its component, its
-/// label and a colour, each link with its class, and with the number of the path that goes along it, from 1. A node that is no member of the group is
-/// hollow, and has the class `no-member` too. The places (`pos`) are those of the picture as SVG, for `neato -n`.
-/// `names` are the labels of the nodes, in their order; a node without one is labelled by its id. OutOfMemory (99): an
-/// allocation was refused.
+/// label and a colour, each link with its class, and with the number of the path that goes along it, from 1. A node
+/// that is no member of the group is hollow, and has the class `no-member` too. The places (`pos`) are those of the
+/// picture as SVG, for `neato -n`. `names` are the labels of the nodes, in their order; a node without one is labelled
+/// by its id. OutOfMemory (99): an allocation was refused.
 pub fn dot(alloc: Global, drawing: &Drawing, names: &[Option<&str>]) -> Result<String, OutOfMemory>
     ensures ends { IfOk result (λ text. (before : List ℕ) × (string_bytes text ≡ before ++ codes "}\n")) }
 {

@@ -16,10 +16,10 @@ use std::alloc::{AllocError, Global};
 use std::fmt::Write;
 
 /// A drawing as SVG: the near side to the left, the cut in the middle, the other survivors to the right; or all nodes
-/// on a ring, if the certificate is linked. Each component that the crash leaves has a colour, with its links, up to six
-/// of them, and so have the paths. A node that is no member of the group is hollow. `names` are the labels of the nodes,
-/// in their order; a node without one is labelled by its id. The picture is light, or dark where the reader prefers it,
-/// and has no scripts. OutOfMemory (99): an allocation was refused.
+/// on a ring, if the certificate is linked. Each component that the crash leaves has a colour, with its links, up to
+/// six of them, and so have the paths. A node that is no member of the group is hollow. `names` are the labels of the
+/// nodes, in their order; a node without one is labelled by its id. The picture is light, or dark where the reader
+/// prefers it, and has no scripts. OutOfMemory (99): an allocation was refused.
 pub fn svg(alloc: Global, drawing: &Drawing, names: &[Option<&str>]) -> Result<String, OutOfMemory>
     ensures ends { IfOk result (λ text. (before : List ℕ) × (string_bytes text ≡ before ++ codes "</svg>\n")) }
 {
