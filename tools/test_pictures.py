@@ -2,9 +2,9 @@
 """test_pictures.py [--write]: tests of `overlay picture`, and of the pictures that docs/ keeps.
 
 TAGZIRK_OVERLAY names the program overlay. What a picture shows is held against a reading of the certificate that is
-written here: which class each node and each link has, which path goes along which link, and what nodes are called.
-Where things stand is looked at only roughly. The pictures of docs/ are made again, and compared; with --write they
-are written.
+written here: which class each node and each link has, which path goes along which link, what nodes are called, and
+which components the crash leaves, which networkx walks through. Where things stand is looked at only roughly. The
+pictures of docs/ are made again, and compared; with --write they are written.
 """
 
 import json
@@ -19,13 +19,24 @@ import tempfile
 import unittest
 import xml.etree.ElementTree as xml
 
+try:
+    import networkx
+except ImportError:
+    networkx = None
+
 ROOT = pathlib.Path(__file__).resolve().parent.parent
 DOCS, DUMPS = ROOT / "docs", ROOT / "examples" / "dumps"
 OVERLAY = os.environ.get("TAGZIRK_OVERLAY")
 SVG = "{http://www.w3.org/2000/svg}"
 TIP = re.compile(r"node (\d+) \(([a-z-]+)(, no member)?\): (.*)")
-DOT_NODE = re.compile(r'  (\d+) \[class="([a-z-]+)( no-member)?", .*label="(.*)", pos="[\d.,-]+"\];')
+DOT_NODE = re.compile(r'  (\d+) \[class="([a-z-]+)( no-member)?", (?:component=(\d+), )?fillcolor="(#[0-9a-f]{6})".*'
+                      r'label="(.*)", pos="[\d.,-]+"\];')
 DOT_LINK = re.compile(r'  (\d+) -- (\d+) \[class="([a-z-]+)", color="#[0-9a-f]{6}"(?:, penwidth=3, path=(\d+))?\];')
+RULE = re.compile(r"(?m)^\.nodes \.(c\d)\{fill:(#[0-9a-f]{6})\}$")
+# So many components have colours of their own, and so many sizes are told.
+COLOURED = 6
+# At these letters an end of all names may begin.
+SEPARATORS = ".-_:/"
 # What a link is, by what its ends are.
 BETWEEN = {("far", "far"): "within-far", ("near", "near"): "within-side", ("cut", "cut"): "within-cut",
            ("cut", "near"): "side-to-cut", ("cut", "far"): "cut-to-far", ("unparted", "unparted"): "unparted"}
@@ -87,6 +98,66 @@ def names_in(graph):
     return {int(at): name for at, name in re.findall(r"(?m)^# (\d+) (.*)\nnode \1$", graph)}
 
 
+def end_of(said, names):
+    """What all names end in, and is left out of labels: the longest such end that begins at a separator and is all of
+    no name, if a name is too long that would be a label."""
+    called = [names.get(it, str(it)) for it in said["nodes"]]
+    main = {said.get("near"), said.get("far"), *(said.get("cut", []) if len(said.get("cut", [])) <= 60 else [])}
+    shown = called if len(called) <= 60 else [names.get(it, str(it)) for it in main]
+    if all(letters(name) <= 24 for name in shown):
+        return ""
+    ends = [called[0][at:] for at, letter in enumerate(called[0]) if at and letter in SEPARATORS]
+    return next((end for end in ends if all(it.endswith(end) and it != end for it in called)), "")
+
+
+def letters(name):
+    """How many letters wide a name is."""
+    return sum(1 if it.isascii() else 2 for it in name)
+
+
+class Components:
+    """The connected components that the crash of a certificate's cut leaves, each a set of nodes: by their numbers,
+    which count from 1 in the order of the lowest ids, and in the order of their ranks."""
+
+    def __init__(self, said):
+        graph = networkx.Graph(map(tuple, said["links"]))
+        graph.add_nodes_from(said["nodes"])
+        graph.remove_nodes_from(said.get("cut", []))
+        found = [] if said["verdict"] == "linked" else sorted(networkx.connected_components(graph), key=min)
+        self.numbers = {node: number for number, part in enumerate(found, 1) for node in part}
+        self.ranked = sorted(found, key=lambda it: (said["near"] not in it, said["far"] not in it, -len(it), min(it)))
+        self.colours = {node: f"c{min(rank, COLOURED)}" for rank, part in enumerate(self.ranked) for node in part}
+
+    def told(self, said):
+        """The line of the heading that tells them, if there is one."""
+        if not self.ranked:
+            return []
+        sizes = [str(len(part)) for part in self.ranked]
+        more = f" and {len(sizes) - COLOURED} more" if len(sizes) > COLOURED else ""
+        listed = ", ".join(sizes[:COLOURED]) + more
+        if not more:
+            listed = " and ".join(filter(None, [", ".join(sizes[:-1]), sizes[-1]]))
+        begin = "The crash leaves" if said["cut"] else "Without any crash there are"
+        return [f"{begin} {len(sizes)} components, of sizes {listed}"]
+
+    def legend(self, said):
+        """What the legend says of each of the first ones, and of all others, with its colour."""
+        whose = {self.numbers[said[it]]: f", {it}'s" for it in ("near", "far")} if self.ranked else {}
+        items = []
+        for rank, part in enumerate(self.ranked[:COLOURED]):
+            number = self.numbers[min(part)]
+            items.append((f"component {number}{whose.get(number, '')}: {counted(len(part), 'node')}", f"c{rank}"))
+        if others := self.ranked[COLOURED:]:
+            nodes = counted(sum(map(len, others)), "node")
+            items.append((f"{counted(len(others), 'further component')}: {nodes}", f"c{COLOURED}"))
+        return items
+
+
+def counted(number, word):
+    """A number with its word."""
+    return f"{number} {word}{'' if number == 1 else 's'}"
+
+
 def sentence_of(said, names):
     """What stands above a picture whose names are short."""
     if said["verdict"] == "linked":
@@ -120,6 +191,11 @@ class Picture:
         first = next((group for group in groups if group.get("class") == "paths"), None)
         self.steps = [] if first is None else list(first)
         self.labels = [it.text for group in groups if group.get("class") == "labels" for it in group]
+        legend = [list(group) for group in groups if group.get("class") == "nodes"][-1]
+        self.legend = [(text.text, sign.get("class").split()) for sign, text in zip(legend[::2], legend[1::2])]
+        style, described = self.top.find(f"{SVG}style").text, self.top.find(f"{SVG}desc").text
+        self.grounds = [dict(RULE.findall(part)) for part in style.partition("@media")[::2]]
+        self.told = described.removesuffix(".").split(". ")[1:]
 
     @staticmethod
     def place(shape):
@@ -162,7 +238,7 @@ def near_by(one, other):
     return abs(one[0] - other[0]) < 0.3 and abs(one[1] - other[1]) < 0.3
 
 
-@unittest.skipUnless(OVERLAY, "TAGZIRK_OVERLAY names no program")
+@unittest.skipUnless(OVERLAY and networkx, "TAGZIRK_OVERLAY names no program, or there is no networkx")
 class Pictures(unittest.TestCase):
     def judge_nodes(self, picture, said, names):
         """Each node has one shape, of its class, with its name, within the picture; only members are not hollow."""
@@ -191,12 +267,37 @@ class Pictures(unittest.TestCase):
         self.assertLess(max(parts["near"]), min(parts["cut"] + parts["far"]))
         self.assertLess(max(parts["near"] + parts["cut"]), min(parts["far"]))
 
+    def judge_components(self, picture, said, names):
+        """Each node has the colour of its component, and the heading and the legend say how large these are."""
+        components = Components(said)
+        coloured = {node: [it for it in shape.get("class").split() if it in picture.grounds[0]]
+                    for node, (shape, _, _) in picture.shapes.items()}
+        wanted = {node: [components.colours[node]] if node in components.colours else [] for node in said["nodes"]}
+        self.assertEqual(coloured, wanted)
+        for ground in picture.grounds:
+            self.assertEqual(list(ground), [f"c{at}" for at in range(COLOURED + 1)])
+            self.assertEqual(len(set(ground.values())), COLOURED + 1)
+        items = [(text, [it for it in kinds if it in picture.grounds[0]]) for text, kinds in picture.legend]
+        self.assertEqual([(text, *kinds) for text, kinds in items if kinds], components.legend(said))
+        plain = [text for text, kinds in items if not kinds and "not in the group" not in text]
+        if said["verdict"] == "linked":
+            self.assertEqual(plain, [counted(len(said["nodes"]), "node")])
+        else:
+            self.assertEqual(plain, ["near", *([f"{len(said['cut'])} in the cut"] if said["cut"] else []), "far"])
+        end = end_of(said, names)
+        wanted = [*components.told(said), *([f"All names end in {end}"] if end else [])]
+        begins = ("The crash leaves", "Without any crash", "All names")
+        self.assertEqual([it for it in picture.told if it.startswith(begins)], wanted)
+
     def judge_links(self, picture, said, paths):
-        """Each link has one line, of its class or of its path, from node to node."""
-        classes, steps = classes_of(said), steps_of(paths)
+        """Each link has one line, of its class or of its path, from node to node; a link between two survivors has the
+        colour of their component."""
+        classes, steps, colours = classes_of(said), steps_of(paths), Components(said).colours
         plain = [link for link in said["links"] if tuple(link) not in steps]
         wanted = sorted((class_of_link(classes, a, b), a, b) for a, b in plain)
-        self.assertEqual(sorted(line.get("class") for line in picture.links), [it[0] for it in wanted])
+        wanted = [(f"{kind} {colours[a]}" if kind in ("within-side", "within-far") else kind, a, b)
+                  for kind, a, b in wanted]
+        self.assertEqual(sorted(line.get("class") for line in picture.links), sorted(it[0] for it in wanted))
         lines = [(line.get("class"), picture.ends(line)) for line in picture.links]
         lines += [(line.get("class"), picture.ends(line)) for line in picture.steps]
         wanted += [(f"p{(number - 1) % 12}", a, b) for (a, b), number in steps.items()]
@@ -209,19 +310,30 @@ class Pictures(unittest.TestCase):
     def judge(self, text, said, names=None, paths=()):
         """A picture as SVG shows the certificate."""
         picture, names = Picture(text), names or {}
-        self.assertEqual(picture.top.find(f"{SVG}title").text, sentence_of(said, names))
+        end = end_of(said, names)
+        short = {node: name.removesuffix(end) for node, name in names.items()}
+        self.assertEqual(picture.top.find(f"{SVG}title").text, sentence_of(said, short))
         self.judge_nodes(picture, said, names)
+        self.judge_components(picture, said, names)
         self.judge_sides(picture, said)
         self.judge_links(picture, said, paths)
-        if len(said["nodes"]) <= 60 and not any(len(name) > 24 for name in names.values()):
-            self.assertEqual(sorted(picture.labels), sorted(names.get(it, str(it)) for it in said["nodes"]))
+        if len(said["nodes"]) <= 60 and not any(len(name) > 24 for name in short.values()):
+            self.assertEqual(sorted(picture.labels), sorted(short.get(it, str(it)) for it in said["nodes"]))
         self.assertNotIn("script", text)
 
     def judge_dot(self, text, said, names=None, paths=()):
         """A picture in DOT shows the certificate."""
-        classes, steps, names = classes_of(said), steps_of(paths), names or {}
-        nodes = {int(at): (kind, name) for at, kind, _, name in DOT_NODE.findall(text)}
-        self.assertEqual({int(at) for at, _, outside, _ in DOT_NODE.findall(text) if not outside}, members_of(said))
+        classes, steps, names, components = classes_of(said), steps_of(paths), names or {}, Components(said)
+        found = DOT_NODE.findall(text)
+        nodes = {int(at): (kind, name) for at, kind, _, _, _, name in found}
+        self.assertEqual({int(it[0]) for it in found if not it[2]}, members_of(said))
+        self.assertEqual({int(it[0]): int(it[3]) for it in found if it[3]}, components.numbers)
+        fills = {(components.colours[int(it[0])], it[4]) for it in found if it[1].endswith("-side") and not it[2]}
+        self.assertEqual(len(fills), len({colour for colour, _ in fills}))
+        self.assertEqual(len(fills), len({fill for _, fill in fills}))
+        heading = text.splitlines()[1]
+        for line in components.told(said):
+            self.assertIn(f"\\n{line}", heading)
         self.assertEqual(nodes, {it: (classes[it], names.get(it, str(it))) for it in said["nodes"]})
         links = [(int(a), int(b), kind, int(path or 0)) for a, b, kind, path in DOT_LINK.findall(text)]
         self.assertEqual(links, [(a, b, class_of_link(classes, a, b), steps.get((a, b), 0)) for a, b in said["links"]])
@@ -279,8 +391,72 @@ class Pictures(unittest.TestCase):
                     "from node abcdefghijklmnopqrstuvwx")
         self.assertEqual(picture.top.find(f"{SVG}title").text, sentence)
         text = picture_with_names(certificate, graph, "--dot")
-        self.assertIn(f'label="{sentence}"', text.replace("\\n", " "))
+        told = "The crash leaves 2 components, of sizes 1 and 6"
+        self.assertIn(f'label="{sentence} {told}"', text.replace("\\n", " "))
         self.assertIn('label="cassandra-production-eu-west-1a"', text)
+
+    def test_components(self):
+        """Of two to nine components round a hub, some of them of one node, each is told and coloured."""
+        cases = ["3 2", "1 1", "2 5 3", "4 1 3 2", "2 2 2 2 2", "6 5 4 3 2 1", "1 1 1 1 1 1 1", "5 4 3 3 2 2 1 1 1",
+                 "90 120 60 30 1"]
+        for sizes in (list(map(int, case.split())) for case in cases):
+            with self.subTest(sizes=sizes):
+                graph = round_a_hub(sizes)
+                certificate = certificate_of(graph)
+                said, names = json.loads(certificate), names_in(graph)
+                self.assertEqual((said["k"], sorted(map(len, Components(said).ranked))), (1, sorted(sizes)))
+                self.judge(picture_with_names(certificate, graph), said, names)
+                self.judge_dot(picture_with_names(certificate, graph, "--dot"), said, names)
+
+    def test_components_without_a_cut(self):
+        graph = graph_of("abcde", ["ab", "cd"])
+        certificate = certificate_of(graph)
+        said, names = json.loads(certificate), names_in(graph)
+        self.judge(picture_with_names(certificate, graph), said, names)
+        self.assertEqual(Components(said).told(said), ["Without any crash there are 3 components, of sizes 2, 2 and 1"])
+
+    def test_the_end_of_all_names(self):
+        """An end that all names share, from a separator on, is left out of labels and told once, if a label is too
+        long; it is all of no name, and whole names stand where one points and in DOT."""
+        cases = [
+            # letters may be shared before the separator, but no word is torn
+            (["cassandra-prod-{}1.eu-west-1a.example.net"], ".eu-west-1a.example.net"),
+            (["{}-0123456789-abcdefghijklm"], "-0123456789-abcdefghijklm"),
+            (["{}:7946/gossip/cluster/of/production"], ":7946/gossip/cluster/of/production"),
+            (["{}_berlin_hall_two_of_the_north"], "_berlin_hall_two_of_the_north"),
+            # the longest is taken that leaves something of each name
+            (["{}.x.example-of-a-long-name.org", "x.example-of-a-long-name.org"], ".example-of-a-long-name.org"),
+            (["{}.example-of-a-long-name.org", ".example-of-a-long-name.org"], "-of-a-long-name.org"),
+            # no label is too long
+            (["{}.example-of-a-name.org"], ""),
+            # no end is shared
+            (["{}.example-of-a-long-name.org", "{}.example-of-a-long-name.com"], ""),
+            (["host{}withoutaseparatorbutlong"], ""),
+        ]
+        for forms, end in cases:
+            with self.subTest(forms=forms):
+                names = list(dict.fromkeys(form.format(letter) for form in forms for letter in "abc"))
+                graph = graph_of(names, zip(names, names[1:]))
+                certificate = certificate_of(graph)
+                said, called = json.loads(certificate), names_in(graph)
+                self.assertEqual(end_of(said, called), end)
+                picture = Picture(picture_with_names(certificate, graph))
+                told = [it for it in picture.told if it.startswith("All")]
+                self.assertEqual(told, [f"All names end in {end}"] if end else [])
+                if all(letters(name.removesuffix(end)) <= 24 for name in names):
+                    self.assertEqual(sorted(picture.labels), sorted(name.removesuffix(end) for name in names))
+                self.assertEqual(sorted(name for _, _, name in picture.shapes.values()), sorted(names))
+                self.judge_dot(picture_with_names(certificate, graph, "--dot"), said, called)
+
+    def test_a_name_that_is_long_without_its_end(self):
+        """Of such a name eighteen first letters and four last ones are kept, and its id."""
+        sites = ["eu-west-1a", "us-east-2c"]
+        names = [f"cassandra-prod-{at:03}.{site}.example.net" for site in sites for at in range(1, 4)]
+        graph = graph_of(names, zip(names, names[1:]))
+        picture = Picture(picture_with_names(certificate_of(graph), graph))
+        wanted = [f"cassandra-prod-{at:03}…{site[-4:]} ({2 * at - 1 + sites.index(site)})"
+                  for site in sites for at in range(1, 4)]
+        self.assertEqual(sorted(picture.labels), sorted(wanted))
 
     def test_long_names_make_no_picture_wider(self):
         """No line has more than 90 letters, and each has room in the picture."""
@@ -295,10 +471,11 @@ class Pictures(unittest.TestCase):
                 self.assertLess(len(line.text) * wide, float(picture.top.get("width")))
 
     def test_kept_examples(self):
-        for name, dot in ("picture", False), ("picture-dot", True):
-            text, graph = (DUMPS / f"{name}.out").read_text(), (DUMPS / "import-entries.out").read_text()
-            said = json.loads((DUMPS / "certificate.json").read_text())
-            (self.judge_dot if dot else self.judge)(text, said, names_in(graph))
+        for of, certificate, names in (("", "certificate.json", "import-entries.out"),
+                                       ("-of-seven-components", "seven-parts.json", "seven-parts.graph")):
+            said, names = json.loads((DUMPS / certificate).read_text()), names_in((DUMPS / names).read_text())
+            self.judge((DUMPS / f"picture{of}.out").read_text(), said, names)
+            self.judge_dot((DUMPS / f"picture-dot{of}.out").read_text(), said, names)
 
     def test_signs(self):
         said = {"verdict": "linked", "nodes": [1, 2], "links": [[1, 2]]}
@@ -352,6 +529,24 @@ def two_halls():
     links = [(gate, hosts[(7 + 29 * at + 11 * step) % len(hosts)])
              for at, gate in enumerate(gates) for hosts in (one, other) for step in range(5)]
     return graph_of([*one, *other, *gates], [*of_one, *of_other, *links])
+
+
+def round_a_hub(sizes):
+    """The graph file of parts of these sizes, each of nodes that are linked in a row and to the first one, which is
+    linked to a hub. Names have an end in common, and those of a part do not follow each other."""
+    parts, links = [[] for _ in sizes], []
+    left, at = list(sizes), 0
+    while any(left):
+        for part, more in enumerate(left):
+            if more:
+                at += 1
+                parts[part].append(f"worker-{at:03}.rack-4.hall-2.example.net")
+        left = [max(more - 1, 0) for more in left]
+    hub = "hub-1.rack-4.hall-2.example.net"
+    for part in parts:
+        links += [(hub, name) for name in part[:3]]
+        links += zip(part, part[1:])
+    return graph_of([hub, *(name for part in parts for name in part)], links)
 
 
 def two_rings(count, seed):

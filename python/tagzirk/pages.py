@@ -6,7 +6,6 @@ import base64
 import datetime
 import html
 import os
-import re
 from string import Template
 from typing import Any, Dict, Iterable, List, Optional, Tuple
 
@@ -25,18 +24,17 @@ MOST_BYTES = 16_000_000
 # So many names stand in a line; the rest opens below.
 MOST_NAMES, MOST_CUT_OFF = 24, 8
 MOST_WEAK = 10
-# The colours of pieces, on light and on dark ground: of that of near, as `overlay picture` has it; of the largest other
-# one; of further ones; and grey for all that are left.
+# The colours of pieces, on light and on dark ground, as `overlay picture` has them: of near's, of that of far, of the
+# others from the largest on; and grey for all that are left.
 COLOURS = (
     ("#2b8fcb", "#56b4e9"),
-    ("#17a67c", "#3ddbb0"),
-    ("#b8408a", "#f29acb"),
-    ("#c98a00", "#ffc84a"),
-    ("#332288", "#a99bff"),
-    ("#8a8a1a", "#dede6a"),
-    ("#5b6770", "#98a4ae"),
+    ("#227256", "#c8f1e6"),
+    ("#8f146a", "#b62e6b"),
+    ("#544505", "#fbefae"),
+    ("#4b17f4", "#9339ec"),
+    ("#380c0c", "#e11a14"),
+    ("#8a949c", "#8b969e"),
 )
-FAR_NODE = re.compile(r'<circle class="(far|far-side)"([^>]*><title>node (\d+) )')
 
 PAGE = Template(
     """<!DOCTYPE html>
@@ -204,27 +202,18 @@ def wider_of(wide: Optional[Wide[str]], report: Report[str]) -> str:
 
 def colours_of(report: Report[str], pieces: List[List[int]]) -> Dict[int, int]:
     """Which colour each host has that survives: by the piece that it is in."""
-    near = {report.ids[it] for it in report.side}
-    others = sorted((piece for piece in pieces if near.isdisjoint(piece)), key=len, reverse=True)
-    return {host: min(at, len(COLOURS) - 1) for at, piece in enumerate([near, *others]) for host in piece}
+    near, far = ({report.ids[it] for it in told} for told in (report.side, [] if report.far is None else [report.far]))
+    others = (piece for piece in pieces if near.isdisjoint(piece))
+    ranked = [near, *sorted(others, key=lambda it: (far.isdisjoint(it), -len(it), min(it)))]
+    return {host: min(at, len(COLOURS) - 1) for at, piece in enumerate(ranked) for host in piece}
 
 
 def colour_rules() -> str:
-    """What CSS has of the colours of pieces, in the table and in the picture."""
+    """What CSS has of the colours of pieces in the table."""
     light, dark = (
         "".join(f".t-piece-{at}{{--piece:{it[which]}}}" for at, it in enumerate(COLOURS)) for which in (0, 1)
     )
-    drawn = "".join(f"svg .nodes .t-piece-{at}{{fill:var(--piece)}}" for at in range(2, len(COLOURS)))
-    return f"{light}\n@media (prefers-color-scheme:dark){{{dark}}}\n{drawn}\n"
-
-
-def coloured(picture: str, colours: Dict[int, int]) -> str:
-    """The picture, in which each piece on the far side has a colour of its own."""
-
-    def circle(found: "re.Match[str]") -> str:
-        return f'<circle class="{found[1]} t-piece-{colours[int(found[3])]}"{found[2]}'
-
-    return FAR_NODE.sub(circle, picture)
+    return f"{light}\n@media (prefers-color-scheme:dark){{{dark}}}\n"
 
 
 def pieces_of(report: Report[str], graph: NamedGraph[str], pieces: List[List[int]]) -> str:
@@ -349,7 +338,7 @@ def page(
         + (f'<p class="t-soft">All names end in {shown_html(ending)}, which is left out here.</p>' if ending else ""),
         facts=facts_of(report, graph, dump),
         colours=colour_rules(),
-        picture=coloured(report.picture(overlay=overlay), colours_of(report, pieces)),
+        picture=report.picture(overlay=overlay),
         pieces_title="All survivors are joined"
         if len(pieces) < 2
         else f"{len(pieces)} pieces after the crash"

@@ -1,7 +1,8 @@
 use crate::Drawing;
+use crate::components::Components;
 use crate::labels::{Labels, letters_of};
 use crate::node_position::number;
-use crate::sentences::{counts_of, members_of, paths_of, sentence_of};
+use crate::sentences::{components_of, counts_of, members_of, paths_of, sentence_of};
 use std::alloc::{AllocError, Global};
 use std::mem;
 
@@ -34,7 +35,7 @@ const LEAST: f64 = 112.0;
 pub(crate) struct Heading {
     /// What the picture shows, in one sentence.
     pub(crate) sentence: String,
-    /// What is counted, who is a member, and what the paths are.
+    /// What is counted, what the crash leaves, who is a member, what the paths are, and what all names end in.
     pub(crate) told: Vec<String>,
     /// The sentence in lines.
     pub(crate) large: Vec<String>,
@@ -47,6 +48,7 @@ impl Heading {
     pub(crate) fn new(
         alloc: Global,
         drawing: &Drawing,
+        components: &Components,
         labels: &Labels,
         width: f64,
     ) -> Result<Heading, AllocError> {
@@ -55,7 +57,7 @@ impl Heading {
         let sentence = sentence_of(alloc, drawing, labels)?;
         let mut large = Vec::new(alloc);
         push_broken(alloc, &mut large, sentence.as_str(), room / of_large)?;
-        let told = told_of(alloc, drawing, labels)?;
+        let told = told_of(alloc, drawing, components, labels)?;
         let small = small_lines(alloc, &told, room / of_small)?;
         Ok(Heading {
             sentence,
@@ -77,21 +79,36 @@ impl Heading {
     }
 }
 
-/// What is counted in a drawing, who is a member unless all nodes are, and what the paths are if there are any.
-fn told_of(alloc: Global, drawing: &Drawing, labels: &Labels) -> Result<Vec<String>, AllocError> {
-    let mut told = Vec::with_capacity(alloc, 3)?;
+/// What is counted in a drawing, and what else is told of it, as far as there is something to tell.
+fn told_of(
+    alloc: Global,
+    drawing: &Drawing,
+    components: &Components,
+    labels: &Labels,
+) -> Result<Vec<String>, AllocError> {
+    let mut told = Vec::with_capacity(alloc, 5)?;
     told.push(counts_of(alloc, drawing)?)?;
-    if let Some(members) = members_of(alloc, drawing)? {
-        told.push(members)?;
-    }
-    if let Some(paths) = paths_of(alloc, drawing, labels)? {
-        told.push(paths)?;
-    }
+    push_some(&mut told, components_of(alloc, drawing, components)?)?;
+    push_some(&mut told, members_of(alloc, drawing)?)?;
+    push_some(&mut told, paths_of(alloc, drawing, labels)?)?;
+    push_some(&mut told, labels.end_told(alloc)?)?;
     Ok(told)
 }
 
+/// Appends a text if there is one.
+pub(crate) fn push_some(texts: &mut Vec<String>, text: Option<String>) -> Result<(), AllocError> {
+    if let Some(text) = text {
+        texts.push(text)?;
+    }
+    Ok(())
+}
+
 /// These texts in lines of so many letters at most, each from a new line on.
-fn small_lines(alloc: Global, told: &[String], most: f64) -> Result<Vec<String>, AllocError> {
+pub(crate) fn small_lines(
+    alloc: Global,
+    told: &[String],
+    most: f64,
+) -> Result<Vec<String>, AllocError> {
     let mut lines = Vec::new(alloc);
     for text in told {
         push_broken(alloc, &mut lines, text.as_str(), most)?;
@@ -100,7 +117,7 @@ fn small_lines(alloc: Global, told: &[String], most: f64) -> Result<Vec<String>,
 }
 
 /// Appends a text in lines of so many letters at most. A longer word has a line of its own.
-pub(crate) fn push_broken(
+fn push_broken(
     alloc: Global,
     lines: &mut Vec<String>,
     text: &str,

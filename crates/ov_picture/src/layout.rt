@@ -1,4 +1,5 @@
 use crate::Drawing;
+use crate::components::Components;
 use crate::labels::Labels;
 use crate::node_columns::Columns;
 use crate::node_position::{LEFT, Place, RIGHT, UP};
@@ -120,10 +121,11 @@ impl Plan {
     pub(crate) fn new(
         alloc: Global,
         drawing: &Drawing,
+        components: &Components,
         labels: &Labels,
     ) -> Result<Plan, AllocError> {
         let nodes = drawing.nodes.as_slice().len();
-        let bands = Bands::new(alloc, drawing.nodes.as_slice())?;
+        let bands = Bands::new(alloc, drawing.nodes.as_slice(), components)?;
         let (apart, reach) = sizes_of(nodes, labels);
         let parts = Parts::new(&bands, labels, apart);
         let margin = if labels.are_turned() {

@@ -4,6 +4,8 @@
 
 mod chosen_entry;
 mod class_names;
+mod component_colours;
+mod components;
 mod dot_writing;
 mod drawing;
 mod escaped_texts;

@@ -1,3 +1,4 @@
+use crate::components::Components;
 use crate::{Band, DrawnNode, NodeClass};
 use std::alloc::{AllocError, Global};
 use std::ops::Range;
@@ -7,23 +8,35 @@ use std::ops::Range;
 pub(crate) struct Bands {
     /// All nodes of a linked certificate.
     pub(crate) whole: Vec<usize>,
-    /// The near side, near first.
+    /// The near side, near first, component by component.
     pub(crate) side: Vec<usize>,
     pub(crate) cut: Vec<usize>,
-    /// The other survivors, far first.
+    /// The other survivors, far first, component by component.
     pub(crate) far: Vec<usize>,
 }
 
 impl Bands {
     /// The parts of these nodes.
-    pub(crate) fn new(alloc: Global, nodes: &[DrawnNode]) -> Result<Bands, AllocError> {
-        Ok(Bands {
+    pub(crate) fn new(
+        alloc: Global,
+        nodes: &[DrawnNode],
+        components: &Components,
+    ) -> Result<Bands, AllocError> {
+        let mut bands = Bands {
             whole: members_of(alloc, nodes, Band::Whole, NodeClass::Unparted)?,
             side: members_of(alloc, nodes, Band::Side, NodeClass::Near)?,
             cut: members_of(alloc, nodes, Band::Cut, NodeClass::Cut)?,
             far: members_of(alloc, nodes, Band::Far, NodeClass::Far)?,
-        })
+        };
+        bands.side.sort_by_key(|at| rank_of(components, *at))?;
+        bands.far.sort_by_key(|at| rank_of(components, *at))?;
+        Ok(bands)
     }
+}
+
+/// The rank of the component of the node at a place.
+fn rank_of(components: &Components, at: usize) -> usize {
+    components.of(at).map_or(0, |component| component.rank)
 }
 
 /// The nodes of a part, from the first node of this class on, and then those before it.

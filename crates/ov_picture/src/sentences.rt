@@ -1,3 +1,4 @@
+use crate::components::Components;
 use crate::labels::Labels;
 use crate::{ChosenEntry, Drawing, DrawnNode, NodeClass};
 use ov_ids::NodeId;
@@ -6,6 +7,9 @@ use std::fmt::Write;
 
 /// How many nodes of a cut are named at most.
 const MOST_NAMED: usize = 6;
+
+/// Of how many components the sizes are told at most.
+const MOST_SIZES: usize = 6;
 
 /// From so many bytes of names on no further node of a cut is named.
 const LONG: usize = 60;
@@ -85,6 +89,47 @@ pub(crate) fn counts_of(alloc: Global, drawing: &Drawing) -> Result<String, Allo
         ": fewer crashes separate no two members that survive"
     };
     format!(in alloc; "{nodes} {node_word}, {links} {link_word}, k = {k}{claim}")
+}
+
+/// How many components the crash leaves, and how large they are, unless every two members are linked.
+pub(crate) fn components_of(
+    alloc: Global,
+    drawing: &Drawing,
+    components: &Components,
+) -> Result<Option<String>, AllocError> {
+    let count = components.len();
+    if count == 0 {
+        return Ok(None);
+    }
+    let crash = if count_of(drawing.nodes.as_slice(), NodeClass::Cut) == 0 {
+        "Without any crash there are"
+    } else {
+        "The crash leaves"
+    };
+    let mut text = format!(in alloc; "{crash} {count} components, of sizes ")?;
+    push_sizes(&mut text, components)?;
+    Ok(Some(text))
+}
+
+/// Appends the sizes of components in the order of their ranks.
+fn push_sizes(text: &mut String, components: &Components) -> Result<(), AllocError> {
+    let count = components.len();
+    for rank in 0..count.min(MOST_SIZES) {
+        let before = if rank == 0 {
+            ""
+        } else if rank.saturating_add(1) == count {
+            " and "
+        } else {
+            ", "
+        };
+        let size = components.ranked(rank).map_or(0, |it| it.size);
+        write!(text, "{before}{size}")?;
+    }
+    let others = count.saturating_sub(MOST_SIZES);
+    if others > 0 {
+        write!(text, " and {others} more")?;
+    }
+    Ok(())
 }
 
 /// Who is a member of the group, unless all nodes are.

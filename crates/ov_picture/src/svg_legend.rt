@@ -1,3 +1,5 @@
+use crate::component_colours::{COMPONENT_COLOURS, MOST_COLOURED};
+use crate::components::{Component, Components, Main};
 use crate::layout::Layout;
 use crate::node_position::{Place, RIGHT, number};
 use crate::path_colours::{colour_of, dashes_of};
@@ -12,7 +14,7 @@ use std::fmt::Write;
 const EDGE: f64 = 28.0;
 
 /// How wide an item is that names a class of nodes.
-const ITEM: f64 = 222.0;
+const ITEM: f64 = 244.0;
 
 /// How wide an item is that names a path.
 const PATH_ITEM: f64 = 62.0;
@@ -26,28 +28,25 @@ const REACH: f64 = 6.5;
 /// How many paths are named.
 const MOST_PATHS: usize = 48;
 
-/// The classes of nodes, with what they are called in the legend, of one and of several nodes.
-const CLASSES: [(NodeClass, &str, &str); 6] = [
+/// The classes of nodes that have signs of their own, with what is said of them behind their number.
+const CLASSES: [(NodeClass, &str, &str); 4] = [
     (NodeClass::Near, "near", "near"),
-    (
-        NodeClass::NearSide,
-        "other on the near side",
-        "others on the near side",
-    ),
     (NodeClass::Cut, "in the cut", "in the cut"),
     (NodeClass::Far, "far", "far"),
-    (NodeClass::FarSide, "other survivor", "other survivors"),
     (NodeClass::Unparted, "node", "nodes"),
 ];
 
 /// How high the legend of a drawing is, in a picture of this width.
-pub(crate) fn legend_height(drawing: &Drawing, width: f64) -> f64 {
+pub(crate) fn legend_height(drawing: &Drawing, components: &Components, width: f64) -> f64 {
     let nodes = drawing.nodes.as_slice();
     let classes = CLASSES
         .iter()
         .filter(|(class, _, _)| count_of(nodes, *class) > 0)
         .count();
-    let items = classes.saturating_add(outside(nodes).min(1));
+    let colours = components.len().min(COMPONENT_COLOURS.len());
+    let items = classes
+        .saturating_add(colours)
+        .saturating_add(outside(nodes).min(1));
     let lines = lines_of(items, ITEM, width) + lines_of(named_paths(drawing), PATH_ITEM, width);
     lines * LINE + EDGE
 }
@@ -78,32 +77,111 @@ fn item_place(at: usize, item: f64, width: f64, top: f64) -> Place {
     }
 }
 
-/// Appends what the shapes of nodes mean. Returns where these lines end.
+/// Appends what the shapes and the colours of nodes mean. Returns where these lines end.
 pub(crate) fn push_class_items(
     text: &mut String,
     drawing: &Drawing,
+    components: &Components,
     layout: &Layout,
 ) -> Result<f64, AllocError> {
-    let mut items: usize = 0;
     text.push_str("<g class=\"nodes\">\n")?;
-    for (class, one, several) in CLASSES {
-        let nodes = count_of(drawing.nodes.as_slice(), class);
-        if nodes > 0 {
-            let place = item_place(items, ITEM, layout.width, layout.bottom);
-            let name = if nodes == 1 { one } else { several };
-            push_item(text, sign_of(class, true), place, nodes, name)?;
-            items = items.saturating_add(1);
-        }
-    }
+    let classes = push_shape_items(text, drawing, layout)?;
+    let mut items = push_component_items(text, components, layout, classes)?;
     let others = outside(drawing.nodes.as_slice());
     if others > 0 {
         let place = item_place(items, ITEM, layout.width, layout.bottom);
-        let sign = sign_of(NodeClass::Unparted, false);
-        push_item(text, sign, place, others, "not in the group")?;
+        push_sign(text, sign_of(NodeClass::Unparted, false), None, place)?;
+        write!(text, "{others} not in the group</text>\n")?;
         items = items.saturating_add(1);
     }
     text.push_str("</g>\n")?;
     Ok(layout.bottom + lines_of(items, ITEM, layout.width) * LINE)
+}
+
+/// Appends what the shapes of nodes mean. Returns how many items these are.
+fn push_shape_items(
+    text: &mut String,
+    drawing: &Drawing,
+    layout: &Layout,
+) -> Result<usize, AllocError> {
+    let mut items: usize = 0;
+    for (class, one, several) in CLASSES {
+        let nodes = count_of(drawing.nodes.as_slice(), class);
+        if nodes > 0 {
+            let place = item_place(items, ITEM, layout.width, layout.bottom);
+            push_sign(text, sign_of(class, true), None, place)?;
+            let name = if nodes == 1 { one } else { several };
+            if class == NodeClass::Near || class == NodeClass::Far {
+                write!(text, "{name}</text>\n")?;
+            } else {
+                write!(text, "{nodes} {name}</text>\n")?;
+            }
+            items = items.saturating_add(1);
+        }
+    }
+    Ok(items)
+}
+
+/// Appends an item for each component that has a colour of its own, and one for all further components, behind so many
+/// items. Returns how many items there are then.
+fn push_component_items(
+    text: &mut String,
+    components: &Components,
+    layout: &Layout,
+    before: usize,
+) -> Result<usize, AllocError> {
+    let mut items = before;
+    for rank in 0..COMPONENT_COLOURS.len() {
+        if let Some(component) = components.ranked(rank) {
+            let place = item_place(items, ITEM, layout.width, layout.bottom);
+            let class = if matches!(component.with, Main::Near) {
+                NodeClass::NearSide
+            } else {
+                NodeClass::FarSide
+            };
+            push_sign(text, sign_of(class, true), Some(component), place)?;
+            push_component(text, components, component)?;
+            items = items.saturating_add(1);
+        }
+    }
+    Ok(items)
+}
+
+/// Appends what is said of a component, or of all components from it on that share its colour, and ends their item.
+fn push_component(
+    text: &mut String,
+    components: &Components,
+    component: Component,
+) -> Result<(), AllocError> {
+    let Component {
+        number,
+        size,
+        with,
+        rank,
+    } = component;
+    let others = components.len().saturating_sub(MOST_COLOURED);
+    if rank < MOST_COLOURED {
+        let main = match with {
+            Main::Near => ", near's",
+            Main::Far => ", far's",
+            Main::Neither => "",
+        };
+        write!(text, "component {number}{main}: ")?;
+        return push_nodes(text, size);
+    }
+    let word = if others == 1 {
+        "component"
+    } else {
+        "components"
+    };
+    write!(text, "{others} further {word}: ")?;
+    push_nodes(text, components.nodes_from(MOST_COLOURED))
+}
+
+/// Appends how many nodes there are, and ends an item.
+fn push_nodes(text: &mut String, nodes: usize) -> Result<(), AllocError> {
+    let word = if nodes == 1 { "node" } else { "nodes" };
+    write!(text, "{nodes} {word}</text>\n")
 }
 
 /// Appends what the colours of paths mean, from this height on.
@@ -130,29 +208,22 @@ fn sign_of(class: NodeClass, is_member: bool) -> DrawnNode {
     }
 }
 
-/// Appends a sign, with how many nodes are meant.
-fn push_item(
+/// Appends a sign, in the colour of this component if there is one, and begins the text beside it.
+fn push_sign(
     text: &mut String,
     sign: DrawnNode,
+    component: Option<Component>,
     place: Place,
-    nodes: usize,
-    name: &str,
 ) -> Result<(), AllocError> {
-    let class = sign.class;
-    push_node(text, sign, place, REACH, false)?;
-    text.push_str(if class == NodeClass::Cut {
+    push_node(text, sign, component, place, REACH, false)?;
+    text.push_str(if sign.class == NodeClass::Cut {
         "</rect>"
     } else {
         "</circle>"
     })?;
     let x = place.x + 14.0;
     let y = place.y + 4.5;
-    write!(text, "<text x=\"{x:.1}\" y=\"{y:.1}\">")?;
-    if class == NodeClass::Near || class == NodeClass::Far {
-        write!(text, "{name}</text>\n")
-    } else {
-        write!(text, "{nodes} {name}</text>\n")
-    }
+    write!(text, "<text x=\"{x:.1}\" y=\"{y:.1}\">")
 }
 
 /// Appends a line in the colour of a path, with its number from 1.

@@ -1,4 +1,6 @@
 use crate::class_names::link_class_name;
+use crate::component_colours::colour_class;
+use crate::components::{Component, Components, place_of};
 use crate::layout::{Layout, at};
 use crate::node_position::Place;
 use crate::path_colours::{colour_of, dashes_of};
@@ -35,6 +37,7 @@ pub(crate) enum Layer {
 pub(crate) fn push_plain_links(
     text: &mut String,
     drawing: &Drawing,
+    components: &Components,
     layout: &Layout,
     layer: Layer,
 ) -> Result<(), AllocError> {
@@ -52,10 +55,11 @@ pub(crate) fn push_plain_links(
     for link in links {
         if link.path.is_none() && layer_of(link.class) == layer {
             let class = link_class_name(link.class);
+            let colour = colour_class(component_of(drawing.nodes.as_slice(), components, link));
             let (from, to) = ends_of(drawing.nodes.as_slice(), layout, link);
             let within_cut = link.class == LinkClass::WithinCut;
             let bend = layout.cut.bend(from, to).filter(|_| within_cut);
-            write!(text, "<path class=\"{class}\" d=\"")?;
+            write!(text, "<path class=\"{class}{colour}\" d=\"")?;
             push_line(text, from, to, bend)?;
         }
     }
@@ -120,18 +124,30 @@ fn push_line(
     write!(text, "{x:.1} {y:.1}\"/>\n")
 }
 
+/// The component that a link between two survivors is in.
+pub(crate) fn component_of(
+    nodes: &[DrawnNode],
+    components: &Components,
+    link: &DrawnLink,
+) -> Option<Component> {
+    match link.class {
+        LinkClass::WithinSide | LinkClass::WithinFar => {
+            components.of(place_of(nodes, link.from.0))
+        }
+        _ => None,
+    }
+}
+
 /// Where the ends of a link stand.
 fn ends_of(nodes: &[DrawnNode], layout: &Layout, link: &DrawnLink) -> (Place, Place) {
-    let from = place_of(nodes, layout, link.from.0);
-    (from, place_of(nodes, layout, link.to.0))
+    let from = spot_of(nodes, layout, link.from.0);
+    (from, spot_of(nodes, layout, link.to.0))
 }
 
 /// Where the node with this number stands.
-fn place_of(nodes: &[DrawnNode], layout: &Layout, id: u32) -> Place {
-    let number = nodes
-        .binary_search_by_key(&id, |node| node.id.0)
-        .unwrap_or(0);
-    layout.places.get(number).copied().unwrap_or(at(0.0, 0.0))
+fn spot_of(nodes: &[DrawnNode], layout: &Layout, id: u32) -> Place {
+    let spot = layout.places.get(place_of(nodes, id));
+    spot.copied().unwrap_or(at(0.0, 0.0))
 }
 
 /// How wide so many links are, and how much they hide.

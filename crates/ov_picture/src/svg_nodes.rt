@@ -1,4 +1,6 @@
 use crate::class_names::node_class_name;
+use crate::component_colours::colour_class;
+use crate::components::{Component, Components};
 use crate::escaped_texts::push_xml;
 use crate::labels::Labels;
 use crate::layout::Layout;
@@ -25,6 +27,7 @@ const BASE: f64 = 4.3;
 pub(crate) fn push_shapes(
     text: &mut String,
     drawing: &Drawing,
+    components: &Components,
     layout: &Layout,
     labels: &Labels,
     mattering: bool,
@@ -35,7 +38,8 @@ pub(crate) fn push_shapes(
             && matters(node.class) == mattering
         {
             let chosen = is_end(drawing, node.id);
-            push_node(text, *node, *place, layout.reach, chosen)?;
+            let component = components.of(at);
+            push_node(text, *node, component, *place, layout.reach, chosen)?;
             push_tip(text, *node, name.as_str())?;
         }
     }
@@ -82,12 +86,14 @@ pub(crate) fn reach_of(class: NodeClass, reach: f64) -> f64 {
 pub(crate) fn push_node(
     text: &mut String,
     node: DrawnNode,
+    component: Option<Component>,
     place: Place,
     reach: f64,
     chosen: bool,
 ) -> Result<(), AllocError> {
     let Place { x, y, .. } = place;
     let class = node_class_name(node.class);
+    let colour = colour_class(component);
     let more = match (node.is_member, chosen) {
         (false, _) => " no-member",
         (true, true) => " chosen",
@@ -105,7 +111,7 @@ pub(crate) fn push_node(
     }
     write!(
         text,
-        "<circle class=\"{class}{more}\" cx=\"{x:.1}\" cy=\"{y:.1}\" r=\"{reach:.1}\">"
+        "<circle class=\"{class}{colour}{more}\" cx=\"{x:.1}\" cy=\"{y:.1}\" r=\"{reach:.1}\">"
     )
 }
 

@@ -1,5 +1,6 @@
 ghost use Rattle.std.specs.Prelude.{◌≡◌, ◌++◌, ℕ, List, codes, string_bytes, IfOk};
 
+use crate::components::Components;
 use crate::escaped_texts::push_xml;
 use crate::headings::{EDGE, FIRST, Heading, LINES};
 use crate::labels::Labels;
@@ -15,25 +16,26 @@ use std::alloc::{AllocError, Global};
 use std::fmt::Write;
 
 /// A drawing as SVG: the near side to the left, the cut in the middle, the other survivors to the right; or all nodes
-/// on a ring, if the certificate is linked. Links have the colour of their class, or that of the path that goes along
-/// them. A node that is no member of the group is hollow. `names` are the labels of the nodes, in their order; a node
-/// without one is labelled by its id. The picture is light, or dark where the reader prefers it, and has no scripts.
-/// OutOfMemory (99): an allocation was refused.
+/// on a ring, if the certificate is linked. Each component that the crash leaves has a colour, with its links, up to
+/// six of them, and so have the paths. A node that is no member of the group is hollow. `names` are the labels of the
+/// nodes, in their order; a node without one is labelled by its id. The picture is light, or dark where the reader
+/// prefers it, and has no scripts. OutOfMemory (99): an allocation was refused.
 pub fn svg(alloc: Global, drawing: &Drawing, names: &[Option<&str>]) -> Result<String, OutOfMemory>
     ensures ends { IfOk result (λ text. (before : List ℕ) × (string_bytes text ≡ before ++ codes "</svg>\n")) }
 {
     let labels = Labels::new(alloc, drawing, names)?;
-    let plan = Plan::new(alloc, drawing, &labels)?;
+    let components = Components::new(alloc, drawing)?;
+    let plan = Plan::new(alloc, drawing, &components, &labels)?;
     let mut text = String::new(alloc);
-    let layout = push_head(alloc, &mut text, drawing, &labels, &plan)?;
+    let layout = push_head(alloc, &mut text, drawing, &components, &labels, &plan)?;
     push_parts(&mut text, drawing, &layout)?;
-    push_plain_links(&mut text, drawing, &layout, Layer::Lasting)?;
-    push_plain_links(&mut text, drawing, &layout, Layer::Parting)?;
+    push_plain_links(&mut text, drawing, &components, &layout, Layer::Lasting)?;
+    push_plain_links(&mut text, drawing, &components, &layout, Layer::Parting)?;
     push_path_links(&mut text, drawing, &layout)?;
-    push_shapes(&mut text, drawing, &layout, &labels, false)?;
-    push_shapes(&mut text, drawing, &layout, &labels, true)?;
+    push_shapes(&mut text, drawing, &components, &layout, &labels, false)?;
+    push_shapes(&mut text, drawing, &components, &layout, &labels, true)?;
     push_labels(&mut text, drawing, &layout, &labels)?;
-    let top = push_class_items(&mut text, drawing, &layout)?;
+    let top = push_class_items(&mut text, drawing, &components, &layout)?;
     push_path_items(&mut text, drawing, &layout, top)?;
     text.push_str("</svg>\n")?;
     Ok(text)
@@ -44,13 +46,14 @@ fn push_head(
     alloc: Global,
     text: &mut String,
     drawing: &Drawing,
+    components: &Components,
     labels: &Labels,
     plan: &Plan,
 ) -> Result<Layout, AllocError> {
-    let heading = Heading::new(alloc, drawing, labels, plan.width)?;
+    let heading = Heading::new(alloc, drawing, components, labels, plan.width)?;
     let layout = plan.layout(alloc, heading.height())?;
     let width = layout.width;
-    let height = layout.bottom + legend_height(drawing, width);
+    let height = layout.bottom + legend_height(drawing, components, width);
     write!(
         text,
         "<svg xmlns=\"http://www.w3.org/2000/svg\" width=\"{width:.0}\" height=\"{height:.0}\" \
