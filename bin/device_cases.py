@@ -349,8 +349,8 @@ def typed_input(lab):
 @case("devices", "refused lines at a terminal", "standard error is a terminal",
       "the last line says how many lines were refused, unless this is explained (COMMANDS.md)")
 def refused_at_terminal(lab):
-    wanted = {"refused-lines.scenario": "refused lines: 9; `overlay run --explain` says why\r\n", "four-nodes.scenario": ""}
-    for name, line in wanted.items():
+    line = "refused lines: 9; `overlay run --explain` says why\r\n"
+    for name, line in {"refused-lines.scenario": line, "four-nodes.scenario": ""}.items():
         for words, text in ((), line), (("--explain",), ""), (("--strict",), ""):
             master, slave = os.openpty()
             seen = lab.run([*lab.words(RUN, str(EXAMPLES / name)), *words], stderr=slave, start_new_session=True)

@@ -2,6 +2,7 @@
 use crate::command_names::is_command;
 use crate::grow_and_sweep_clap_commands::{CommandName, command_tree};
 use clap::Command;
+use ov_io::shown_name;
 use std::alloc::{AllocError, Global};
 use std::fmt::Write;
 
@@ -22,6 +23,10 @@ const GAP: &str = "\n\n";
 
 /// How any other tip of `clap` begins: it is better than those from here.
 const TIP: &str = "\n\n  tip: ";
+
+/// What is said where two commands stand.
+const TWO_COMMANDS: &str =
+    "tip: each command stands behind `overlay`, and a pipe joins two, as `overlay import FILE | overlay analyse`\n";
 
 /// The word that asks for help.
 const HELP: &str = "help";
@@ -144,7 +149,7 @@ fn push_unexpected(
     push_file(alloc, text, command, words)
 }
 
-/// Appends which command has an option; or of a number, that it has no sign; or what commands and options look like.
+/// Appends which commands have an option; or of a number, that it has no sign; or what commands and options look like.
 fn push_option(
     alloc: Global,
     text: &mut String,
@@ -154,31 +159,37 @@ fn push_option(
     if matches!(word.as_bytes().get(1), Some(byte) if byte.is_ascii_digit()) {
         return text.push_str("tip: a number has no sign\n");
     }
-    match command_with(alloc, word)? {
-        Some(name) => write!(
-            text,
-            "tip: `{word}` is an option of `overlay {name}`, and stands behind that\n"
-        ),
-        None if command.is_empty() => text.push_str(
-            "tip: a command stands first, without hyphens, and `overlay help` lists all\n",
-        ),
-        None => write!(
-            text,
-            "tip: options are words behind two hyphens, which `overlay help {command}` lists; \
-             a file of such a name stands behind `--`\n"
-        ),
+    if push_owners(alloc, text, word)? {
+        return text.push_str("\n");
     }
+    if command.is_empty() {
+        return text.push_str(
+            "tip: a command stands first, without hyphens, and `overlay help` lists all\n",
+        );
+    }
+    write!(
+        text,
+        "tip: options are words behind two hyphens, which `overlay help {command}` lists; \
+         a file of such a name stands behind `--`\n"
+    )
 }
 
-/// The name of the first command that has an option of this name.
-fn command_with(alloc: Global, word: &str) -> Result<Option<&'static str>, AllocError> {
+/// Appends to which commands an option of this name belongs. False: there is no such option.
+fn push_owners(alloc: Global, text: &mut String, word: &str) -> Result<bool, AllocError> {
     let tree = command_tree(alloc)?;
+    let mut is_there = false;
     for command in tree.get_subcommands() {
         if has_option(command, word) {
-            return Ok(Some(command.get_name()));
+            let name = command.get_name();
+            if is_there {
+                write!(text, ", `overlay {name}`")?;
+            } else {
+                write!(text, "tip: `{word}` belongs to `overlay {name}`")?;
+            }
+            is_there = true;
         }
     }
-    Ok(None)
+    Ok(is_there)
 }
 
 /// Whether a command has an option of this name.
@@ -200,12 +211,8 @@ fn push_file(
     words: &[String],
 ) -> Result<(), AllocError> {
     for word in words {
-        let other = word.as_str();
-        if is_any_command(alloc, other)? {
-            return write!(
-                text,
-                "tip: a pipe joins two commands, as in `overlay {command} .. | overlay {other} ..`\n"
-            );
+        if is_any_command(alloc, word.as_str())? {
+            return text.push_str(TWO_COMMANDS);
         }
     }
     if CommandName::of(command).is_some() {
@@ -239,7 +246,7 @@ pub fn unopened_tip(alloc: Global, arguments: &[String]) -> Result<String, Alloc
     }
     let list = joined_list(alloc, words)?;
     if !list.is_empty() {
-        push_list(&mut text, &list)?;
+        push_list(&mut text, &shown_name(alloc, &list)?)?;
     }
     Ok(text)
 }

@@ -1,5 +1,6 @@
 //! Why a certificate file does not hold, in plain words for a person. The readers and the judges below tell what is
-//! wrong and where; here it is put into words. Of a file in UTF-16, or a packed one, it is told how to make UTF-8 of it.
+//! wrong and where; here it is put into words. Of a file in UTF-16, or a packed one, a tip says how to make UTF-8 of
+//! it.
 #![tactic(auto)]
 
 mod bad_values;

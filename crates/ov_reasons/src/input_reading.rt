@@ -11,7 +11,7 @@ use std::io::{self, IsTerminal, Read};
 /// The name of what is read if no file is named.
 pub const STANDARD_INPUT: &str = "standard input";
 
-/// Prints that a file of this kind is read from standard input, if no file is named and a person types it at a terminal.
+/// Prints that a file of this kind is read from standard input, if none is named and standard input is a terminal.
 pub fn tell_typing(rt: &HostRuntime, file: Option<&str>, kind: FileKind) {
     if file.is_none() && rt.stdin().is_terminal() {
         let what = kind.words();
