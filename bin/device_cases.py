@@ -15,7 +15,7 @@ import tempfile
 import termios
 import time
 
-from device_lab import BARE, CASES, CERTIFICATE, CHECK, COMMANDS, EXPLAIN, LINES, LONGEST, MB, PREFIX
+from device_lab import BARE, CASES, CERTIFICATE, CHECK, COMMANDS, EXAMPLES, EXPLAIN, LINES, LONGEST, MB, PREFIX
 from device_lab import PROGRESS, READ, RIGHT, RUN, WRITE, Case, Differs, Lab, case, ending_of, fault_among
 from device_lab import read_again, told
 
@@ -350,7 +350,7 @@ def typed_input(lab):
       "the last line says how many lines were refused, unless this is explained (COMMANDS.md)")
 def refused_at_terminal(lab):
     line = "refused lines: 9; `overlay run --explain` says why\r\n"
-    for name, line in {"refused-lines.scenario": line, "four-nodes.scenario": ""}.items():
+    for name, line in {"refused-lines.scenario": line, "two-linked.scenario": ""}.items():
         for words, text in ((), line), (("--explain",), ""), (("--strict",), ""):
             master, slave = os.openpty()
             seen = lab.run([*lab.words(RUN, str(EXAMPLES / name)), *words], stderr=slave, start_new_session=True)
