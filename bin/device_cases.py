@@ -15,8 +15,8 @@ import tempfile
 import termios
 import time
 
-from device_lab import BARE, CASES, CERTIFICATE, CHECK, COMMANDS, EXAMPLES, EXPLAIN, LINES, LONGEST, MB, PREFIX
-from device_lab import PROGRESS, READ, RIGHT, RUN, WRITE, Case, Differs, Lab, case, ending_of, fault_among
+from device_lab import ANALYSE, BARE, CASES, CERTIFICATE, CHECK, COMMANDS, EXAMPLES, EXPLAIN, LINES, LONGEST, MB
+from device_lab import PREFIX, PROGRESS, READ, RIGHT, RUN, WRITE, Case, Differs, Lab, case, ending_of, fault_among
 from device_lab import read_again, told
 
 # The user that has no rights and owns nothing.
@@ -309,6 +309,8 @@ def slow_input(lab):
         yield command.name, told(seen, lab.right(command), command.explains), RIGHT
 
 
+# What is said where writing failed.
+UNWRITTEN = "writing failed: whoever read the output closed it, as `head` does, or the disk is full"
 # What each command says that it reads at a terminal; the first word names the command.
 TYPED = {"run": "a scenario", "analyse": "a graph file", "import": "a dump", "graph": "a certificate file",
          "picture": "a certificate file"}
@@ -344,6 +346,15 @@ TYPED_AT = ("lines typed at a terminal, and ^D", "standard input is read, and st
 def typed_input(lab):
     for command in [BARE, *COMMANDS]:
         yield command.name, typed(lab, command), RIGHT + ", says so"
+
+
+@case("devices", "why nothing is written", "a pipe without a reader", "the line below `refused 72` says what it may be "
+      "(FORMATS.md)")
+def unwritten(lab):
+    for command in (RUN, ANALYSE):
+        with contextlib.closing(widowed(lab, command)) as out:
+            seen = lab.run(lab.words(command, lab.example(command)), stdout=out)
+        yield command.name, seen.err.partition(b"\n")[2].decode().strip(), UNWRITTEN
 
 
 @case("devices", "refused lines at a terminal", "standard error is a terminal",
