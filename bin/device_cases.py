@@ -15,8 +15,8 @@ import tempfile
 import termios
 import time
 
-from device_lab import BARE, CASES, CERTIFICATE, CHECK, COMMANDS, EXPLAIN, LINES, LONGEST, MB, PREFIX
-from device_lab import PROGRESS, READ, RIGHT, RUN, WRITE, Case, Differs, Lab, case, ending_of, fault_among
+from device_lab import ANALYSE, BARE, CASES, CERTIFICATE, CHECK, COMMANDS, EXAMPLES, EXPLAIN, LINES, LONGEST, MB
+from device_lab import PREFIX, PROGRESS, READ, RIGHT, RUN, WRITE, Case, Differs, Lab, case, ending_of, fault_among
 from device_lab import read_again, told
 
 # The user that has no rights and owns nothing.
@@ -309,28 +309,70 @@ def slow_input(lab):
         yield command.name, told(seen, lab.right(command), command.explains), RIGHT
 
 
-@case("devices", "input from a terminal", "lines typed at a terminal, and ^D",
-      "standard input is read; bare `overlay` and `overlay run` say so on standard error (COMMANDS.md)")
+# What is said where writing failed.
+UNWRITTEN = "writing failed: whoever read the output closed it, as `head` does, or the disk is full"
+# What each command says that it reads at a terminal; the first word names the command.
+TYPED = {"run": "a scenario", "analyse": "a graph file", "import": "a dump", "graph": "a certificate file",
+         "picture": "a certificate file"}
+
+
+def typed(lab, command):
+    """What is seen of a command to which its example is typed at a terminal."""
+    master, slave = os.openpty()
+    how = termios.tcgetattr(slave)
+    how[3] &= ~termios.ECHO
+    termios.tcsetattr(slave, termios.TCSANOW, how)
+    data = pathlib.Path(lab.example(command)).read_bytes()
+
+    def type_in(process):
+        for line in data.splitlines(keepends=True):
+            os.write(master, line)
+        # once more where the last line has no end
+        os.write(master, b"\x04" if data.endswith(b"\n") else b"\x04\x04")
+
+    with os.fdopen(slave, "rb", buffering=0) as given:
+        seen = lab.run(lab.words(command), during=type_in, stdin=given, start_new_session=True)
+    os.close(master)
+    default = "a certificate file" if command.program == "overlay-check" else "a scenario"
+    what = TYPED[command.words[0]] if command.words else default
+    said = seen.err.startswith(f"reading {what} from standard input, to its end (Ctrl-D)\n".encode())
+    return told(seen, lab.right(command), said or command.explains) + (", says so" if said else "")
+
+
+TYPED_AT = ("lines typed at a terminal, and ^D", "standard input is read, and standard error says so (COMMANDS.md)")
+
+
+@case("devices", "input from a terminal", *TYPED_AT)
 def typed_input(lab):
     for command in [BARE, *COMMANDS]:
-        master, slave = os.openpty()
-        how = termios.tcgetattr(slave)
-        how[3] &= ~termios.ECHO
-        termios.tcsetattr(slave, termios.TCSANOW, how)
-        data = pathlib.Path(lab.example(command)).read_bytes()
+        yield command.name, typed(lab, command), RIGHT + ", says so"
 
-        def type_in(process):
-            for line in data.splitlines(keepends=True):
-                os.write(master, line)
-            # once more where the last line has no end
-            os.write(master, b"\x04" if data.endswith(b"\n") else b"\x04\x04")
 
-        with os.fdopen(slave, "rb", buffering=0) as given:
-            seen = lab.run(lab.words(command), during=type_in, stdin=given, start_new_session=True)
-        os.close(master)
-        said = seen.err.startswith(b"reading a scenario from standard input\n")
-        text = told(seen, lab.right(command), said or command.explains) + (", says so" if said else "")
-        yield command.name, text, RIGHT + (", says so" if command.kind == "scenario" else "")
+@case("devices", "why nothing is written", "a pipe without a reader", "the line below `refused 72` says what it may be "
+      "(FORMATS.md)")
+def unwritten(lab):
+    for command in (RUN, ANALYSE):
+        with contextlib.closing(widowed(lab, command)) as out:
+            seen = lab.run(lab.words(command, lab.example(command)), stdout=out)
+        yield command.name, seen.err.partition(b"\n")[2].decode().strip(), UNWRITTEN
+
+
+@case("devices", "refused lines at a terminal", "standard error is a terminal",
+      "the last line says how many lines were refused, unless this is explained (COMMANDS.md)")
+def refused_at_terminal(lab):
+    line = "refused lines: 9; `overlay run --explain` says why\r\n"
+    for name, line in {"refused-lines.scenario": line, "two-linked.scenario": ""}.items():
+        for words, text in ((), line), (("--explain",), ""), (("--strict",), ""):
+            master, slave = os.openpty()
+            seen = lab.run([*lab.words(RUN, str(EXAMPLES / name)), *words], stderr=slave, start_new_session=True)
+            os.set_blocking(master, False)
+            with contextlib.suppress(BlockingIOError):
+                seen = seen._replace(err=os.read(master, 1 << 16))
+            os.close(slave)
+            os.close(master)
+            last = (seen.err.splitlines(keepends=True) or [b""])[-1].decode()
+            told_so = last if last.startswith("refused lines") else ""
+            yield f"run {' '.join(words)} {name}".replace("  ", " "), repr(told_so), repr(text)
 
 
 @case("devices", "empty file", "`/dev/null`", "a run of no lines has status 0; a graph without nodes is `refused 30`, "

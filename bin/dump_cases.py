@@ -11,8 +11,8 @@ import socket
 from functools import partial
 
 import device_cases
-from device_cases import ARGUMENTS, NO_READ, NO_WRITE, NOT_OPENED, UNHEARD, copied, dead_terminal, example_opened
-from device_cases import loop_in, opened, widowed, with_file, without_rights
+from device_cases import ARGUMENTS, NO_READ, NO_WRITE, NOT_OPENED, TYPED_AT, UNHEARD, copied, dead_terminal
+from device_cases import example_opened, loop_in, opened, typed, widowed, with_file, without_rights
 from device_lab import EXAMPLES, KNOWN, PREFIX, READ, RIGHT, WRITE, Command, Skip, case, fault_among, told
 from limit_cases import ENOUGH
 
@@ -74,6 +74,12 @@ by_name("dumps: an argument that is no UTF-8", "`--\\xff FILE`", "`refused 73`, 
 by_name("dumps: GRAPHFILE of a name that is no UTF-8", "`--names f\\xff`, which is there",
         "`refused 73`, status 2 (FORMATS.md)", ARGUMENTS,
         lambda lab, command: ["--names", *copied(b"f\xff")(lab, command), lab.example(command)], commands=[PICTURE])
+
+
+@case("dumps", "dumps: input from a terminal", *TYPED_AT)
+def typed_input(lab):
+    for command in FILE_COMMANDS:
+        yield command.name, typed(lab, command), RIGHT + ", says so"
 
 
 @case("dumps", "dumps: GRAPHFILE `/dev/stdin`", "`picture FILE --names /dev/stdin <GRAPHFILE`",

@@ -1,4 +1,5 @@
 use crate::GrowArgumentsFault;
+use crate::argument_tips::with_tip;
 use crate::grow_and_sweep_clap_commands::{CommandName, command};
 use crate::growing_option_table::takes_text;
 use clap::error::ErrorKind;
@@ -22,8 +23,8 @@ pub(crate) fn found_in<'a>(
     }
 }
 
-/// What `clap` says of words in which it found a fault, or of a request for help. The words are shown with the codes of
-/// their control characters, so that each is on one line.
+/// What `clap` says of words in which it found a fault, or of a request for help, with a tip if something is known that
+/// may be meant. The words are shown with the codes of their control characters, so that each is on one line.
 fn told(
     alloc: Global,
     name: CommandName,
@@ -37,10 +38,11 @@ fn told(
     for word in words {
         shown.push(shown_name(alloc, word.as_str())?)?;
     }
-    let reason = match command(alloc, name)?.try_get_matches_from(&shown) {
+    let said = match command(alloc, name)?.try_get_matches_from(&shown) {
         Ok(_) => format!(in alloc; "{error}")?,
         Err(error) => format!(in alloc; "{error}")?,
     };
+    let reason = with_tip(alloc, &said, name.text(), &shown)?;
     Ok(GrowArgumentsFault::BadArguments { reason })
 }
 

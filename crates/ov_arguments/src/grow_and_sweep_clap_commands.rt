@@ -70,6 +70,14 @@ impl CommandName {
         }
         None
     }
+
+    /// The command's name.
+    pub(crate) fn text(self) -> &'static str {
+        match self {
+            CommandName::Grow => GROW,
+            CommandName::Sweep => SWEEP,
+        }
+    }
 }
 
 /// All commands with their options, of which help is told. Those that grow overlays are not among those that it lists.

@@ -1,6 +1,7 @@
 //! What the arguments of the command `overlay` ask for, those of `grow` and `sweep` too, and why they are refused.
 #![tactic(auto)]
 
+mod argument_tips;
 mod arguments;
 mod certificate_option_tip;
 mod clap_commands_and_help;
@@ -20,6 +21,7 @@ mod sweep_list_reading;
 mod sweep_request;
 mod sweep_runs;
 
+pub use argument_tips::unopened_tip;
 pub use arguments::{AnalysisRequest, ArgumentsFault, Request, RunRequest, read_arguments};
 pub use command_names::is_command;
 pub use grow_arguments_fault::GrowArgumentsFault;

@@ -1,6 +1,8 @@
+use crate::argument_tips::{joined_list, push_list, with_tip};
 use crate::arguments::{is_read_later, read_least};
 use crate::certificate_option_tip::certificate_tip;
 use crate::clap_commands_and_help::command;
+use crate::command_names::is_command;
 use crate::grow_and_sweep_clap_commands::command_tree;
 use clap::error::ErrorKind;
 use clap::{ArgMatches, Command};
@@ -60,14 +62,49 @@ fn asks_for_version(first: &str) -> bool {
 fn reasons(alloc: Global, arguments: &[String]) -> Result<String, OutOfMemory> {
     let shown = shown(alloc, arguments)?;
     match told_by(alloc, &shown)?.try_get_matches_from(&shown) {
-        Ok(matches) => text_reason(alloc, &matches),
-        Err(error) if error.kind() == ErrorKind::OutOfMemory => Err(OutOfMemory),
-        Err(error) => {
-            let mut reason = format!(in alloc; "{error}")?;
-            reason.push_str(certificate_tip(alloc, &shown)?.as_str())?;
+        Ok(matches) => {
+            let mut reason = text_reason(alloc, &matches)?;
+            push_ids_tip(alloc, &mut reason, &shown)?;
             Ok(reason)
         }
+        Err(error) if error.kind() == ErrorKind::OutOfMemory => Err(OutOfMemory),
+        Err(error) => told(alloc, format!(in alloc; "{error}")?, &shown),
     }
+}
+
+/// What `clap` says of arguments that it refuses, with a tip if something is known that may be meant.
+fn told(alloc: Global, mut said: String, arguments: &[String]) -> Result<String, OutOfMemory> {
+    let tip = certificate_tip(alloc, arguments)?;
+    if !tip.is_empty() {
+        said.push_str(&tip)?;
+        return Ok(said);
+    }
+    let command = match arguments.first() {
+        Some(first) if is_command(alloc, first.as_str())? => first.as_str(),
+        _ => "",
+    };
+    Ok(with_tip(alloc, &said, command, behind_first(arguments))?)
+}
+
+/// The arguments behind the first one.
+fn behind_first(arguments: &[String]) -> &[String] {
+    match arguments.split_first() {
+        Some((_, behind)) => behind,
+        None => &[],
+    }
+}
+
+/// Appends that a list has no spaces, if ids stand there with spaces.
+fn push_ids_tip(
+    alloc: Global,
+    reason: &mut String,
+    arguments: &[String],
+) -> Result<(), OutOfMemory> {
+    let list = joined_list(alloc, arguments)?;
+    if read_ids(alloc, list.as_bytes())?.is_some() {
+        push_list(reason, &list)?;
+    }
+    Ok(())
 }
 
 /// The commands by which these arguments are told. Help is that of any command. Else those that grow overlays are left

@@ -1,5 +1,5 @@
 use crate::sentence_parts::{Part, node, say};
-use ov_graph::{GraphFault, LinkFlaw};
+use ov_graph::{Graph, GraphFault, LinkFlaw};
 use ov_ids::{NodeId, OutOfMemory};
 
 /// Tells which node or link is at fault, or how many nodes there are and may be.
@@ -19,8 +19,17 @@ pub(crate) fn tell_graph(text: &mut String, fault: GraphFault) -> Result<(), Out
     }
 }
 
+/// Tells how many nodes there are and may be, and what can be done.
 fn say_size(text: &mut String, number: usize, most: usize) -> Result<(), OutOfMemory> {
-    Ok(write!(text, ": it has {number}, and this version allows {most}")?)
+    let hint = if most < Graph::MOST_NODES {
+        "version 2 allows more"
+    } else {
+        "a part of the graph can be analysed as a graph of its own, with a k of its own"
+    };
+    Ok(write!(
+        text,
+        ": it has {number}, and this version allows {most}; {hint}"
+    )?)
 }
 
 fn say_node(text: &mut String, at: usize, id: NodeId, before: NodeId) -> Result<(), OutOfMemory> {

@@ -1,11 +1,13 @@
 //! Why a certificate file does not hold, in plain words for a person. The readers and the judges below tell what is
-//! wrong and where; here it is put into words.
+//! wrong and where; here it is put into words. Of a file in UTF-16, or a packed one, a tip says how to make UTF-8 of
+//! it.
 #![tactic(auto)]
 
 mod bad_values;
 mod count_cut_and_side_words;
 mod explain;
 mod fault_phrases;
+mod files_of_other_forms;
 mod found_values;
 mod graph_words;
 mod near_keys;
@@ -15,3 +17,4 @@ mod sentence_parts;
 mod wrong_entries;
 
 pub use explain::reasons;
+pub use files_of_other_forms::{form_tip, has_other_form};

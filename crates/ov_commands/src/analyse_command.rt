@@ -15,7 +15,7 @@ use ov_io::Sink;
 use ov_lines::FileKind;
 use ov_reasons::{
     STANDARD_INPUT, analysis_reason, bytes_asked, bytes_of, group_reason, opened, print_fault,
-    print_reason, print_unread_tip,
+    print_reason, print_unread_tip, tell_typing,
 };
 use ov_run_meaning::RunFault;
 use std::io::{Read, Write};
@@ -33,6 +33,7 @@ pub fn analyse_asked<T: Threads + Sync>(
 {
     let mut sink = Sink::new(rt.stdout());
     let lists = lists_of(rt, analysis)?;
+    tell_typing(rt, file.as_deref(), FileKind::Graph);
     if analysis.names || analysis.explain || !lists.is_empty() {
         let bytes = bytes_asked(rt, file.as_deref())?;
         return analyse_in_words(

@@ -13,6 +13,7 @@ use ov_check::{Outcome, Refusal, filed_in};
 use ov_check_reasons::reasons;
 use ov_graphfile::graph_text;
 use ov_io::Sink;
+use ov_reasons::WRITING_FAILED;
 use std::io::Write;
 
 /// Writes the graph of a certificate file of these bytes as a graph file. Whether the certificate holds is not asked.
@@ -96,10 +97,10 @@ pub(crate) fn told(rt: &HostRuntime, fault: FileCommandFault) -> FileCommandFaul
     ensures { result ≡ fault }
 {
     let meaning = match fault {
-        FileCommandFault::Refused { .. } => "the file is refused",
-        FileCommandFault::Write => "writing failed",
-        FileCommandFault::OutOfMemory => "out of memory",
+        FileCommandFault::Refused { .. } => "the file is refused\n",
+        FileCommandFault::Write => WRITING_FAILED,
+        FileCommandFault::OutOfMemory => "out of memory\n",
     };
-    let _ = eprintln!(rt; "{fault}\n{meaning}");
+    let _ = eprint!(rt; "{fault}\n{meaning}");
     fault
 }

@@ -15,7 +15,7 @@ use crate::picture_printing::print_picture;
 use ov_arguments::{ImportRequest, PictureRequest};
 use ov_io::Sink;
 use ov_lines::{FileKind, behind_mark};
-use ov_reasons::{bytes_asked, bytes_of_file, print_file_tip};
+use ov_reasons::{bytes_asked, bytes_of_file, print_file_tip, tell_typing};
 use ov_run_meaning::RunFault;
 use std::io::Write;
 
@@ -27,6 +27,7 @@ pub fn import_asked(
 ) -> Result<u8, CommandFault>
     ensures status { IfOk result (λ status. status ≡ 0) }
 {
+    tell_typing(rt, file.as_deref(), FileKind::Views);
     let bytes = bytes_asked(rt, file.as_deref())?;
     import_into(
         rt,
@@ -63,6 +64,7 @@ pub fn picture_asked(
 ) -> Result<u8, CommandFault>
     ensures status { IfOk result (λ status. status ≡ 0) }
 {
+    tell_typing(rt, file.as_deref(), FileKind::Certificate);
     let bytes = bytes_asked(rt, file.as_deref())?;
     let names = names_asked(rt, picture.names.as_deref())?;
     let mut sink = Sink::new(rt.stdout());
@@ -107,6 +109,7 @@ fn picture_into<W: Write>(
 pub fn graph_asked(rt: &HostRuntime, file: Option<String>) -> Result<u8, CommandFault>
     ensures status { IfOk result (λ status. status ≡ 0) }
 {
+    tell_typing(rt, file.as_deref(), FileKind::Certificate);
     let bytes = bytes_asked(rt, file.as_deref())?;
     graph_into(rt, &bytes, file.as_deref(), &mut Sink::new(rt.stdout()))
 }

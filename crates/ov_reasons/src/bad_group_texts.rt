@@ -15,13 +15,24 @@ pub fn group_reason(
     group: Option<&[NodeId]>,
 ) -> Result<Option<String>, OutOfMemory> {
     match read_graph(alloc, bytes) {
+        Ok(graph) if graph.nodes().is_empty() => {
+            Ok(Some(String::from_str(alloc, why_no_nodes(bytes))?))
+        }
         Ok(graph) => why_refused(alloc, &graph, group),
         Err(GraphFileFault::OutOfMemory) => Err(OutOfMemory),
         Err(_) => Ok(None),
     }
 }
 
-/// Why these ids, or all nodes, are refused as a group of the graph, if they are.
+/// What is said of a graph file without nodes. If no byte of it is a line feed, it is one line, perhaps a comment.
+fn why_no_nodes(bytes: &[u8]) -> &'static str {
+    if bytes.contains(&b'\r') && !bytes.contains(&b'\n') {
+        return "the graph has no nodes; the lines end with a carriage return alone, and must end with a line feed\n";
+    }
+    "the graph has no nodes\n"
+}
+
+/// Why these ids, or all nodes, are refused as a group of the graph, which has nodes, if they are.
 fn why_refused(
     alloc: Global,
     graph: &Graph,
@@ -37,10 +48,6 @@ fn why_refused(
 
 /// Appends why these ids are refused as a group of the graph, and returns whether they are.
 fn push_refusal(text: &mut String, graph: &Graph, ids: &[NodeId]) -> Result<bool, AllocError> {
-    if graph.nodes().is_empty() {
-        text.push_str("the graph has no nodes")?;
-        return Ok(true);
-    }
     if push_unordered(text, ids)? {
         return Ok(true);
     }

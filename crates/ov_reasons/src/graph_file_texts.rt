@@ -11,6 +11,10 @@ use ov_lines::KeptLines;
 use std::alloc::{AllocError, Global};
 use std::fmt::Write;
 
+/// What is said of a graph of too many nodes, below it.
+const PART_TIP: &str = "tip: analyse a part as a graph of its own, such as the hosts of one site, \
+                        or a group and its neighbours; its k is that of the part alone\n";
+
 /// Why a graph file of these bytes was refused with this fault. If a line can't be read, such lines are explained, and
 /// counted beyond 20, as by `scenario_reasons`. If the graph is at fault, the line of the node or the link at fault is
 /// explained. OutOfMemory (99) if an allocation is refused.
@@ -63,7 +67,7 @@ fn push_unread_lines(
     push_remark(text, lines.count)
 }
 
-/// Appends what is wrong with the node or the link on the line of this number.
+/// Appends what is wrong with the node or the link on the line of this number, and what to do with too many nodes.
 fn push_graph_line(
     text: &mut String,
     bytes: &[u8],
@@ -73,7 +77,11 @@ fn push_graph_line(
     push_number(text, number)?;
     push_graph_fault(text, bytes, fault)?;
     let line = line_of(&mut KeptLines::new(bytes), number);
-    push_marked_word(text, line.text, word_at_fault(fault))
+    push_marked_word(text, line.text, word_at_fault(fault))?;
+    if let GraphFault::TooManyNodes { .. } = fault {
+        text.push_str(PART_TIP)?;
+    }
+    Ok(())
 }
 
 /// The place of the word at fault on the line of the node or the link at fault.
@@ -147,7 +155,10 @@ fn push_flaw(text: &mut String, link: (NodeId, NodeId), flaw: LinkFlaw) -> Resul
     let (from, to) = (link.0.number(), link.1.number());
     if let LinkFlaw::NoNode(node) = flaw {
         let id = node.number();
-        return write!(text, "no line says node {id}");
+        return write!(
+            text,
+            "no line says node {id}; each node of a link has a line too, as `node {id}`"
+        );
     }
     text.push_str("a link goes from a node to a higher one")?;
     if from == to {

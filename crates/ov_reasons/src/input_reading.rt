@@ -3,13 +3,21 @@ ghost use Rattle.std.specs.Prelude.{◌≡◌, ◌⊎◌, IfOk, IfErr, IfSome};
 use crate::fault_printing::print_fault;
 use crate::which_command_tips::print_folder_tip;
 use ov_io::{Source, unopened_text, unread_text};
-use ov_lines::is_folder;
+use ov_lines::{FileKind, is_folder};
 use ov_run_meaning::RunFault;
 use std::fs::File;
-use std::io::{self, Read};
+use std::io::{self, IsTerminal, Read};
 
 /// The name of what is read if no file is named.
 pub const STANDARD_INPUT: &str = "standard input";
+
+/// Prints that a file of this kind is read from standard input, if none is named and standard input is a terminal.
+pub fn tell_typing(rt: &HostRuntime, file: Option<&str>, kind: FileKind) {
+    if file.is_none() && rt.stdin().is_terminal() {
+        let what = kind.words();
+        let _ = eprintln!(rt; "reading {what} from standard input, to its end (Ctrl-D)");
+    }
+}
 
 /// Opens a file. If that fails, or a folder has this name, prints why.
 pub fn opened(rt: &HostRuntime, path: &str) -> Result<File, RunFault>

@@ -4,6 +4,25 @@ use ov_lines::{KeptLine, Kind, LineCursor, Unread, comma_hint, read_number};
 use std::alloc::{AllocError, Global};
 use std::fmt::Write;
 
+/// The name of a line of a graph file, and what may help at an id too many there, and at another word.
+struct TooMany(&'static str, &'static str, &'static str);
+
+const TOO_MANY: [TooMany; 2] = [
+    TooMany(
+        "node",
+        "each node has a line of its own",
+        "a name stands in a comment right before the line, as `# 1 relay`",
+    ),
+    TooMany(
+        "link",
+        "a link has two nodes, and a line of its own",
+        "a link has two nodes, and nothing else",
+    ),
+];
+
+/// What may help at a name in place of an id.
+const NAMED: &str = "it is a number, and `overlay import` makes a graph file of a dump with names";
+
 /// Appends what is wrong with a line that can't be read, and the line, with a mark under the word at fault. Lines of
 /// the file begin with these names.
 pub(crate) fn push_unread(
@@ -18,7 +37,7 @@ pub(crate) fn push_unread(
         (Some(word), Some(Kind::LineName)) => push_no_line_name(alloc, text, names, line, word)?,
         (Some(word), Some(kind)) => {
             push_wanted(text, unread.wanted)?;
-            push_hint(text, word, kind)?;
+            push_hint(text, line.text, word, kind)?;
         }
         _ => push_wanted(text, unread.wanted)?,
     }
@@ -65,13 +84,34 @@ fn text_of(kind: &Kind) -> &'static str {
     }
 }
 
-/// Appends what may help at a word, if a word of this kind is expected in its place.
-fn push_hint(text: &mut String, word: &[u8], kind: &Kind) -> Result<(), AllocError> {
-    match (bytes_hint(word), kind) {
+/// Appends what may help at a word of a line, if a word of this kind is expected in its place.
+fn push_hint(text: &mut String, line: &[u8], word: &[u8], kind: &Kind) -> Result<(), AllocError> {
+    match (bytes_hint(word).or(graph_hint(line, word, kind)), kind) {
         (Some(hint), _) => write!(text, "; {hint}"),
         (None, Kind::Ids) => push_ids_hint(text, word),
         (None, _) => push_limits(text, kind),
     }
+}
+
+/// What may help at a word of a line of a graph file that stands where an id or the end of the line must.
+fn graph_hint(line: &[u8], word: &[u8], kind: &Kind) -> Option<&'static str> {
+    let first = LineCursor::new(line).word()?;
+    for TooMany(name, id, other) in &TOO_MANY {
+        if first == name.as_bytes() {
+            return match kind {
+                Kind::End if is_numeral(word) => Some(*id),
+                Kind::End => Some(*other),
+                Kind::Short(_) if begins_as_name(word) => Some(NAMED),
+                _ => None,
+            };
+        }
+    }
+    None
+}
+
+/// Whether a word begins with a letter.
+fn begins_as_name(word: &[u8]) -> bool {
+    matches!(word.first(), Some(byte) if byte.is_ascii_alphabetic())
 }
 
 /// Appends which comma of a list of ids is one too many, or the limits of each id of a list whose ids are all written

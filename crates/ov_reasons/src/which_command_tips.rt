@@ -1,10 +1,12 @@
+use ov_check_reasons::form_tip;
 use ov_lines::{FileKind, file_tip, folder_tip, looks_like};
 use ov_run_meaning::RunFault;
 use std::alloc::AllocError;
 
-/// Prints which command reads a file of these bytes, if it is another one than that of this kind of file. The file has
-/// this name, or is standard input.
+/// Prints which command reads a file of these bytes, if it is another one than that of this kind of file; or which one
+/// makes UTF-8 of it. The file has this name, or is standard input.
 pub fn print_file_tip(rt: &HostRuntime, bytes: &[u8], file: Option<&str>, wanted: FileKind) {
+    print_tip(rt, form_tip(rt.alloc(), bytes, file));
     let kind = looks_like(bytes);
     if kind != wanted && !(kind.is_dump() && wanted.is_dump()) {
         print_tip(rt, file_tip(rt.alloc(), kind, file));

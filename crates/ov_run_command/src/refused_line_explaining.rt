@@ -4,6 +4,7 @@ use ov_reasons::{core_refusal_reason, count_line, refusal_line, world_refusal_re
 use ov_run::{RanLine, RunWatcher};
 use ov_run_meaning::Refusal;
 use ov_snap::Core;
+use std::io::IsTerminal;
 
 /// Prints on standard error why a run refuses a line, and at its end how many events happened and how many were
 /// refused, if that is wanted. Why a strict run ended is said at its end, below its fault. Prints nothing if an
@@ -17,6 +18,8 @@ pub(crate) struct Explaining<'a> {
     /// How many events happened, and how many were refused.
     accepted: u64,
     refused: u64,
+    /// How many lines were refused, events or not.
+    refused_lines: u64,
 }
 
 impl<'a> Explaining<'a> {
@@ -28,20 +31,27 @@ impl<'a> Explaining<'a> {
             kept: String::new(rt.alloc()),
             accepted: 0,
             refused: 0,
+            refused_lines: 0,
         }
     }
 
-    /// Prints why a strict run ended, and if that is wanted, how many events happened, and how many were refused.
+    /// Prints why a strict run ended, and if that is wanted, how many events happened, and how many were refused. A
+    /// person at a terminal who does not want it is told how many lines were refused, and how to ask why.
     pub(crate) fn tell_end(&self) {
-        let kept = self.kept.as_str();
+        let (kept, refused) = (self.kept.as_str(), self.refused_lines);
         let _ = eprint!(self.rt; "{kept}");
         if self.run.explain {
             self.print(count_line(self.rt.alloc(), self.accepted, self.refused));
+        } else if kept.is_empty() && refused > 0 && self.rt.stderr().is_terminal() {
+            let _ = eprintln!(self.rt;
+                "refused lines: {refused}; `overlay run --explain` says why"
+            );
         }
     }
 
-    /// Counts a line that was refused, if it is an event.
+    /// Counts a line that was refused, and whether it is an event.
     fn count_refused(&mut self, line: &RanLine<'_>) {
+        self.refused_lines = self.refused_lines.saturating_add(1);
         if line.is_event {
             self.refused = self.refused.saturating_add(1);
         }

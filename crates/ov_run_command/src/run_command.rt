@@ -10,6 +10,7 @@ use ov_io::Sink;
 use ov_lines::FileKind;
 use ov_reasons::{
     STANDARD_INPUT, bytes_of, opened, print_fault, print_reason, print_unread_tip, run_reason,
+    tell_typing,
 };
 use ov_run::run_bytes;
 use ov_run_meaning::{RunFault, Strictness};
@@ -27,9 +28,7 @@ pub fn run_asked<T: Threads + Wait + Sync>(
 ) -> Result<u8, RunFault>
     ensures status { IfOk result (λ status. status ≡ 0) }
 {
-    if file.is_none() && rt.stdin().is_terminal() {
-        let _ = eprintln!(rt; "reading a scenario from standard input");
-    }
+    tell_typing(rt, file.as_deref(), FileKind::Scenario);
     if run.explain || rt.stdout().is_terminal() {
         return run_line_by_line(rt, threads, file, run);
     }

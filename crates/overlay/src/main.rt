@@ -11,11 +11,14 @@ ghost use Rattle.overlay.specs.declared.fault_and_exit_status.ProgramFault.TheVa
 mod fault_and_exit_status;
 
 use crate::fault_and_exit_status::{ProgramFault, exit_status};
-use ov_arguments::{ArgumentsFault, Request, argument_reasons, read_arguments};
-use ov_commands::{analyse_asked, graph_asked, import_asked, picture_asked, print_command_tip};
+use ov_arguments::{ArgumentsFault, Request, argument_reasons, read_arguments, unopened_tip};
+use ov_commands::{
+    CommandFault, analyse_asked, graph_asked, import_asked, picture_asked, print_command_tip,
+};
 use ov_grow_commands::grow_or_sweep;
-use ov_reasons::print_reason;
+use ov_reasons::{print_reason, print_tip};
 use ov_run_command::run_asked;
+use ov_run_meaning::RunFault;
 use std::env;
 use std::process::ExitCode;
 use std::sync::Wait;
@@ -62,8 +65,19 @@ fn answer<T: Threads + Wait + Sync>(
     ensures only { OnOk result (AreTaken (map (λ argument. string_bytes argument) arguments.now)) }
 {
     match read_arguments(rt.alloc(), arguments) {
-        Ok(request) => do_asked(rt, threads, request),
+        Ok(request) => {
+            let done = do_asked(rt, threads, request);
+            tell_meant(rt, arguments, &done);
+            done
+        }
         Err(fault) => Err(unread_arguments(rt, fault, arguments)),
+    }
+}
+
+/// If a file can't be read, prints what else these arguments may mean.
+fn tell_meant(rt: &HostRuntime, arguments: &[String], done: &Result<u8, ProgramFault>) {
+    if let Err(ProgramFault::Command(CommandFault::Run(RunFault::Read))) = done {
+        print_tip(rt, unopened_tip(rt.alloc(), arguments));
     }
 }
 

@@ -11,14 +11,14 @@ use ov_check::{
     JudgeFault, Judged, Outcome, ProgramFault, exit_status, failure_text, input_named, judge_kept,
     why_no_input,
 };
-use ov_check_reasons::reasons;
+use ov_check_reasons::{form_tip, reasons};
 use ov_io::{Sink, Source, unopened_text};
 use ov_lines::{FileKind, file_tip, folder_tip, is_folder, looks_like};
 use std::alloc::AllocError;
 use std::env::FillError;
 use std::fs::File;
 use std::io;
-use std::io::{Read, Write};
+use std::io::{IsTerminal, Read, Write};
 use std::process::ExitCode;
 use std::rt::{Env, Files, Runtime};
 use std::thread::Threads;
@@ -26,20 +26,34 @@ use std::thread::Threads;
 /// The name of what is read if no file is named.
 const STANDARD_INPUT: &str = "standard input";
 
+/// What is printed if that is a terminal.
+const TYPED: &str = "reading a certificate file from standard input, to its end (Ctrl-D)";
+
+/// What is printed if a file can't be opened whose name begins as an option.
+const NO_OPTIONS: &str =
+    "tip: `overlay-check [FILE]` has no options; without FILE it reads standard input";
+
 /// The length in bytes of the longest path that the system opens, or more.
 const LONGEST_PATH: usize = 4096;
 
 fn main(rt: HostRuntime) -> ExitCode {
-    ExitCode::from(exit_status(&run(&rt)))
+    let is_typed = rt.stdin().is_terminal();
+    ExitCode::from(exit_status(&run(&rt, is_typed)))
 }
 
 /// Judges the input that the arguments name. Argument 0, the program's own path, is not looked at. Ok: the status of
-/// the outcome.
-fn run<R: Runtime + AllocGlobal + Threads + Sync>(rt: &R) -> Result<u8, ProgramFault> {
+/// the outcome. If standard input is judged, and a person types it at a terminal, standard error says so.
+fn run<R: Runtime + AllocGlobal + Threads + Sync>(
+    rt: &R,
+    is_typed: bool,
+) -> Result<u8, ProgramFault> {
     let mut room = [0u8; LONGEST_PATH];
     let length = rt.arg(1, &mut room);
     match input_named(length, &room, has_argument(rt, 2)) {
         Ok(None) => {
+            if is_typed {
+                let _ = eprintln!(rt; "{TYPED}");
+            }
             let mut sink = Sink::new(io::writer(rt));
             Ok(judge_from(rt, rt.reader(), &mut sink, None)?)
         }
@@ -80,6 +94,9 @@ fn judge_named<R: Runtime + AllocGlobal + Threads + Sync>(
             let ended = print_fault(rt, JudgeFault::Read);
             if let Ok(text) = unopened_text(rt.alloc(), path, &error) {
                 let _ = eprintln!(rt; "{text}");
+            }
+            if path.starts_with('-') {
+                let _ = eprintln!(rt; "{NO_OPTIONS}");
             }
             Err(ended)
         }
@@ -139,13 +156,16 @@ fn explained<R: Runtime + AllocGlobal>(rt: &R, judged: &Judged, file: Option<&st
 }
 
 /// Prints why the outcome is not that a certificate holds. Of a file that looks like one of another kind, it says which
-/// command reads it.
+/// command reads it; of one that is not in UTF-8, how to make it so.
 fn explain<R: Runtime + AllocGlobal>(rt: &R, judged: &Judged, file: Option<&str>) {
     if let Ok(text) = reasons(rt.alloc(), &judged.outcome) {
         let _ = eprintln!(rt; "{text}");
     }
-    if let (Outcome::Refused(_), Some(path)) = (&judged.outcome, file) {
-        tell_kind(rt, &judged.bytes, path);
+    if let Outcome::Refused(_) = &judged.outcome {
+        print_tip(rt, form_tip(rt.alloc(), &judged.bytes, file));
+        if let Some(path) = file {
+            tell_kind(rt, &judged.bytes, path);
+        }
     }
 }
 
