@@ -17,14 +17,16 @@ from tables import table
 PAGES = (DOCS / "PAPERS.md", DOCS / "TABLES.md")
 RULES = CHOICES["refill"]
 CRASHES = ("10", "20", "30", "40", "50", "60", "70", "80", "90", "95")
-SHUFFLES = ("0", "1", "2", "3", "4", "5", "6", "8", "10")
+SHUFFLES = ("0", "1", "2", "3", "4", "6", "10")
 BROADCASTS = 100
 # From few crashes to many; and the same for a dark background.
 LIGHT = ["#2c3e94", "#1b6ca8", "#1d8aa8", "#2a9d8f", "#5a9e3a", "#a08a00", "#d08000", "#d95f02", "#c0302a", "#7a1020"]
 DARK = ["#9db0ff", "#74b9e8", "#6fd0e8", "#6fd6c8", "#a5d68a", "#e0cf5a", "#ffc766", "#ff9a52", "#ff8a80", "#ff6fa0"]
 MESSAGES = Axis("message after the crash", 1, BROADCASTS, whole_numbers(1, 2, 5, 10, 20, 50, 100), is_log=True)
-# Messages that are told together.
+# Messages that are told together; of those after a crash; and in tables.
 PIECES = ((1, 1), (2, 2), (3, 4), (5, 8), (9, 16), (17, 32), (33, 64), (65, 128), (129, 300))
+AFTER = (*PIECES[:-2], (65, 100))
+OF_TABLE = ((1, 1), (2, 10), (91, 100))
 PERCENT = Axis("", 0, 100, whole_numbers(0, 20, 40, 60, 80, 100))
 
 
@@ -59,10 +61,11 @@ def three_panels(said, across, lines):
 
 def by_message(name):
     """The share of live nodes that deliver each message after a crash."""
-    found = grouped(name, "phase", "refill", "crash", "number")
+    found = counted(name, "refill", "crash")
 
     def points(rule, crash):
-        return [(at, delivered(found["crash", rule, crash, str(at)])) for at in range(1, BROADCASTS + 1)]
+        # the first messages after the crash follow those of the settled overlay
+        return in_pieces(found, delivered, AFTER, BROADCASTS, rule, crash)
 
     return three_panels("% of live nodes that deliver", MESSAGES, points)
 
@@ -84,7 +87,7 @@ def in_largest(some):
 
 
 def counted(name, *keys):
-    """The rows of broadcasts by these columns and their numbers in the whole run: no node crashes between phases."""
+    """The rows of broadcasts by these columns and their numbers in the whole run."""
     found = {}
     for (phase, number, *key), some in grouped(name, "phase", "number", *keys).items():
         place = BROADCASTS * ("settle", "crash", "heal").index(phase) + int(number)
@@ -106,7 +109,7 @@ def tree():
         found = counted(name, "refill", "order")
         for rule in ("never", "always"):
             for panel, figure in zip(panels, (redundancy, hops)):
-                panel.line(tone, in_pieces(found, figure, rule, "random"))
+                panel.line(tone, in_pieces(found, figure, PIECES, 0, rule, "random"))
             panels[0].parts.append(
                 f'<text class="said s{tone}" x="330" y="{84 + 22 * tone // 3}">{rule}, {senders}</text>'
             )
@@ -114,13 +117,14 @@ def tree():
     return drawn(*panels, tones=(LIGHT, DARK))
 
 
-def in_pieces(found, figure, *key):
+def piece(found, before, first, last, *key):
+    """The rows of some messages of a run, counted from one of them on."""
+    return [row for at in range(before + first, before + last + 1) for row in found[(*key, at)]]
+
+
+def in_pieces(found, figure, pieces, before, *key):
     """A figure for each piece of the messages of a run, over the middle of the piece."""
-    points = []
-    for first, last in PIECES:
-        some = [row for at in range(first, last + 1) for row in found[(*key, at)]]
-        points.append(((first * last) ** 0.5, figure(some)))
-    return points
+    return [((first * last) ** 0.5, figure(piece(found, before, first, last, *key))) for first, last in pieces]
 
 
 def hops(some):
@@ -129,13 +133,13 @@ def hops(some):
 
 
 def crash_table(name):
-    """What single messages after a crash reach."""
-    found = grouped(name, "phase", "refill", "crash", "number")
-    lines = [
-        [crash, *(f"{delivered(found['crash', rule, crash, at]):.1f}" for rule in RULES for at in ("1", "10", "100"))]
-        for crash in CRASHES
-    ]
-    return table(["% that crash", *(f"`{rule}`: message {at}" for rule in RULES for at in (1, 10, 100))], lines)
+    """What messages after a crash reach."""
+    found = counted(name, "refill", "crash")
+    lines = []
+    for crash in CRASHES:
+        pieces = (piece(found, BROADCASTS, *ends, rule, crash) for rule in RULES for ends in OF_TABLE)
+        lines.append([crash, *(f"{delivered(some):.1f}" for some in pieces)])
+    return table(["% that crash", *(f"`{rule}`: {at}" for rule in RULES for at in ("1", "2 to 10", "91 to 100"))], lines)
 
 
 def heal_table():
@@ -143,9 +147,9 @@ def heal_table():
     found = grouped("papers-heal", "refill", "crash", "heal")
     lines = [
         [crash, *(f"{in_largest(found[rule, crash, heal]):.1f}" for rule in RULES for heal in ("0", "1", "2", "10"))]
-        for crash in ("30", "50", "70", "80", "90", "95")
+        for crash in CRASHES
     ]
-    return table(["% that crash", *(f"`{rule}`: {at} rounds" for rule in RULES for at in (0, 1, 2, 10))], lines)
+    return table(["% that crash", *(f"`{rule}`: {at}" for rule in RULES for at in (0, 1, 2, 10))], lines)
 
 
 def tree_table():
@@ -157,7 +161,7 @@ def tree_table():
             for order in CHOICES["order"]:
                 line = [f"`{rule}`, {senders}, `{order}`"]
                 for first, last in ((1, 1), (2, 2), (3, 10), (11, 100), (201, 300)):
-                    some = [row for at in range(first, last + 1) for row in found[rule, order, at]]
+                    some = piece(found, 0, first, last, rule, order)
                     line.append(f"{redundancy(some):.3f}; {hops(some):.1f}")
                 lines.append(line)
     head = ["rule, senders, order of packets", "message 1", "2", "3 to 10", "11 to 100", "201 to 300"]

@@ -48,11 +48,11 @@ _CRASHES = "--crash 10,20,30,40,50,60,70,80,90,95 --detect"
 _ONE_BY_ONE = "--heal 0 --broadcasts 100 --sequential --messages"
 PAPERS = {
     "papers-shape": "--nodes 10000 --refill never,alone,always --rounds 0 --heal 0 --runs 3 --csv --shape",
-    "papers-crash-1000": f"--nodes 1000 {_RULES} {_CRASHES} {_ONE_BY_ONE} --runs 5",
+    "papers-crash-1000": f"--nodes 1000 {_RULES} {_CRASHES} {_ONE_BY_ONE} --runs 3",
     "papers-crash-10000": f"--nodes 10000 {_RULES} {_CRASHES} {_ONE_BY_ONE}",
-    "papers-heal": f"--nodes 1000 {_RULES} {_CRASHES} --heal 0,1,2,3,4,5,6,8,10 --runs 5 --csv --shape",
-    "papers-many": f"--nodes 1000 {_RULES} --order random,oldest {_ONE_BY_ONE} --runs 5",
-    "papers-one": f"--nodes 1000 {_RULES} --order random,oldest --sender 1 {_ONE_BY_ONE} --runs 5",
+    "papers-heal": f"--nodes 1000 {_RULES} {_CRASHES} --heal 0,1,2,3,4,6,10 --runs 3 --csv --shape",
+    "papers-many": f"--nodes 1000 {_RULES} --order random,oldest {_ONE_BY_ONE} --runs 3",
+    "papers-one": f"--nodes 1000 {_RULES} --order random,oldest --sender 1 {_ONE_BY_ONE} --runs 3",
 }
 LARGE = ("large-100", "large-1000", "large-10000", "large-100000")
 # The same by each rule at DISCONNECT.
