@@ -17,10 +17,10 @@ def scheme(paper, ink, grid, tones):
         yield f".s{at}.line, .s{at}.bar {{ stroke: {tone} }} .s{at}.dot, .s{at}.said {{ fill: {tone} }}"
 
 
-def style():
+def style(tones):
     """The colours, by the reader's scheme. Plain rules: some drawing programs know no variables."""
-    light = "\n".join(scheme("#ffffff", "#222222", "#dddddd", LIGHT))
-    dark = "\n".join(scheme("#15181c", "#e6e6e6", "#3a3f46", DARK))
+    light = "\n".join(scheme("#ffffff", "#222222", "#dddddd", tones[0]))
+    dark = "\n".join(scheme("#15181c", "#e6e6e6", "#3a3f46", tones[1]))
     return (
         f"<style>\n.line {{ fill: none; stroke-width: 2 }} .bar {{ stroke-width: 1.5 }} .wide {{ stroke-width: 7 }}\n"
         f"{light}\n@media (prefers-color-scheme: dark) {{\n{dark}\n}}\n</style>"
@@ -98,14 +98,14 @@ class Axis:
         return (value - self.least) / (self.largest - self.least)
 
 
-def drawn(*panels):
+def drawn(*panels, tones=(LIGHT, DARK)):
     """A figure."""
     parts = [part for panel in panels for part in panel.parts]
     return "\n".join(
         [
             f'<svg xmlns="http://www.w3.org/2000/svg" viewBox="0 0 {WIDTH} {HEIGHT}" font-family="sans-serif" '
             'font-size="14">',
-            style(),
+            style(tones),
             f'<rect class="paper" width="{WIDTH}" height="{HEIGHT}"/>',
             *parts,
             "</svg>",

@@ -13,15 +13,16 @@ import sys
 sys.path.insert(0, str(pathlib.Path(__file__).resolve().parents[1] / "fuzz"))
 
 from connectivity import Analysis  # noqa: E402
-from nodes import NEVER  # noqa: E402
+from nodes import GOSSIP, GRAFT, IHAVE, NEVER, PRUNE  # noqa: E402
 from options import SEEDS, add_options, options_of  # noqa: E402
 from pcg import Pcg64  # noqa: E402
-from rows import Phase, header, row_of  # noqa: E402
+from rows import Cost, Phase, further_header, further_row, header, message_rows, row_of  # noqa: E402
 from world import Refusal, World  # noqa: E402
 
 WORDS = 64
 # Turns between two births, if --pace does not say how many.
 MOST_TURNS = 1000
+COUNTED = {GOSSIP: "gossip", IHAVE: "ihave", GRAFT: "graft"}
 
 
 class Choices:
@@ -53,14 +54,33 @@ class Growing:
         self.options, self.choices = options, Choices(options.seed)
         self.world = World(options.params(), options.refill)
         self.words, self.lines, self.printed, self.phases = Pcg64(options.seed), [], [], []
-        self.loss, self.is_healing, self.deliveries = options.loss_join, False, 0
+        self.loss, self.are_told, self.deliveries = options.loss_join, False, 0
+        # what was counted of each broadcast, by its origin and number there, and how many PRUNE there were
+        self.costs, self.prunes = {}, 0
 
     def act(self, line, kind, *given):
         """Takes a step, and writes its line."""
+        kept = len(self.world.packets) - (kind == "deliver")
         said = self.world.step(kind, given, [self.words.next() for _ in range(WORDS)])
         self.deliveries += sum(change.startswith("delivered ") for change in said)
+        self.count(said, self.world.packets[kept:] if kind not in ("lose", "repeat") else [])
         self.lines.append(line)
         self.printed.append(" ".join([f"entry {self.world.entries}", *said]))
+
+    def count(self, said, sent):
+        """Counts what a step delivers and sends of broadcasts."""
+        for change in said:
+            kind, *ids = change.split(" ")
+            if kind == "delivered":
+                node, *name = map(int, ids)
+                cost = self.costs.setdefault(tuple(name), Cost(name[0]))
+                cost.delivered += 1
+                cost.hops = max(cost.hops, self.world.nodes[node].held[tuple(name)][1])
+        for _, (kind, _, *fields) in sent:
+            if kind in COUNTED:
+                cost = self.costs[tuple(fields[:2])]
+                setattr(cost, COUNTED[kind], getattr(cost, COUNTED[kind]) + 1)
+            self.prunes += kind == PRUNE
 
     def live(self):
         """The live nodes, by their ids."""
@@ -81,7 +101,7 @@ class Growing:
             self.act(f"repeat {place}", "repeat", place)
         receiver, (_, sender, *_) = packets[place]
         self.act(f"deliver {place}", "deliver", place)
-        if self.is_healing and not self.is_live(receiver) and self.is_live(sender):
+        if self.are_told and not self.is_live(receiver) and self.is_live(sender):
             self.act(f"report {sender} {receiver}", "report", sender, receiver)
 
     def run_out(self):
@@ -112,18 +132,36 @@ class Growing:
                     fired = True
         return fired
 
-    def broadcasts(self):
-        """Broadcasts: how many deliveries there are."""
-        begun, messages = self.deliveries, []
-        for _ in range(self.options.broadcasts):
-            live = self.live()
-            node = live[self.choices.one_of(len(live))]
+    def sender(self):
+        """Who makes the next broadcast."""
+        live, wanted = self.live(), self.options.sender
+        if wanted is None:
+            return live[self.choices.one_of(len(live))]
+        return min(live, key=lambda node: (node < wanted, node))
+
+    def spread(self, count):
+        """So many broadcasts at once, until nothing of them is left: their names."""
+        messages = []
+        for _ in range(count):
+            node = self.sender()
             messages.append((node, self.world.nodes[node].made))
             self.act(f"broadcast {node}", "broadcast", node, b"")
         self.run_out()
         while self.fire(messages):
             self.run_out()
-        return self.deliveries - begun
+        return messages
+
+    def spread_alone(self):
+        """One broadcast, until nothing of it is left: its name."""
+        prunes = self.prunes
+        (name,) = self.spread(1)
+        self.costs[name].prune = self.prunes - prunes
+        return name
+
+    def broadcasts(self):
+        """The broadcasts of a phase: their names."""
+        count = self.options.broadcasts
+        return [self.spread_alone() for _ in range(count)] if self.options.sequential else self.spread(count)
 
     def end_phase(self):
         """The snapshot at the end of a phase, its analysis, and the broadcasts: the analysis."""
@@ -133,7 +171,10 @@ class Growing:
         graph = self.world.moments[moment]
         analysis = Analysis(graph, graph.nodes)
         self.printed.append(analysis.line(moment))
-        self.phases.append(Phase(graph, analysis.fields["k"], moment, self.broadcasts(), self.options.broadcasts))
+        begun, prunes = self.deliveries, self.prunes
+        costs = [self.costs[name] for name in self.broadcasts()]
+        told = self.deliveries - begun, self.options.broadcasts, costs, self.prunes - prunes
+        self.phases.append(Phase(graph, analysis.fields["k"], moment, *told))
         return analysis
 
     def join(self):
@@ -161,6 +202,7 @@ class Growing:
         crashed = cut if self.options.crash_cut else self.choices.order(live)[: len(live) * self.options.crash // 100]
         for node in crashed:
             self.act(f"crash {node}", "crash", node)
+        self.are_told = self.options.detect
         self.end_phase()
 
     def untold(self):
@@ -171,8 +213,8 @@ class Growing:
     def heal(self):
         """The last phase."""
         self.lines.append("# heal")
-        self.is_healing = True
-        while (untold := self.untold()) is not None:
+        self.are_told = True
+        while not self.options.detect and (untold := self.untold()) is not None:
             node, crashed = untold
             self.act(f"report {node} {crashed}", "report", node, crashed)
             self.run_out()
@@ -199,6 +241,8 @@ def main():
     parser = argparse.ArgumentParser(description=__doc__, formatter_class=argparse.RawDescriptionHelpFormatter)
     add_options(parser)
     parser.add_argument("--csv", action="store_true", help="the row of this overlay, in place of its scenario")
+    parser.add_argument("--further", action="store_true", help="its row with what --costs and --shape put behind it")
+    parser.add_argument("--messages", action="store_true", help="a row for each broadcast; this needs --sequential")
     given = parser.parse_args()
     growing = Growing(options_of(parser, given))
     try:
@@ -206,7 +250,14 @@ def main():
     except Refusal as fault:
         print(f"refused {fault}", file=sys.stderr)
         return 1
-    print("\n".join([header(), row_of(growing.options, growing.phases)] if given.csv else lines))
+    told = growing.options, growing.phases
+    if given.csv:
+        lines = [header(), row_of(*told)]
+    if given.further:
+        lines = [further_header(), further_row(*told)]
+    if given.messages:
+        lines = message_rows(*told)
+    print("\n".join(lines))
     return 0
 
 

@@ -16,6 +16,9 @@ struct Options {
     unsigned rounds = 3, crash = 0;
     bool crash_cut = false;
     unsigned heal = 2, broadcasts = 0;
+    bool is_sequential = false;
+    std::optional<Id> sender;
+    bool detects = false;
     // for the study alone, and no option of the tool
     bool reports_at_once = false;
 };
@@ -26,7 +29,14 @@ struct Phase {
     Graph graph;
     std::optional<Connectivity> connectivity;  // if it was asked for
     uint32_t moment;
-    uint64_t deliveries = 0;
+    std::vector<Cost> costs = {};  // of its broadcasts
+    uint64_t prunes = 0;
+
+    uint64_t deliveries() const {
+        uint64_t sum = 0;
+        for (const Cost& cost : costs) sum += cost.delivered;
+        return sum;
+    }
 };
 
 class Choices {
@@ -100,7 +110,7 @@ class Growing {
         Id receiver = world.packets[place].to, sender = world.packets[place].sender;
         world.deliver(place);
         line("deliver", place);
-        if (is_healing && !world.lives(receiver) && world.lives(sender)) report(sender, receiver);
+        if (are_told && !world.lives(receiver) && world.lives(sender)) report(sender, receiver);
     }
 
     void report(Id node, Id crashed) {
@@ -139,17 +149,44 @@ class Growing {
         return fired;
     }
 
-    void broadcasts() {
+    /// Who makes the next broadcast.
+    Id sender(const std::vector<Id>& live) {
+        if (!options.sender) return live[choices.one_of(live.size())];
+        auto at = std::lower_bound(live.begin(), live.end(), *options.sender);
+        return at == live.end() ? live.front() : *at;
+    }
+
+    /// So many broadcasts at once, until nothing of them is left.
+    void spread(unsigned count) {
         first = messages.size();
         std::vector<Id> live = world.live();
-        for (unsigned i = 0; i < options.broadcasts; i++) {
-            Id node = live[choices.one_of(live.size())];
+        for (; count > 0; count--) {
+            Id node = sender(live);
             messages.push_back({node, world.node(node).made});
             world.broadcast(node, messages.size() - 1);
             line("broadcast", node);
         }
         run_out();
         while (fire()) run_out();
+    }
+
+    /// One broadcast.
+    void spread_alone() {
+        uint64_t before = world.tally.prunes;
+        spread(1);
+        world.tally.costs.back().prune = world.tally.prunes - before;
+    }
+
+    /// The broadcasts of a phase: what they cost.
+    void broadcasts(Phase& phase) {
+        size_t made = messages.size();
+        uint64_t before = world.tally.prunes;
+        if (options.is_sequential)
+            for (unsigned count = options.broadcasts; count > 0; count--) spread_alone();
+        else
+            spread(options.broadcasts);
+        phase.costs.assign(world.tally.costs.begin() + made, world.tally.costs.end());
+        phase.prunes = world.tally.prunes - before;
     }
 
     std::optional<Connectivity> connectivity(const Graph& graph) const {
@@ -165,9 +202,7 @@ class Growing {
         Graph graph(world.nodes);
         auto found = connectivity(graph);
         phases.push_back({name, std::move(graph), found, world.entries});
-        uint64_t before = world.deliveries;
-        broadcasts();
-        phases.back().deliveries = world.deliveries - before;
+        broadcasts(phases.back());
         watch(phases.back());
     }
 
@@ -206,6 +241,7 @@ class Growing {
             world.crash(node);
             line("crash", node);
         }
+        are_told = options.detects;
         end_phase("crash");
     }
 
@@ -218,7 +254,14 @@ class Growing {
 
     void heal() {
         comment("heal");
-        is_healing = true;
+        are_told = true;
+        if (!options.detects) report_all();
+        rounds(options.heal);
+        end_phase("heal");
+    }
+
+    /// Whoever holds a crashed node is told.
+    void report_all() {
         // No packet of a crashed node is on its way, so no node comes to hold one, and one walk through the nodes is
         // enough.
         for (Id node : world.live()) {
@@ -228,8 +271,6 @@ class Growing {
             }
         }
         run_out();
-        rounds(options.heal);
-        end_phase("heal");
     }
 
     /// Turns between two births, if the pace is not given.
@@ -244,8 +285,8 @@ class Growing {
     Options options;
     Choices choices;
     uint32_t most_exact;
-    bool keeps_lines, is_healing = false;
+    bool keeps_lines, are_told = false;  // whether senders are told of crashed receivers
     unsigned loss = 0;
     std::vector<Message> messages;
-    size_t first = 0;  // the place of the first broadcast of this phase
+    size_t first = 0;  // the place of the first broadcast of those that are made now
 };

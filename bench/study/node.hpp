@@ -1,8 +1,9 @@
-// One node of an overlay, HyParView and Plumtree, by docs/PROTOCOL.md. What a broadcast carries, and its round, show
-// nowhere in a grown overlay, so they are left out.
+// One node of an overlay, HyParView and Plumtree, by docs/PROTOCOL.md. What a broadcast carries shows nowhere in a
+// grown overlay, so it is left out.
 #pragma once
 #include <algorithm>
 #include <array>
+#include <optional>
 #include <vector>
 
 #include "pcg.hpp"
@@ -10,6 +11,8 @@
 using Id = uint32_t;
 /// No node has this id.
 constexpr Id NOBODY = 0;
+/// A GOSSIP of this round is sent on with the same.
+constexpr uint16_t LAST_ROUND = 65535;
 
 /// When a DISCONNECT from an active member starts an attempt: never, which is the profile's rule, if nobody is active
 /// any more, or always.
@@ -73,15 +76,17 @@ struct Traded {
 struct Packet {
     Id to, sender;
     Kind kind;
-    uint8_t life = 0;   // of FORWARDJOIN and SHUFFLE
-    bool flag = false;  // the high priority of NEIGHBOR, the yes of NEIGHBORREPLY
-    Id subject = 0;     // the new node of FORWARDJOIN, the origin of SHUFFLE, or which broadcast it is
+    uint8_t life = 0;    // of FORWARDJOIN and SHUFFLE
+    bool flag = false;   // the high priority of NEIGHBOR, the yes of NEIGHBORREPLY
+    uint16_t round = 0;  // of GOSSIP
+    Id subject = 0;      // the new node of FORWARDJOIN, the origin of SHUFFLE, or which broadcast it is
     Traded traded = {};
 };
 
 /// What a node keeps of one broadcast.
 struct Kept {
     bool held = false, timer = false;
+    uint16_t round = 0;
     std::vector<Id> notes;
 };
 
@@ -107,8 +112,14 @@ class Step {
     Step(const Params& params, Node& node, Pcg64 words, uint32_t entry, std::vector<Packet>& sends)
         : params(params), node(node), words(words), entry(entry), sends(sends) {}
 
-    /// Whether the step delivers a broadcast.
-    bool delivers = false;
+    /// A broadcast that is delivered, and the hops at which it is.
+    struct Delivery {
+        Id message;
+        uint16_t hops;
+    };
+
+    /// What the step delivers.
+    std::optional<Delivery> delivers;
 
     void boot(Id contact) {
         if (contact != NOBODY) send(contact, Kind::Join);
@@ -134,7 +145,7 @@ class Step {
             case Kind::ShuffleReply:
                 return integrate(packet.traded, node.sent);
             case Kind::Gossip:
-                return on_gossip(packet.sender, packet.subject);
+                return on_gossip(packet);
             case Kind::Ihave:
                 return on_ihave(packet.sender, packet.subject);
             case Kind::Graft:
@@ -170,7 +181,7 @@ class Step {
     void broadcast(Id message) {
         node.made++;
         keeps(message).held = true;
-        delivers = true;
+        delivers = {message, 0};
         spread(message, NOBODY);
     }
 
@@ -358,24 +369,31 @@ class Step {
         if (node.active.has(other)) node.lazy.insert(other);
     }
 
+    void gossip(Id to, Id message) {
+        Packet& packet = send(to, Kind::Gossip);
+        packet.subject = message;
+        packet.round = node.kept[message].round;
+    }
+
     void spread(Id message, Id but) {
         for (Id other : node.active)
-            if (other != but && !node.lazy.has(other)) send(other, Kind::Gossip).subject = message;
+            if (other != but && !node.lazy.has(other)) gossip(other, message);
         for (Id other : node.lazy)
             if (other != but) send(other, Kind::Ihave).subject = message;
     }
 
-    void on_gossip(Id sender, Id message) {
-        Kept& kept = keeps(message);
+    void on_gossip(const Packet& packet) {
+        Kept& kept = keeps(packet.subject);
         if (kept.held) {
-            make_lazy(sender);
-            send(sender, Kind::Prune);
+            make_lazy(packet.sender);
+            send(packet.sender, Kind::Prune);
             return;
         }
-        delivers = true;
-        kept = {true, false, {}};
-        spread(message, sender);
-        node.lazy.remove(sender);
+        kept = {true, false, std::min<uint16_t>(packet.round, LAST_ROUND - 1), {}};
+        kept.round++;
+        delivers = {packet.subject, kept.round};
+        spread(packet.subject, packet.sender);
+        node.lazy.remove(packet.sender);
     }
 
     void on_ihave(Id sender, Id message) {
@@ -387,7 +405,7 @@ class Step {
 
     void on_graft(Id sender, Id message) {
         node.lazy.remove(sender);
-        if (keeps(message).held) send(sender, Kind::Gossip).subject = message;
+        if (keeps(message).held) gossip(sender, message);
     }
 
     const Params& params;

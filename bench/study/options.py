@@ -33,6 +33,9 @@ class Options:
     crash_cut: bool = False
     heal: int = 2
     broadcasts: int = 0
+    sequential: bool = False
+    sender: Optional[int] = None
+    detect: bool = False
 
     def params(self):
         """The numbers among the parameters of nodes, in the order of a line `params`."""
@@ -70,6 +73,7 @@ LIMITS = {
     "crash": (0, 99),
     "heal": (0, 1000),
     "broadcasts": (0, 1000),
+    "sender": (1, 256),
 }
 
 # The words of each option that takes a word.
@@ -93,7 +97,7 @@ def add_options(parser):
     for field in fields(Options):
         place = crash if field.name.startswith("crash") else parser
         name = "--" + field.name.replace("_", "-")
-        if field.name == "crash_cut":
+        if field.default is False:
             place.add_argument(name, action="store_true")
         elif field.name in CHOICES:
             place.add_argument(name, choices=CHOICES[field.name], default=field.default)
@@ -106,4 +110,6 @@ def options_of(parser, given):
     options = Options(**{field.name: getattr(given, field.name) for field in fields(Options)})
     if options.prwl > options.arwl:
         parser.error("--prwl is larger than --arwl")
+    if options.sender is not None and options.sender > options.nodes:
+        parser.error("--sender is larger than --nodes")
     return options

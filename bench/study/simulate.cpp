@@ -11,7 +11,7 @@
 #include <cstring>
 #include <map>
 
-#include "growing.hpp"
+#include "further.hpp"
 
 namespace {
 
@@ -23,7 +23,9 @@ settings are grown, that of the first option of the table varying slowest, each 
 --runs). MODE is one of:
 
   (no mode)    three lines for each overlay, one for each phase, for people
-  --csv        a row for each overlay, as `overlay sweep` has it, with a header
+  --csv        a row for each overlay, as `overlay sweep` has it, with a header; --costs and --shape, which may stand
+               together, put the columns of docs/GROWING.md behind it
+  --messages   a row for each broadcast, with a header; this needs --sequential
   --scenario   the scenario that `overlay grow` prints
   --graph      the settled overlay, as a graph file for `overlay analyse`
   --fates      a row for each overlay, of the settled one: components, and what became of the nodes that are alone
@@ -35,6 +37,7 @@ settings are grown, that of the first option of the table varying slowest, each 
   --exact N    up to N nodes the node connectivity is found exactly (512); beyond that only whether it is 0
 
 What the tool has no option for:
+  --sequential, --sender N, --detect   as docs/GROWING.md says ("Further options"); the tool will have them
   --reports-at-once   all reports come before a packet moves when the overlay begins to heal
 )";
 
@@ -43,28 +46,51 @@ What the tool has no option for:
     exit(2);
 }
 
-enum class Mode { People, Csv, Scenario, Fates, Degrees, Alone, Splits, Graph };
+enum class Mode { People, Csv, Messages, Scenario, Fates, Degrees, Alone, Splits, Graph };
 
 // Options as words: each option of the table, in its order, with the values that it may take.
 
 struct Limits {
     const char* name;
     uint64_t least, most;
+    bool is_further = false;  // it has no column in the rows of `overlay sweep`
 };
 
 constexpr uint64_t ANY = UINT64_MAX;
-constexpr Limits TABLE[] = {{"nodes", 1, 100000000}, {"active", 1, 16}, {"passive", 1, 64},     {"arwl", 0, 15},
-                            {"prwl", 0, 15},         {"ka", 0, 8},      {"kp", 0, 8},           {"ttl", 1, 15},
-                            {"refill", 0, 0},        {"seed", 0, ANY},  {"loss-join", 0, 100},  {"loss", 0, 100},
-                            {"repeat", 0, 99},       {"order", 0, 0},   {"pace", 0, 65536},     {"rounds", 0, 1000},
-                            {"crash", 0, 99},        {"heal", 0, 1000}, {"broadcasts", 0, 1000}};
+constexpr Limits TABLE[] = {{"nodes", 1, 100000000},
+                            {"active", 1, 16},
+                            {"passive", 1, 64},
+                            {"arwl", 0, 15},
+                            {"prwl", 0, 15},
+                            {"ka", 0, 8},
+                            {"kp", 0, 8},
+                            {"ttl", 1, 15},
+                            {"refill", 0, 0},
+                            {"seed", 0, ANY},
+                            {"loss-join", 0, 100},
+                            {"loss", 0, 100},
+                            {"repeat", 0, 99},
+                            {"order", 0, 0},
+                            {"pace", 0, 65536},
+                            {"rounds", 0, 1000},
+                            {"crash", 0, 99},
+                            {"heal", 0, 1000},
+                            {"broadcasts", 0, 1000},
+                            {"sequential", 0, 1, true},
+                            {"sender", 1, 100000000, true},
+                            {"detect", 0, 1, true}};
 
 using Setting = std::map<std::string, std::string>;
 
-const Setting DEFAULTS = {{"nodes", "100"},   {"active", "5"}, {"passive", "30"}, {"arwl", "6"},       {"prwl", "3"},
-                          {"ka", "3"},        {"kp", "4"},     {"ttl", "4"},      {"refill", "never"}, {"seed", "0"},
-                          {"loss-join", "0"}, {"loss", "0"},   {"repeat", "0"},   {"order", "random"}, {"pace", ""},
-                          {"rounds", "3"},    {"crash", "0"},  {"heal", "2"},     {"broadcasts", "0"}};
+const Setting DEFAULTS = {
+    {"nodes", "100"},    {"active", "5"},     {"passive", "30"},   {"arwl", "6"},   {"prwl", "3"},      {"ka", "3"},
+    {"kp", "4"},         {"ttl", "4"},        {"refill", "never"}, {"seed", "0"},   {"loss-join", "0"}, {"loss", "0"},
+    {"repeat", "0"},     {"order", "random"}, {"pace", ""},        {"rounds", "3"}, {"crash", "0"},     {"heal", "2"},
+    {"broadcasts", "0"}, {"sequential", "0"}, {"sender", ""},      {"detect", "0"}};
+
+/// Options that are said by their name alone, and what is then said: of which option which value.
+const std::map<std::string, std::pair<const char*, const char*>> FLAGS = {
+    {"crash-cut", {"crash", "cut"}}, {"sequential", {"sequential", "1"}}, {"detect", {"detect", "1"}}};
 
 const std::map<std::string, Refill> REFILLS = {
     {"never", Refill::Never}, {"alone", Refill::Alone}, {"always", Refill::Always}};
@@ -123,6 +149,10 @@ Options options_of(Setting said) {
     if (!options.crash_cut) options.crash = as_number("crash");
     options.heal = as_number("heal");
     options.broadcasts = as_number("broadcasts");
+    options.is_sequential = said["sequential"] == "1";
+    if (!said["sender"].empty()) options.sender = as_number("sender");
+    if (options.sender > options.nodes) refuse("--sender is larger than --nodes");
+    options.detects = said["detect"] == "1";
     return options;
 }
 
@@ -131,54 +161,68 @@ std::string heading(const Setting& said) {
     for (const Limits& option : TABLE) {
         const std::string& value = said.at(option.name);
         if (value == DEFAULTS.at(option.name)) continue;
-        text += value == "cut" ? " --crash-cut" : std::string(" --") + option.name + " " + value;
+        auto flag = std::find_if(FLAGS.begin(), FLAGS.end(), [&](auto& it) {
+            return it.second.first == std::string(option.name) && it.second.second == value;
+        });
+        text += " --" + (flag != FLAGS.end() ? flag->first : option.name + (" " + value));
     }
     return text;
 }
 
 // What is printed.
 
-const char* const PHASES[] = {"settle", "crash", "heal"};
-
 std::string fields(const Setting& said) {
     std::string text;
     for (const Limits& option : TABLE)
-        if (strcmp(option.name, "seed") != 0) text += said.at(option.name) + ",";
+        if (strcmp(option.name, "seed") != 0 && !option.is_further) text += said.at(option.name) + ",";
     return text + said.at("seed");
+}
+
+std::string further_fields(const Setting& said) {
+    std::string text;
+    for (const Limits& option : TABLE)
+        if (option.is_further) text += "," + said.at(option.name);
+    return text;
 }
 
 std::string field_names() {
     std::string text;
     for (const Limits& option : TABLE)
-        if (strcmp(option.name, "seed") != 0) text += std::string(option.name) + ",";
+        if (strcmp(option.name, "seed") != 0 && !option.is_further) text += std::string(option.name) + ",";
     text += "seed";
     std::replace(text.begin(), text.end(), '-', '_');
     return text;
 }
 
-void print_csv_header() {
+std::string further_names() {
+    std::string text;
+    for (const Limits& option : TABLE)
+        if (option.is_further) text += std::string(",") + option.name;
+    return text;
+}
+
+void print_csv_header(Further further) {
     printf("%s", field_names().c_str());
-    for (const char* phase : PHASES)
-        for (const char* figure : {"nodes", "k", "least_degree", "links", "entries", "delivered"})
-            printf(",%s_%s", phase, figure);
+    print_names(std::array{"nodes", "k", "least_degree", "links", "entries", "delivered"});
+    if (further.any()) printf("%s", further_names().c_str());
+    further.print_header();
     printf("\n");
 }
 
 std::string delivered(const Phase& phase, unsigned broadcasts) {
     if (broadcasts == 0) return "";
-    uint64_t share = phase.deliveries * 10000 / (broadcasts * phase.graph.size());
-    char text[32];
-    snprintf(text, sizeof text, "%lu.%04lu", share / 10000, share % 10000);
-    return text;
+    return decimal(phase.deliveries() * PARTS / (broadcasts * phase.graph.size()));
 }
 
 std::string exact(const Phase& phase) { return phase.connectivity ? std::to_string(phase.connectivity->k) : ""; }
 
-void print_csv(const Setting& said, const Options& options, const Growing& grown) {
+void print_csv(const Setting& said, const Options& options, const Growing& grown, Further further) {
     printf("%s", fields(said).c_str());
     for (const Phase& phase : grown.phases)
         printf(",%zu,%s,%zu,%zu,%u,%s", phase.graph.size(), exact(phase).c_str(), phase.graph.least_degree(),
                phase.graph.links(), phase.moment, delivered(phase, options.broadcasts).c_str());
+    if (further.any()) printf("%s", further_fields(said).c_str());
+    further.print(grown.phases);
     printf("\n");
 }
 
@@ -314,6 +358,7 @@ struct Request {
     uint64_t runs = 1, exact = 512;
     Mode mode = Mode::People;
     bool reports_at_once = false;
+    Further further;
 };
 
 void run(const Request& request, const Setting& said) {
@@ -332,7 +377,9 @@ void run(const Request& request, const Setting& said) {
     Splits splits;
     if (request.mode == Mode::Splits) growing.watch_birth = [&] { splits.look(said, Graph(growing.world.nodes)); };
     growing.grow();
-    if (request.mode == Mode::Csv) print_csv(said, options, growing);
+    if (request.mode == Mode::Csv) print_csv(said, options, growing, request.further);
+    if (request.mode == Mode::Messages)
+        for (const Phase& phase : growing.phases) print_messages(fields(said) + further_fields(said), phase);
     if (request.mode == Mode::Scenario) {
         const Params& p = options.params;
         std::string rule = p.refill == Refill::Never ? "" : "refill " + said.at("refill") + "\n";
@@ -370,16 +417,16 @@ int run_all(const Request& request, Setting said, size_t option) {
 Request request_of(int count, char** words) {
     Request request;
     const std::map<std::string, Mode> modes = {
-        {"csv", Mode::Csv},     {"scenario", Mode::Scenario}, {"fates", Mode::Fates}, {"degrees", Mode::Degrees},
-        {"alone", Mode::Alone}, {"splits", Mode::Splits},     {"graph", Mode::Graph}};
+        {"csv", Mode::Csv},         {"messages", Mode::Messages}, {"scenario", Mode::Scenario}, {"fates", Mode::Fates},
+        {"degrees", Mode::Degrees}, {"alone", Mode::Alone},       {"splits", Mode::Splits},     {"graph", Mode::Graph}};
     for (int at = 1; at < count; at++) {
         std::string word = words[at], name = word.substr(0, 2) == "--" ? word.substr(2) : "";
         auto next = [&] { return ++at < count ? std::string(words[at]) : (refuse(word + " lacks its value"), ""); };
         auto option = std::find_if(std::begin(TABLE), std::end(TABLE), [&](auto& it) { return name == it.name; });
-        if (option != std::end(TABLE)) {
+        if (FLAGS.count(name)) {
+            request.lists[FLAGS.at(name).first].push_back(FLAGS.at(name).second);
+        } else if (option != std::end(TABLE)) {
             for (const std::string& part : split(next())) request.lists[name].push_back(value_of(*option, part));
-        } else if (name == "crash-cut") {
-            request.lists["crash"].push_back("cut");
         } else if (name == "runs") {
             request.runs = number(name, next());
         } else if (name == "exact") {
@@ -388,10 +435,16 @@ Request request_of(int count, char** words) {
             request.mode = modes.at(name);
         } else if (name == "reports-at-once") {
             request.reports_at_once = true;
+        } else if (name == "costs") {
+            request.further.costs = true;
+        } else if (name == "shape") {
+            request.further.shape = true;
         } else {
             refuse("no option " + word);
         }
     }
+    if (request.mode == Mode::Messages && !request.lists.count("sequential")) refuse("--messages needs --sequential");
+    if (request.mode != Mode::Csv && request.further.any()) refuse("--costs and --shape need --csv");
     return request;
 }
 
@@ -399,7 +452,9 @@ Request request_of(int count, char** words) {
 
 int main(int count, char** words) {
     Request request = request_of(count, words);
-    if (request.mode == Mode::Csv) print_csv_header();
+    if (request.mode == Mode::Csv) print_csv_header(request.further);
+    if (request.mode == Mode::Messages)
+        printf("%s%s,%s\n", field_names().c_str(), further_names().c_str(), MESSAGE_COLUMNS);
     if (request.mode == Mode::Fates) print_fates_header();
     if (request.mode == Mode::Splits) Splits::print_header();
     if (request.mode == Mode::Degrees) {

@@ -42,6 +42,18 @@ SIMULATED = {
     "always-100000": "--nodes 100000 --active 3,4,5,6 --refill always --rounds 0 --heal 0 --runs 3 --fates",
     "at-once": "--nodes 50,100,200 --active 5,8 --crash 20 --runs 500 --csv --reports-at-once",
 }
+# Rows of docs/PAPERS.md, of `simulate` alone.
+_RULES = "--refill never,alone,always --rounds 10"
+_CRASHES = "--crash 10,20,30,40,50,60,70,80,90,95 --detect"
+_ONE_BY_ONE = "--heal 0 --broadcasts 100 --sequential --messages"
+PAPERS = {
+    "papers-shape": "--nodes 10000 --refill never,alone,always --rounds 0 --heal 0 --runs 3 --csv --shape",
+    "papers-crash-1000": f"--nodes 1000 {_RULES} {_CRASHES} {_ONE_BY_ONE} --runs 3",
+    "papers-crash-10000": f"--nodes 10000 {_RULES} {_CRASHES} {_ONE_BY_ONE}",
+    "papers-heal": f"--nodes 1000 {_RULES} {_CRASHES} --heal 0,1,2,3,4,6,10 --runs 3 --csv --shape",
+    "papers-many": f"--nodes 1000 {_RULES} --order random,oldest {_ONE_BY_ONE} --runs 3",
+    "papers-one": f"--nodes 1000 {_RULES} --order random,oldest --sender 1 {_ONE_BY_ONE} --runs 3",
+}
 LARGE = ("large-100", "large-1000", "large-10000", "large-100000")
 # The same by each rule at DISCONNECT.
 LARGE_BY = {
@@ -57,8 +69,8 @@ def make(name, simulate, overlay, workers):
     if path.exists():
         return
     ROWS.mkdir(exist_ok=True)
-    if name in SIMULATED:
-        words = [simulate, *SIMULATED[name].split()]
+    if name in SIMULATED or name in PAPERS:
+        words = [simulate, *(SIMULATED | PAPERS)[name].split()]
     elif overlay:
         words = [overlay, "sweep", *SWEEPS[name].split(), "--workers", str(workers)]
     else:

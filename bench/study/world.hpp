@@ -3,6 +3,7 @@
 #pragma once
 #include <stdexcept>
 
+#include "costs.hpp"
 #include "packets.hpp"
 
 /// A step that the tool's world would refuse, by its number (docs/FAULTS.md).
@@ -24,7 +25,7 @@ class World {
     std::vector<Node> nodes;  // the node of id N is at place N - 1
     Packets packets;
     uint32_t entries = 0;
-    uint64_t deliveries = 0;
+    Tally tally;
 
     Node& node(Id id) { return nodes[id - 1]; }
     bool lives(Id id) const { return nodes[id - 1].lives; }
@@ -65,6 +66,7 @@ class World {
         act(id, begin(true), [](Step& step) { step.shuffle(); });
     }
     void broadcast(Id id, Id message) {
+        tally.begin(id);
         act(id, begin(true), [&](Step& step) { step.broadcast(message); });
     }
     void timer(Id id, Id message) {
@@ -86,8 +88,11 @@ class World {
         sends.clear();
         Step step(params, node(id), drawn, entries, sends);
         deed(step);
-        deliveries += step.delivers;
-        for (const Packet& packet : sends) packets.push(packet);
+        if (step.delivers) tally.deliver(step.delivers->message, step.delivers->hops);
+        for (const Packet& packet : sends) {
+            tally.send(packet);
+            packets.push(packet);
+        }
     }
 
     Params params;

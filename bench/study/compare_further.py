@@ -1,0 +1,114 @@
+#!/usr/bin/env python3
+"""compare_further.py [--simulate PROGRAM] [--networkx] [--overlay PROGRAM] [--count N] [--first SEED]: grows N overlays
+with options drawn at random, --sequential, --sender and --detect among them, and holds others against grow.py:
+
+  --simulate  this simulation prints the same scenario, the same row, with and without further columns, and the same row
+              of each broadcast
+  --networkx  networkx finds the same largest component, clustering, paths and diameter after each phase
+  --overlay   the scenario, run strictly by this program, prints event for event what growing saw
+
+It ends with status 1 at the first difference. The same seeds give the same options.
+"""
+
+import argparse
+import random
+import sys
+from collections import Counter
+from fractions import Fraction
+
+from compare import drawn, first_difference, run
+from grow import Growing
+from rows import further_header, further_row, header, message_rows, row_of
+from shapes import clustering, largest, paths
+from world import Refusal
+
+
+def drawn_further(seed):
+    """Options, drawn at random: those of compare.py, and further ones."""
+    options, draw = drawn(seed), random.Random(f"further {seed}")
+    options.sequential, options.detect = draw.random() < 0.7, draw.random() < 0.7
+    options.sender = draw.choice([None, draw.randint(1, options.nodes)])
+    options.broadcasts = draw.choice([0, 1, draw.randint(2, 6), draw.randint(2, 20)])
+    return options
+
+
+def by_simulate(simulate, growing, words, scenario):
+    """What a simulation is asked for, and how it differs, in words."""
+    told = growing.options, growing.phases
+    asked = {
+        "--scenario": scenario,
+        "--csv": "\n".join([header(), row_of(*told), ""]),
+        "--csv --costs --shape": "\n".join([further_header(), further_row(*told), ""]),
+    }
+    if growing.options.sequential:
+        asked["--messages"] = "\n".join([*message_rows(*told), ""])
+    for mode, text in asked.items():
+        yield f"simulate {mode}", first_difference(text, run(simulate, [*words, *mode.split()])[1])
+
+
+def by_networkx(neighbours):
+    """The largest component, the clustering coefficient, the mean path and the diameter that networkx finds."""
+    import networkx
+
+    graph = networkx.Graph(neighbours)
+    triangles, total = networkx.triangles(graph), Fraction(0)
+    for node, degree in graph.degree:
+        total += Fraction(2 * triangles[node], degree * (degree - 1)) if degree > 1 else 0
+    component = max(networkx.connected_components(graph), key=lambda some: (len(some), -min(some)))
+    part = graph.subgraph(component)
+    steps = sum(sum(found.values()) for _, found in networkx.all_pairs_shortest_path_length(part))
+    pairs = len(part) * (len(part) - 1)
+    path = Fraction(steps, pairs) if pairs else None
+    return sorted(component), total / len(graph), path, networkx.diameter(part)
+
+
+def shape_difference(neighbours):
+    """How the shape differs from that which networkx finds, in words."""
+    component = largest(neighbours)
+    here, there = (component, clustering(neighbours), *paths(neighbours, component)), by_networkx(neighbours)
+    return None if here == there else f"{here} and {there}"
+
+
+def differences(given, options):
+    """What is compared, and how it differs, in words."""
+    growing, words = Growing(options), options.heading().split(" ")[2:]
+    try:
+        scenario = "\n".join([*growing.grow(), ""])
+    except Refusal as fault:
+        if given.simulate:
+            is_refused = run(given.simulate, [*words, "--scenario"]) == (1, "")
+            yield "simulate, refused", None if is_refused else f"it does not refuse as grow.py does: {fault}"
+        return
+    if given.simulate:
+        yield from by_simulate(given.simulate, growing, words, scenario)
+    if given.networkx:
+        for phase in growing.phases:
+            yield "networkx", shape_difference(phase.graph.neighbours)
+    if given.overlay:
+        status, printed = run(given.overlay, ["run", "--strict"], scenario.encode())
+        seen = "\n".join([*growing.printed, ""])
+        yield "overlay run", first_difference(seen, printed) or (f"the status is {status}" if status else None)
+
+
+def main():
+    parser = argparse.ArgumentParser(description=__doc__, formatter_class=argparse.RawDescriptionHelpFormatter)
+    parser.add_argument("--simulate")
+    parser.add_argument("--networkx", action="store_true")
+    parser.add_argument("--overlay")
+    parser.add_argument("--count", type=int, default=50)
+    parser.add_argument("--first", type=int, default=0)
+    given = parser.parse_args()
+    held = Counter()
+    for seed in range(given.first, given.first + given.count):
+        options = drawn_further(seed)
+        for where, difference in differences(given, options):
+            held[where] += 1
+            if difference:
+                print(f"{options.heading()}\n{where}: {difference}")
+                return 1
+    print(", ".join(f"{count} times {where}" for where, count in held.items()), "agreed")
+    return 0
+
+
+if __name__ == "__main__":
+    sys.exit(main())

@@ -1,0 +1,79 @@
+// The shape of a graph, by docs/GROWING.md ("The shape of an overlay"). Nothing is rounded before the end.
+#pragma once
+#include "connectivity.hpp"
+#include "costs.hpp"
+
+class Shape {
+  public:
+    size_t largest = 0, diameter = 0;
+    uint64_t clustering = 0;       // in parts
+    std::optional<uint64_t> path;  // in parts, if two nodes are in the largest component
+    std::array<size_t, 3> quartiles;
+
+    explicit Shape(const Graph& graph) : graph(graph) {
+        clustering = clustering_of_all();
+        find_largest();
+        uint64_t total = 0;
+        for (size_t first = 0; first < largest; first += EACH) total += steps_from(first);
+        if (largest > 1) path = total * PARTS / (largest * (largest - 1));
+        find_quartiles();
+    }
+
+  private:
+    /// The least number that the pairs of up to 16 neighbours divide, however many neighbours there are.
+    static constexpr uint64_t COMMON = 360360;
+    /// So many nodes are walked from at once, one for each bit of a word.
+    static constexpr size_t EACH = 64;
+
+    uint64_t clustering_of_all() const {
+        uint64_t total = 0;
+        for (auto& row : graph.neighbours) {
+            uint64_t linked = 0, pairs = row.size() * (row.size() - 1) / 2;
+            for (size_t one = 0; one < row.size(); one++)
+                for (size_t two = 0; two < one; two++) linked += graph.are_linked(row[one], row[two]);
+            if (row.size() > 1) total += linked * (COMMON / pairs);
+        }
+        return total * PARTS / (COMMON * graph.size());
+    }
+
+    void find_largest() {
+        auto sizes = graph.components();
+        auto of_each = graph.component_of_each();
+        auto found = std::max_element(sizes.begin(), sizes.end());  // the first of the largest ones
+        largest = *found;
+        for (uint32_t node = 0; node < graph.size(); node++)
+            if (of_each[node] == found - sizes.begin()) members.push_back(node);
+    }
+
+    /// The sum of the steps from up to 64 members of the largest component to all others.
+    uint64_t steps_from(size_t first) {
+        std::vector<uint64_t> seen(graph.size()), front(graph.size()), next(graph.size());
+        for (size_t at = first; at < std::min(first + EACH, largest); at++)
+            seen[members[at]] = front[members[at]] = uint64_t{1} << (at - first);
+        uint64_t total = 0, reached = 1;
+        for (uint64_t steps = 1; reached > 0; steps++) {
+            reached = 0;
+            for (uint32_t node : members) {
+                uint64_t comes = 0;
+                for (uint32_t other : graph.neighbours[node]) comes |= front[other];
+                next[node] = comes & ~seen[node];
+                seen[node] |= comes;
+                reached += __builtin_popcountll(next[node]);
+            }
+            total += steps * reached;
+            if (reached > 0) diameter = std::max<size_t>(diameter, steps);
+            std::swap(front, next);
+        }
+        return total;
+    }
+
+    void find_quartiles() {
+        std::vector<size_t> degrees;
+        for (auto& row : graph.neighbours) degrees.push_back(row.size());
+        std::sort(degrees.begin(), degrees.end());
+        for (size_t part = 1; part <= 3; part++) quartiles[part - 1] = degrees[(part * degrees.size() + 3) / 4 - 1];
+    }
+
+    const Graph& graph;
+    std::vector<uint32_t> members;  // of the largest component
+};

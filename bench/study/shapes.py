@@ -1,0 +1,49 @@
+"""The shape of a graph, by docs/GROWING.md ("The shape of an overlay") alone: exact fractions, and no rounding."""
+
+from fractions import Fraction
+from itertools import combinations
+
+
+def clustering(neighbours):
+    """The mean, over all nodes, of the share of the pairs of its neighbours that are linked."""
+    total = Fraction(0)
+    for others in neighbours.values():
+        pairs = list(combinations(others, 2))
+        if pairs:
+            total += Fraction(sum(two in neighbours[one] for one, two in pairs), len(pairs))
+    return total / len(neighbours)
+
+
+def steps_from(neighbours, node):
+    """How many steps it takes from a node to each that it reaches."""
+    found, front = {node: 0}, [node]
+    for one in front:
+        for other in neighbours[one]:
+            if other not in found:
+                found[other] = found[one] + 1
+                front.append(other)
+    return found
+
+
+def largest(neighbours):
+    """The largest component; of several the one with the smallest id."""
+    left, found = set(neighbours), []
+    for node in sorted(neighbours):
+        if node in left:
+            some = sorted(steps_from(neighbours, node))
+            left.difference_update(some)
+            found = some if len(some) > len(found) else found
+    return found
+
+
+def paths(neighbours, component):
+    """The mean length of shortest paths within a component, or None if it has one node; and its diameter."""
+    steps = [count for node in component for count in steps_from(neighbours, node).values()]
+    pairs = len(component) * (len(component) - 1)
+    return Fraction(sum(steps), pairs) if pairs else None, max(steps)
+
+
+def quartiles(neighbours):
+    """The degrees at a quarter, at half and at three quarters of all."""
+    degrees = sorted(map(len, neighbours.values()))
+    return [degrees[-(-part * len(degrees) // 4) - 1] for part in (1, 2, 3)]
