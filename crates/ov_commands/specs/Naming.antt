@@ -32,6 +32,11 @@ list_text bytes = drop 1 (flat_map (λ line. 44 ∷ line.1) (kept_lines bytes))
 abbrev pub NamesFile : List ℕ → Type 0
 NamesFile argument = (path : List ℕ) × (argument ≡ 64 ∷ path)
 
+-- an argument is given, and it names the file of a list
+abbrev pub NamesFileGiven : Option (List ℕ) → Type 0
+NamesFileGiven None = ⊥
+NamesFileGiven (Some argument) = NamesFile argument
+
 -- the text of the list that an argument gives: the argument itself, or the list in the bytes of the file that it names
 abbrev pub IsListText : List ℕ → List ℕ → Type 0
 IsListText argument text =

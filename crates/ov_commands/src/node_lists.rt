@@ -1,6 +1,7 @@
 //! Lists of nodes that an analysis is asked for, as texts: in the command line, or in files.
-ghost use Rattle.std.specs.Prelude.{◌≡◌, ◌↔◌, ℕ, List, [], drop, option_map, string_bytes, IfOk, IsTrue, None, Some};
-ghost use Rattle.ov_commands.specs.Naming.{list_text, NamesFile, IsListGiven, IsGoneGiven};
+ghost use Rattle.std.specs.Prelude.{◌≡◌, ◌↔◌, ℕ, List, [], ◌∷◌, drop, option_map, string_bytes, IfOk, IsTrue, MatchOption};
+ghost use Rattle.std.specs.Prelude.{None, Some, Ok};
+ghost use Rattle.ov_commands.specs.Naming.{list_text, NamesFile, NamesFileGiven, IsListText, IsListGiven, IsGoneGiven};
 
 use ov_arguments::AnalysisRequest;
 use ov_lines::KeptLines;
@@ -70,12 +71,19 @@ fn is_empty(text: &Option<Vec<u8>>) -> bool
 
 /// Whether an argument names the file of a list.
 fn is_in_file(argument: Option<&str>) -> bool
-    ensures { IsTrue result ↔ ((a : List ℕ) × (option_map (λ t. t.now) argument ≡ Some a) × NamesFile a) }
+    ensures { IsTrue result ↔ NamesFileGiven (option_map (λ t. t.now) argument.entry) }
 {
     match argument {
-        Some(argument) => argument.starts_with(FILE),
+        Some(argument) => path_in(argument).is_some(),
         None => false,
     }
+}
+
+/// The path of the file that an argument names, if it names one.
+fn path_in(argument: &str) -> Option<&str>
+    ensures { MatchOption result (¬ NamesFile argument.now) (λ path. argument.now ≡ 64 ∷ path.now) }
+{
+    argument.strip_prefix(FILE)
 }
 
 /// The text of a list, if an argument gives one: the argument itself, or what is in the file that it names.
@@ -83,15 +91,46 @@ fn text_given(rt: &HostRuntime, argument: Option<&str>) -> Result<Option<Vec<u8>
     ensures { IfOk result (λ text. IsListGiven (option_map (λ t. t.now) argument.entry)
         (option_map (λ t. t.items) text)) }
 {
-    let Some(argument) = argument else {
-        return Ok(None);
-    };
-    let text = match argument.strip_prefix(FILE) {
-        Some(path) => list_text(rt.alloc(), &bytes_of_file(rt, path)?),
-        None => Vec::from_slice(rt.alloc(), argument.as_bytes()),
-    };
+    match argument {
+        Some(argument) => {
+            let text = text_of(rt, argument)?;
+            Ok(Some(text))
+        }
+        None => Ok(None),
+    }
+}
+
+/// The text of the list that an argument gives.
+fn text_of(rt: &HostRuntime, argument: &str) -> Result<Vec<u8>, RunFault>
+    ensures { IfOk result (λ text. IsListText argument.now text.items) }
+{
+    match path_in(argument) {
+        Some(path) => {
+            let text = text_in_file(rt, path)?;
+            Ok(text)
+        }
+        None => {
+            let text = made(rt, Vec::from_slice(rt.alloc(), argument.as_bytes()))?;
+            Ok(text)
+        }
+    }
+}
+
+/// The text of the list in the file of this name.
+fn text_in_file(rt: &HostRuntime, path: &str) -> Result<Vec<u8>, RunFault>
+    ensures { IfOk result (λ text. (bytes : List ℕ) × (text.items ≡ list_text bytes)) }
+{
+    let bytes = bytes_of_file(rt, path)?;
+    let text = made(rt, list_text(rt.alloc(), &bytes))?;
+    Ok(text)
+}
+
+/// A text that was made, unless memory ran out.
+fn made(rt: &HostRuntime, text: Result<Vec<u8>, AllocError>) -> Result<Vec<u8>, RunFault>
+    ensures { IfOk result (λ v. text ≡ Ok v) }
+{
     match text {
-        Ok(text) => Ok(Some(text)),
+        Ok(text) => Ok(text),
         Err(AllocError) => Err(without_memory(rt)),
     }
 }
