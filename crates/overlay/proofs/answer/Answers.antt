@@ -9,5 +9,5 @@ pub returns-in-Ok-clause-status : goal.returns-in-Ok-clause-status
 returns-in-Ok-clause-status g c =
     let arguments = map (λ argument. string_bytes argument) c.args.arguments.now in
     let request = c.in-Ok.request in
-    IfOk-weaker c.do_asked.result (IsStatusOf request) (IsStatusGiven arguments)
-    (λ status is. status_given arguments request status c.in-Ok.ensures.given is) c.do_asked.ensures.status
+    IfOk-weaker c.do_asked-done.result (IsStatusOf request) (IsStatusGiven arguments)
+    (λ status is. status_given arguments request status c.in-Ok.ensures.given is) c.do_asked-done.ensures.status
