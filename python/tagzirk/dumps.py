@@ -183,7 +183,9 @@ def dump_of(
             except (BadDump, LibraryMissing) as other:
                 raise Refused(why.number, why.line, f"{why.reason}\n{other}") from None
     notes += notes_on(views, name)
-    return imported(json.dumps(views.value).encode(), name, ["--views", *options.words], notes, overlay)
+    # YAML has names that are dates
+    said = json.dumps({str(host): listed for host, listed in views.value.items()}, default=str)
+    return imported(said.encode(), name, ["--views", *options.words], notes, overlay)
 
 
 def imported(data: bytes, name: str, words: Sequence[str], notes: Sequence[str], overlay: Optional[Program]) -> Dump:

@@ -56,7 +56,7 @@ def in_words(why: Exception) -> str:
         return "\n".join([f"{first} ({why.line})", *rest])
     if isinstance(why, OSError) and why.strerror:
         return f"{why.filename}: {why.strerror}" if why.filename else why.strerror
-    return str(why)
+    return str(why) if isinstance(why, (TagzirkError, OSError)) else f"{type(why).__name__}: {why}"
 
 
 class NotConfirmed(TagzirkError):

@@ -94,12 +94,15 @@ def json_of(text: str) -> Any:
             if not is_json(line):
                 raise BadDump(f"line {at} is no JSON, and the first line is") from why
         return [json.loads(line, object_pairs_hook=no_twice) for _, line in numbered]
+    except ValueError as why:
+        # of a number with more digits than Python reads
+        raise BadDump(f"its JSON can't be read: {why}") from None
 
 
 def is_json(text: str) -> bool:
     try:
         json.loads(text)
-    except (json.JSONDecodeError, RecursionError):
+    except (ValueError, RecursionError):
         return False
     return True
 

@@ -8,7 +8,7 @@ from dataclasses import dataclass, field
 from typing import Dict, List, Optional, Sequence, Tuple
 
 from .dumps import Options, read_dump
-from .errors import TagzirkError, in_words
+from .errors import in_words
 from .graphs import shown
 from .programs import Program
 from .reports import analysed
@@ -106,7 +106,8 @@ def metrics(
         dump = read_dump(places, options, overlay=overlay)
         graph = dump.graph
         report = analysed(graph, overlay=overlay, overlay_check=overlay_check)
-    except (TagzirkError, OSError) as why:
+    except Exception as why:
+        # whatever a dump does, an alarm must hear of it
         return Metrics(values, fault=in_words(why))
     values.update(
         tagzirk_dump_read=1.0,

@@ -10,7 +10,7 @@ from dataclasses import dataclass, field
 from typing import IO, Any, Dict, List, Optional, Sequence, Tuple
 
 from .dumps import Options, read_dump
-from .errors import LibraryMissing, TagzirkError, in_words
+from .errors import LibraryMissing, in_words
 from .graphs import shown
 from .programs import Program
 from .progress import Progress, each_at_once, processors
@@ -116,7 +116,8 @@ def history(
             # a dump that says what an earlier one said is not analysed again
             report = answers.get(dump.graph_file) or analysed(graph, overlay=overlay, overlay_check=overlay_check)
             answers[dump.graph_file] = report
-        except (TagzirkError, OSError) as why:
+        except Exception as why:
+            # a moment that can't be read is a row too
             return Moment(time, file, fault=in_words(why))
         return Moment(
             time, file, len(graph.ids), len(graph.links), report.k, report.cut, dump.one_sided, dump.without_entry

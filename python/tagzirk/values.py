@@ -137,7 +137,9 @@ def views_of(value: Any, by: Optional[str] = None) -> Views:
 
 def of_object(value: Dict[str, Any], by: Optional[str]) -> Views:
     if value.get("type") == "NetworkCollection":
-        graphs = [it for it in value.get("collection", []) if it.get("type") == "NetworkGraph"]
+        collection = value.get("collection")
+        listed = collection if isinstance(collection, list) else []
+        graphs = [it for it in listed if isinstance(it, dict) and it.get("type") == "NetworkGraph"]
         if len(graphs) != 1:
             raise BadDump(f"the collection has {len(graphs)} graphs: give a file of one")
         return of_object(graphs[0], by)

@@ -339,15 +339,13 @@ class Pages(Commands):
 
     def test_each_piece_has_a_colour(self):
         out, _, _ = self.tagzirk("report", given="a b\nc d\nd e\nf g\ng h\nh i\n")
-        circles = re.findall(r'<circle class="(\S+)(?: t-piece-(\d))?"[^>]*><title>node \d \(\S+\): (\w)<', out)
+        circles = re.findall(r'<circle class="(\S+) c(\d)"[^>]*><title>node \d \(\S+\): (\w)<', out)
         colours = {}
         for _, colour, name in circles:
             colours.setdefault(colour, set()).add(name)
-        # near is on the side without a class, and the largest other piece comes first
-        sizes = sorted((colour, len(names)) for colour, names in colours.items())
-        self.assertEqual([colour for colour, _ in sizes], ["", "1", "2"])
+        # near's piece has the first colour, and that of far the second
+        self.assertEqual(sorted(colours), ["0", "1", "2"])
         self.assertEqual({frozenset(it) for it in colours.values()}, {frozenset(it) for it in ("ab", "cde", "fghi")})
-        self.assertGreater(len(colours["1"]), len(colours["2"]))
         self.assertIn("3 pieces", out)
 
     def test_names_are_text(self):
