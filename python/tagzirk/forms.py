@@ -86,6 +86,8 @@ def json_of(text: str) -> Any:
         return json.loads(text, object_pairs_hook=no_twice)
     except RecursionError:
         raise BadDump("its JSON is nested too deep") from None
+    except Twice:
+        raise
     except json.JSONDecodeError as why:
         numbered = [(at, line) for at, line in enumerate(text.split("\n"), 1) if line.strip()]
         if len(numbered) < 2 or not is_json(numbered[0][1]):
