@@ -5,6 +5,7 @@ import ctypes
 import os
 import pathlib
 import re
+import shutil
 import signal
 import subprocess
 import time
@@ -48,6 +49,11 @@ def checks_at_once():
 def gate_environment():
     """The environment in which `rt ci` runs as many checks side by side, unless RT_JOBS says how many."""
     return {"RT_JOBS": str(checks_at_once()), **os.environ}
+
+
+def kit_folder():
+    """Where the kit is."""
+    return pathlib.Path(shutil.which("rt")).resolve().parents[1]
 
 
 def ci_takes_words():
@@ -127,6 +133,16 @@ def end_session(session):
             except ProcessLookupError:
                 pass
         time.sleep(0.05)
+
+
+def take_over(room, name, begun):
+    """Moves a program from the copy to its place. It is as old as the sources that it was made from."""
+    out = ROOT / "crates" / name / "out"
+    out.mkdir(exist_ok=True)
+    shutil.copy(room / "crates" / name / "out" / name, out / f"{name}.part")
+    os.utime(out / f"{name}.part", (begun, begun))
+    os.replace(out / f"{name}.part", out / name)
+    (out / f"{name}.by-rattle").unlink(missing_ok=True)
 
 
 def git_folder():
