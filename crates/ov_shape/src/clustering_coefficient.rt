@@ -35,10 +35,11 @@ fn coefficient(graph: &Graph, place: usize) -> usize
 {
     let row = graph.row_at(place);
     let degree = count(row, graph.words());
+    let linked = linked_pairs(graph, row);
     if degree < 2 {
         return 0;
     }
-    linked_pairs(graph, row) * MILLION / (degree * (degree - 1))
+    linked * MILLION / (degree * (degree - 1))
 }
 
 /// How many ordered pairs of neighbours of a node are linked. The row is that of the node.

@@ -46,6 +46,7 @@ pub(crate) fn distances_within(graph: &Graph, component: &Found) -> Distances
     ensures far { IsLongest graph.now (picked component.now.row 0 graph.now.nodes) result.far }
     ensures few { result.total ≤ most_nodes * (most_nodes * most_nodes) }
 {
+    prove!(graph.nodes().len() <= Graph::MOST_NODES);
     let words = graph.words();
     let row = &component.row;
     let mut all = Distances { total: 0, far: 0 };

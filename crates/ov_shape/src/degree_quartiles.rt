@@ -14,7 +14,7 @@ pub(crate) struct Quartiles {
 }
 
 /// The quartiles of the degrees of all nodes.
-pub(crate) fn quartiles(graph: &Graph) -> Quartiles
+pub(crate) fn quartiles_of(graph: &Graph) -> Quartiles
     requires { HasNode graph.now }
     ensures first { IsQuartile graph.now 1 result.first }
     ensures median { IsQuartile graph.now 2 result.median }

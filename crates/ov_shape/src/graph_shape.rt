@@ -8,7 +8,7 @@ ghost use Rattle.ov_shape.specs.Sums.{parts_of_one};
 
 use crate::clustering_coefficient::clustering;
 use crate::component_search::{distances_within, largest_component};
-use crate::degree_quartiles::quartiles;
+use crate::degree_quartiles::quartiles_of;
 use ov_graph::Graph;
 
 /// How many parts one has in a number with four decimal digits.
@@ -53,7 +53,7 @@ pub fn shape_of(graph: &Graph) -> Option<Shape>
     }
     let best = largest_component(graph);
     let all = distances_within(graph, &best);
-    let degrees = quartiles(graph);
+    let degrees = quartiles_of(graph);
     Some(Shape {
         largest: best.count,
         clustering: clustering(graph),

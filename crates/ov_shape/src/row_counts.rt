@@ -1,5 +1,5 @@
 //! Rows of bits: one bit alone, two rows joined, and how many bits are set.
-ghost use Rattle.std.specs.Prelude.{◌≡◌, ◌↔◌, ◌⊎◌, ℕ, ◌*◌, ◌<◌, ◌≤◌, List, length};
+ghost use Rattle.std.specs.Prelude.{◌≡◌, ◌↔◌, ◌⊎◌, ℕ, ◌*◌, ◌^◌, ◌<◌, ◌≤◌, List, length, count_ones};
 ghost use Rattle.ov_graph.specs.Row.{HasBit, picked, word_bits};
 
 use ov_graph::bit_rows::{EMPTY, Row, WORDS, put};
@@ -35,7 +35,16 @@ pub(crate) fn count(row: &Row, words: usize) -> usize
 {
     let mut bits = 0;
     for word in 0..words {
-        bits += row[word].count_ones() as usize;
+        bits += ones(row[word]);
     }
     bits
+}
+
+/// How many bits of a word are set.
+fn ones(word: u64) -> usize
+    ensures value { result ≡ count_ones word }
+    ensures few { result ≤ word_bits }
+    ensures fits { word < 2 ^ 64 }
+{
+    word.count_ones() as usize
 }
