@@ -19,7 +19,7 @@ from fractions import Fraction
 from compare import drawn, first_difference, run
 from grow import Growing
 from rows import further_header, further_row, header, message_rows, row_of
-from shapes import clustering, largest, paths
+from shapes import clustering, coefficient, largest, paths
 from world import Refusal
 
 
@@ -53,7 +53,7 @@ def by_networkx(neighbours):
     graph = networkx.Graph(neighbours)
     triangles, total = networkx.triangles(graph), Fraction(0)
     for node, degree in graph.degree:
-        total += Fraction(2 * triangles[node], degree * (degree - 1)) if degree > 1 else 0
+        total += coefficient(triangles[node], degree * (degree - 1) // 2)
     component = max(networkx.connected_components(graph), key=lambda some: (len(some), -min(some)))
     part = graph.subgraph(component)
     steps = sum(sum(found.values()) for _, found in networkx.all_pairs_shortest_path_length(part))

@@ -1,4 +1,4 @@
-// The shape of a graph, by docs/GROWING.md ("The shape of an overlay"). Nothing is rounded before the end.
+// The shape of a graph, by docs/GROWING.md ("The shape of an overlay").
 #pragma once
 #include "connectivity.hpp"
 #include "costs.hpp"
@@ -20,20 +20,20 @@ class Shape {
     }
 
   private:
-    /// The least number that the pairs of up to 16 neighbours divide, however many neighbours there are.
-    static constexpr uint64_t COMMON = 360360;
+    /// A node's clustering coefficient is rounded down to so many parts of one.
+    static constexpr uint64_t MILLION = 1000000;
     /// So many nodes are walked from at once, one for each bit of a word.
     static constexpr size_t EACH = 64;
 
     uint64_t clustering_of_all() const {
-        uint64_t total = 0;
+        uint64_t millionths = 0;
         for (auto& row : graph.neighbours) {
             uint64_t linked = 0, pairs = row.size() * (row.size() - 1) / 2;
             for (size_t one = 0; one < row.size(); one++)
                 for (size_t two = 0; two < one; two++) linked += graph.are_linked(row[one], row[two]);
-            if (row.size() > 1) total += linked * (COMMON / pairs);
+            if (row.size() > 1) millionths += linked * MILLION / pairs;
         }
-        return total * PARTS / (COMMON * graph.size());
+        return millionths / (MILLION / PARTS * graph.size());
     }
 
     void find_largest() {

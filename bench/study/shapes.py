@@ -1,16 +1,25 @@
-"""The shape of a graph, by docs/GROWING.md ("The shape of an overlay") alone: exact fractions, and no rounding."""
+"""The shape of a graph, by docs/GROWING.md ("The shape of an overlay") alone: exact fractions, of which a node's
+clustering coefficient alone is rounded."""
 
 from fractions import Fraction
 from itertools import combinations
 
 
+# A node's clustering coefficient is rounded down to so many parts of one.
+MILLION = 1_000_000
+
+
+def coefficient(linked, pairs):
+    """The share of the pairs of a node's neighbours that are linked, rounded down to a millionth; 0 without pairs."""
+    return Fraction(linked * MILLION // pairs, MILLION) if pairs else Fraction(0)
+
+
 def clustering(neighbours):
-    """The mean, over all nodes, of the share of the pairs of its neighbours that are linked."""
+    """The mean, over all nodes, of their clustering coefficients."""
     total = Fraction(0)
     for others in neighbours.values():
         pairs = list(combinations(others, 2))
-        if pairs:
-            total += Fraction(sum(two in neighbours[one] for one, two in pairs), len(pairs))
+        total += coefficient(sum(two in neighbours[one] for one, two in pairs), len(pairs))
     return total / len(neighbours)
 
 

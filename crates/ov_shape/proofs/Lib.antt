@@ -1,0 +1,9 @@
+pub mod Sums
+pub mod Counts
+pub mod Walks
+pub mod Layers
+pub mod Searching
+pub mod Largest
+pub mod Passing
+pub mod Clusters
+pub mod Shapes

@@ -1,0 +1,2 @@
+-- What the code keeps, and what private contracts say of it.
+pub mod Found
