@@ -74,7 +74,7 @@ impl Script {
         write_line(&mut text, b"seed", &[seed]);
         write_refill(&mut text, params.refill());
         let mut generator = Pcg64::seed_from_u64(seed);
-        let next = Words::from_rng(&mut generator);
+        let next = Words::from_pcg(&mut generator);
         Ok(Script {
             params,
             seed,
@@ -112,7 +112,7 @@ impl Script {
         ensures seed { self.new.seed ≡ self.old.seed }
     {
         write_act(&mut self.text, &act);
-        self.next = Words::from_rng(&mut self.generator);
+        self.next = Words::from_pcg(&mut self.generator);
     }
 
     /// Adds the line that analyses a moment, for all nodes and by one worker. There must be room for it.

@@ -8,7 +8,7 @@
 //! beside it.
 #![tactic(auto)]
 
-ghost use Rattle.std.specs.Prelude.{◌≡◌, ◌≤◌, ◌<◌, ◌+◌, ◌++◌, ℕ, length, vec_len, IfOk, OnErr};
+ghost use Rattle.std.specs.Prelude.{◌≡◌, ◌==◌, ◌≤◌, ◌<◌, ◌+◌, ◌++◌, ℕ, length, vec_len, IfOk, OnErr};
 ghost use Rattle.ov_wire.specs.Messages.{AreSendsInRange, most_ttl};
 ghost use Rattle.ov_words.specs.Pick.{Drawn};
 ghost use Rattle.ov_views.specs.Room.{HasRoom};
@@ -17,11 +17,14 @@ ghost use Rattle.ov_views.specs.Handling.{ViewsStep, step_words, step_sends};
 ghost use Rattle.ov_views.specs.JoinRows.{Remembers, forwards, walk_ends, walk_targets};
 ghost use Rattle.ov_wire.specs.declared.message.Body.TheVariants.{Join, ForwardJoin, Joined};
 
+mod walk_that_goes_on;
+
 use ov_ids::{IdSet, MOST_ACTIVE, NodeId, OutOfMemory};
 use ov_views::{Moves, View, Views};
 use ov_wire::{Body, Message};
 use ov_words::Draws;
 use std::alloc::Global;
+pub use walk_that_goes_on::walk;
 
 /// The most packets that one step sends: one to the node that joins, and one to each other active member.
 const STEP_SENDS: usize = MOST_ACTIVE as usize + 1;
@@ -137,6 +140,13 @@ fn remember(views: &mut Views, draws: &mut Draws<'_>, node: NodeId, ttl: u8)
     if ttl == views.params().prwl() {
         views.add_passive(node, draws);
     }
+}
+
+/// Whether so many steps are left that a node is taken into the passive view.
+fn is_remembered(views: &Views, ttl: u8) -> bool
+    ensures { result ≡ (ttl == views.now.params.prwl) }
+{
+    ttl == views.params().prwl()
 }
 
 /// Whether the walk of FORWARDJOIN ends here. Otherwise it goes on to one of the others.

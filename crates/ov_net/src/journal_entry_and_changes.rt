@@ -3,7 +3,7 @@ ghost use Rattle.std.specs.Prelude.{◌≡◌, IfOk};
 use crate::event::Event;
 use ov_ids::{NodeId, OutOfMemory, Seq};
 use ov_peer::Delivery;
-use ov_words::Words;
+use ov_words::KeptWords;
 use std::alloc::Global;
 
 /// A change in an entry of the journal. Active views are those of HyParView (Leitão, Pereira, Rodrigues, DSN 2007).
@@ -27,7 +27,7 @@ pub struct Entry {
     /// The event.
     pub event: Event,
     /// The random words of the event.
-    pub words: Words,
+    pub words: KeptWords,
     /// The changes, in order.
     pub changes: Seq<Change>,
     /// The message that a node delivered, if one did.
@@ -42,18 +42,20 @@ impl Entry {
         Ok(Entry {
             number: self.number,
             event: self.event.copy(alloc)?,
-            words: self.words,
+            words: self.words.copy(alloc)?,
             changes: self.changes.copy(alloc)?,
             delivery: copy_delivery(alloc, &self.delivery)?,
         })
     }
 }
 
-/// What an entry tells, but for its number and its random words.
+/// What an entry tells, but for its number.
 #[derive(Drop)]
 pub(crate) struct Told {
     /// The event.
     pub(crate) event: Event,
+    /// The random words of the event.
+    pub(crate) words: KeptWords,
     /// The changes, in order.
     pub(crate) changes: Seq<Change>,
     /// The message that a node delivered, if one did.
@@ -61,25 +63,26 @@ pub(crate) struct Told {
 }
 
 impl Told {
-    /// The entry that tells this, with this number and these random words.
-    pub(crate) fn entry(self, number: u32, words: &Words) -> Entry
+    /// The entry that tells this, with this number.
+    pub(crate) fn entry(self, number: u32) -> Entry
         ensures { result ≡ record {
           number = number;
           event = self.event;
-          words = words.now;
+          words = self.words;
           changes = self.changes;
           delivery = self.delivery;
         } }
     {
         let Told {
             event,
+            words,
             changes,
             delivery,
         } = self;
         Entry {
             number,
             event,
-            words: *words,
+            words,
             changes,
             delivery,
         }

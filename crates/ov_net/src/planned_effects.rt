@@ -9,6 +9,7 @@ use crate::nodes::Nodes;
 use crate::packet::Packet;
 use ov_ids::{NodeId, OutOfMemory, Seq};
 use ov_peer::{Delivery, Plan};
+use ov_words::Words;
 use std::alloc::Global;
 
 /// How an event changes a node.
@@ -63,13 +64,24 @@ pub(crate) struct Effects {
 }
 
 impl Effects {
-    /// A copy of what the entry of this event is to tell if these are its effects, or out of memory (99).
-    pub(crate) fn told(&self, alloc: Global, event: &Event) -> Result<Told, OutOfMemory>
-        ensures { IfOk result (λ t. t
-            ≡ record { event = event.now; changes = self.now.changes; delivery = self.now.delivery }) }
+    /// A copy of what the entry of this event, with these random words, is to tell if these are its effects, or out of
+    /// memory (99).
+    pub(crate) fn told(
+        &self,
+        alloc: Global,
+        event: &Event,
+        words: &Words,
+    ) -> Result<Told, OutOfMemory>
+        ensures { IfOk result (λ t. t ≡ record {
+          event = event.now;
+          words = words.now;
+          changes = self.now.changes;
+          delivery = self.now.delivery;
+        }) }
     {
         Ok(Told {
             event: event.copy(alloc)?,
+            words: words.keep(alloc)?,
             changes: self.changes.copy(alloc)?,
             delivery: copy_delivery(alloc, &self.delivery)?,
         })

@@ -176,9 +176,9 @@ impl World {
         ensures err { OnErr result (self.new ≡ self.old) }
     {
         let effects = self.judged_effects(&event, words)?;
-        let answer = effects.told(self.alloc, &event)?;
+        let answer = effects.told(self.alloc, &event, words)?;
         let number = self.apply(event, words, effects)?;
-        Ok(answer.entry(number, words))
+        Ok(answer.entry(number))
     }
 
     /// Takes one event as `step` does, with the same faults, and copies nothing of its entry, which is the last of the
@@ -190,7 +190,9 @@ impl World {
         ensures refused { IfErr result (IsRefusal self.old.net (length self.old.journal) event) }
         ensures err { OnErr result (self.new ≡ self.old) }
     {
-        let effects = self.judged_effects(&event, words)?;
+        // not by `judged_effects`: effects are large, and each call that hands them on copies them
+        self.judge(&event)?;
+        let effects = self.effects_of(&event, words)?;
         self.apply(event, words, effects)?;
         Ok(())
     }
@@ -219,6 +221,7 @@ impl World {
         ensures number { IfOk result (λ n. n ≡ length self.new.journal) }
         ensures err { OnErr result (self.new ≡ self.old) }
     {
+        let kept = words.keep(self.alloc)?;
         let Effects {
             taken,
             node,
@@ -228,6 +231,7 @@ impl World {
         } = effects;
         let told = Told {
             event,
+            words: kept,
             changes,
             delivery,
         };
@@ -244,7 +248,7 @@ impl World {
         change_graph(&mut self.graph, &self.nodes, told.changes.as_slice());
         update_packets(&mut self.packets, taken, packets);
         self.since = since_after(self.since, &told, number);
-        self.journal.push_reserved(told.entry(number, words));
+        self.journal.push_reserved(told.entry(number));
         Ok(number)
     }
 }

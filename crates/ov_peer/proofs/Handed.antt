@@ -1,11 +1,15 @@
 -- From what a handler does whatever the rest of the node is to what this node does at a message.
-use Rattle.std.proofs.Common.{◌≡◌, ℕ, List, Result, Ok, Err, IfOk, sym, subst}
+use Rattle.std.proofs.Common.{◌≡◌, ◌≤◌, ℕ, List, Option, None, Some, Result, Ok, Err, IfOk, IfSome, vec_len, arith}
+use Rattle.std.proofs.Common.{sym, subst}
+use Rattle.ov_wire.specs.Messages.{AreSendsInRange}
 use Rattle.ov_wire.specs.declared.message.Body.{Body}
 use Rattle.ov_words.specs.Pick.{Drawn}
 use Rattle.ov_views.specs.ViewsState.{ViewsState}
 use Rattle.ov_views.specs.NeighborRows.{AttemptState}
 use Rattle.ov_views.specs.Allowed.{HyParViewState, Allowed, hears}
+use Rattle.ov_views.specs.Handling.{ViewsStep}
 use Rattle.ov_views.specs.declared.step_effects.Moves.{Moves}
+use Rattle.ov_peer.specs.Code.Messages.{AreSendable}
 
 heard : {E : Type 0} (n : HyParViewState) (from : ℕ) (body said : Body) (words left : List ℕ)
     (before after : HyParViewState → HyParViewState) (r : Result Moves E) → body ≡ said
@@ -53,3 +57,19 @@ pub with_sent : {E : Type 0} (v w : ViewsState) (a : AttemptState) (sent : List 
 with_sent v w a sent from body said words left r =
     heard (record { views = v; attempt = a; sent = sent }) from body said words left
     (λ k. record k { views = v; sent = sent }) (λ k. record k { views = w; sent = sent }) r
+
+-- of one that hands a message on, if it does
+pub walked : {E : Type 0} (v : ViewsState) (from : ℕ) (body said : Body) (words left : List ℕ)
+    (r : Result (Option Moves) E) → body ≡ said
+    → IfOk r (λ w. IfSome w (ViewsStep v words (hears from said) v left))
+    → IfOk r (λ w. IfSome w (ViewsStep v words (hears from body) v left))
+walked v from body said words left r is h =
+    subst (λ (b : Body). IfOk r (λ w. IfSome w (ViewsStep v words (hears from b) v left))) (sym is) h
+
+-- it sends one message at most, so these may be sent in one step
+pub few_walked : {E : Type 0} (r : Result (Option Moves) E) → IfOk r (λ w. IfSome w (λ m. vec_len m.sends ≤ 1))
+    → IfOk r (λ w. IfSome w (λ m. AreSendsInRange m.sends.items))
+    → IfOk r (λ w. IfSome w (λ m. AreSendable m.sends.items))
+few_walked (Ok (Some m)) few ranges = (omega (arith, few, m.sends.ok.0), ranges)
+few_walked (Ok None) few ranges = tt
+few_walked (Err e) few ranges = tt

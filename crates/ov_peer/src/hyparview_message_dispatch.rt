@@ -1,7 +1,8 @@
-ghost use Rattle.std.specs.Prelude.{◌≡◌, ◌≤◌, ◌+◌, length, IfOk, OnErr};
+ghost use Rattle.std.specs.Prelude.{◌≡◌, ◌≤◌, ◌+◌, length, IfOk, IfSome, IfNone, OnErr};
 ghost use Rattle.ov_wire.specs.Messages.{AreInRange};
 ghost use Rattle.ov_words.specs.Pick.{Drawn};
 ghost use Rattle.ov_views.specs.Allowed.{Allowed, hears};
+ghost use Rattle.ov_views.specs.Handling.{ViewsStep};
 ghost use Rattle.ov_peer.specs.Code.Messages.{AreSendable};
 ghost use Rattle.ov_peer.specs.Code.GoodPlan.{most_words};
 
@@ -52,5 +53,32 @@ pub(crate) fn hear(
         Body::Gossip { .. } | Body::IHave { .. } | Body::Graft { .. } | Body::Prune => {
             Moves::with_room(alloc, 0)
         }
+    }
+}
+
+/// Hands a message whose walk only goes on from here to the next node. No view changes then. None if it is another
+/// message, and then nothing is drawn.
+pub(crate) fn walk(
+    alloc: Global,
+    views: &Views,
+    draws: &mut Draws<'_>,
+    from: NodeId,
+    body: &Body,
+) -> Result<Option<Moves>, OutOfMemory>
+    requires words { most_words ≤ length draws.old }
+    requires range { AreInRange (record { from = from; body = body.now }) }
+    ensures allowed { IfOk result (λ walked. IfSome walked
+        (ViewsStep views.now draws.old (hears from body.now) views.now draws.new)) }
+    ensures words { length draws.old ≤ length draws.new + most_words }
+    ensures sendable { IfOk result (λ walked. IfSome walked (λ m. AreSendable m.sends.items)) }
+    ensures none { IfOk result (λ walked. IfNone walked (draws.new ≡ draws.old)) }
+    ensures err { OnErr result (draws.new ≡ draws.old) }
+{
+    match body {
+        Body::ForwardJoin { node, ttl } => ov_join::walk(alloc, views, draws, from, *node, *ttl),
+        Body::Shuffle { origin, ttl, ids } => {
+            ov_shuffle::walk(alloc, views, draws, from, *origin, *ttl, ids.as_slice())
+        }
+        _ => Ok(None),
     }
 }

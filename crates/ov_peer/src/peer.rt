@@ -20,7 +20,7 @@ ghost use Rattle.ov_peer.specs.declared.input_and_output.Input.TheVariants.{Boot
 ghost use Rattle.ov_peer.specs.declared.input_and_output.Input.TheVariants.{Timer};
 
 use crate::fault::PeerFault;
-use crate::hyparview_message_dispatch::hear;
+use crate::hyparview_message_dispatch::{hear, walk};
 use crate::input_and_output::{Input, Output};
 use crate::plan::{HyParViewChange, NextViews, Plan, follow, views_plan};
 use crate::tree_updates::{joins, tell};
@@ -318,8 +318,23 @@ impl Peer {
         Ok(Plan::of_tree(self.alloc, self.views.me(), planned))
     }
 
-    /// A message of HyParView comes.
+    /// A message of HyParView comes. If its walk only goes on, the views are not copied.
     fn hear(&self, from: NodeId, body: &Body, draws: &mut Draws<'_>) -> Result<Plan, OutOfMemory>
+        requires words { most_words ≤ length draws.old }
+        requires range { AreInRange (record { from = from; body = body.now }) }
+        requires kind { IsOfHyParView body.now }
+        ensures { IfOk result
+            (IsGoodPlan self.now (Receive (record { from = from; body = body.now })) draws.old draws.new) }
+    {
+        let walked = walk(self.alloc, &self.views, draws, from, body)?;
+        match walked {
+            Some(moves) => Ok(Plan::of_moves(moves, HyParViewChange::Nothing)),
+            None => self.handle(from, body, draws),
+        }
+    }
+
+    /// A message of HyParView comes, and may change the views and the attempt.
+    fn handle(&self, from: NodeId, body: &Body, draws: &mut Draws<'_>) -> Result<Plan, OutOfMemory>
         requires words { most_words ≤ length draws.old }
         requires range { AreInRange (record { from = from; body = body.now }) }
         requires kind { IsOfHyParView body.now }

@@ -43,7 +43,7 @@ impl SeedWords {
         ensures count { length result ≡ words_per_event }
         ensures outputs { AreOutputs (stream_now self.old) result (stream_now self.new) }
     {
-        Words::from_rng(&mut self.generator)
+        Words::from_pcg(&mut self.generator)
     }
 
     /// The random words of an event: these, if they were given, or else the next.

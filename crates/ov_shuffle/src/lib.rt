@@ -17,6 +17,7 @@ ghost use Rattle.ov_views.specs.ShuffleRows.{walks_on};
 ghost use Rattle.ov_wire.specs.declared.message.Body.TheVariants.{Shuffle, ShuffleReply};
 
 mod sent;
+mod walk_that_goes_on;
 
 use ov_ids::{NodeId, OutOfMemory, Seq};
 use ov_views::{Moves, View, Views};
@@ -24,6 +25,7 @@ use ov_wire::{Body, MOST_IDS, Message};
 use ov_words::Draws;
 pub use sent::Sent;
 use std::alloc::Global;
+pub use walk_that_goes_on::walk;
 
 /// The effects of starting a shuffle. SHUFFLE goes to a random active member. It lists the node itself, then a sample
 /// of its active members, then a sample of its passive members, and that list is kept as `sent`. If nobody is active,

@@ -1,12 +1,13 @@
 //! The random words that a seed gives.
 use ov_scenario::draw;
+use ov_words::Draws;
 use std::alloc::Global;
 
 /// Whether this is the first word of the first event.
 fn is_first_word(alloc: Global, seed: u64, word: u64) -> bool {
     match draw(alloc, seed, 1) {
         Ok(draws) => match draws.first() {
-            Some(words) => words.as_slice().first() == Some(&word),
+            Some(words) => Draws::new(words).next() == word,
             None => false,
         },
         Err(_) => false,

@@ -1,23 +1,38 @@
-ghost use Rattle.std.specs.Prelude.{◌≡◌, ◌≢◌, ◌<◌, ◌↔◌, [], ◌∷◌, length, IfNone, IfSome};
+ghost use Rattle.std.specs.Prelude.{◌≡◌, ◌≢◌, ◌<◌, ◌≤◌, ◌+◌, ◌++◌, ◌↔◌, [], ◌∷◌, length, IfNone, IfSome};
+ghost use Rattle.rand_core.specs.Steps.{first_words};
+ghost use Rattle.rand_pcg.specs.Pcg.{pcg64};
 ghost use Rattle.ov_words.specs.Pick.{AreDrawn};
 ghost use Rattle.ov_words.specs.Stream.{words_per_event};
 
 use crate::Words;
+use crate::random_words_of_event::copied;
 use ov_ids::NodeId;
+use rand_core::utils::NextWord;
+use rand_pcg::Pcg64;
 use std::marker::Model;
 
 /// Draws random choices from an event's words, each word once and in order. Contracts see the words that are left.
 #[derive(Debug, Drop)]
 pub struct Draws<'a> {
-    words: &'a [u64],
+    /// The next words.
+    listed: &'a [u64],
+    /// How many words come after them.
+    more: usize,
+    /// What makes these.
+    generator: Pcg64,
 }
 
 impl<'a> Model for Draws<'a> {
-    ghost use Rattle.std.specs.Prelude.{List, ℕ};
+    ghost use Rattle.std.specs.Prelude.{◌+◌, ◌++◌, ◌≤◌, List, ℕ, length};
+    ghost use Rattle.rand_core.specs.Steps.{first_words};
+    ghost use Rattle.rand_pcg.specs.Pcg.{pcg64};
+    ghost use Rattle.ov_words.specs.Stream.{words_per_event};
 
     ghost Value = { List ℕ };
 
-    ghost view = { λ d. d.words.now };
+    ghost view = { λ d. d.listed.now ++ first_words pcg64 d.more d.generator };
+
+    ghost invariant = { λ d. length d.listed.now + d.more ≤ words_per_event };
 }
 
 impl<'a> Draws<'a> {
@@ -26,8 +41,18 @@ impl<'a> Draws<'a> {
         ensures value { result ≡ words.now }
         ensures count { length result ≡ words_per_event }
     {
+        words.draws()
+    }
+
+    /// Words that are listed, and then so many more that a generator makes. None is drawn yet.
+    pub(crate) fn of_parts(listed: &'a [u64], more: usize, generator: &Pcg64) -> Draws<'a>
+        requires { length listed.now + more ≤ words_per_event }
+        ensures { result ≡ listed.now ++ first_words pcg64 more generator.now }
+    {
         Draws {
-            words: words.as_slice(),
+            listed,
+            more,
+            generator: copied(generator),
         }
     }
 
@@ -35,24 +60,33 @@ impl<'a> Draws<'a> {
     pub fn copy(&self) -> Draws<'a>
         ensures { result ≡ self.now }
     {
-        Draws { words: self.words }
+        Draws::of_parts(self.listed, self.more, &self.generator)
     }
 
     /// The number of words that are left.
+    #[tactic(auto, using(crate::proofs::Made::length_left))]
     pub fn left(&self) -> usize
         ensures { result ≡ length self.now }
     {
-        self.words.len()
+        self.listed.len() + self.more
     }
 
     /// The next word. It is then used up.
+    #[tactic(auto, using(crate::proofs::Made::next_listed, crate::proofs::Made::next_made))]
     pub fn next(&mut self) -> u64
         requires { 0 < length self.old }
         ensures { self.old ≡ result ∷ self.new }
     {
-        let word = self.words[0];
-        self.words = &self.words[1..];
-        word
+        match self.listed.split_first() {
+            Some((word, rest)) => {
+                self.listed = rest;
+                *word
+            }
+            None => {
+                self.more -= 1;
+                self.generator.next_word()
+            }
+        }
     }
 
     /// Picks a member of a set by the next word, which is then used up: member number `word % size`, counted from 0, in

@@ -27,8 +27,8 @@ pub invariant_of-result : goal.invariant_of-result
 unfolding seeded
 invariant_of-result c =
     let fits : c.args.seed < 2 ^ 64 = omega (arith, c.ranges.seed.fits) in
-    script_opened c.args.heading.now c.write_refill.new.text.items c.args.params c.args.seed c.from_rng-next.result _
-    c.write_params.ensures.limits fits (returns-clause-text c) (search rules) c.from_rng-next.ensures.count
+    script_opened c.args.heading.now c.write_refill.new.text.items c.args.params c.args.seed c.from_pcg-next.result _
+    c.write_params.ensures.limits fits (returns-clause-text c) (search rules) c.from_pcg-next.ensures.count
 
 pub returns-clause-lines : goal.returns-clause-lines
 returns-clause-lines c =

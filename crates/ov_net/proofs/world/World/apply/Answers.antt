@@ -1,4 +1,4 @@
-use Rattle.std.proofs.Common.{◌++◌, ◌∷◌, [], ◌+◌, length, List, refl, sym, ap, subst, ◌∙◌}
+use Rattle.std.proofs.Common.{◌++◌, ◌∷◌, [], ◌+◌, ℕ, length, List, refl, sym, ap, subst, ◌∙◌}
 use Rattle.ov_net.specs.Code.Codes.{world_of}
 use Rattle.ov_net.specs.Code.Effects.{taking}
 use Rattle.ov_net.specs.Code.LinkChanges.{AreChanged, Fit}
@@ -67,7 +67,8 @@ invariant_of-self-2 c =
     } in
     let journal = c.push_reserved.ensures.items
     ∙ ap (λ v. v ++ c.entry.result ∷ []) c.in_ok-reserve_and_change.ensures.journal
-    ∙ ap (λ (e : Entry). before.journal.items ++ e ∷ []) c.entry.ensures in
+    ∙ ap (λ (e : Entry). before.journal.items ++ e ∷ []) c.entry.ensures
+    ∙ ap (λ (words : List ℕ). before.journal.items ++ record entry { words = words } ∷ []) c.in_ok-kept.ensures in
     let numbered = c.next_number-number.ensures ∙ ap (λ v. length v + 1) c.deref.ensures.value in
     let stands = stands_next seen c.args.self.now c.args.event c.args.words.now effects entry later
     c.push_reserved.new.self.items c.self.view_is c.self.invariant.0 c.requires.judged c.requires.effects
