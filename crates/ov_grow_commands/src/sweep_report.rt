@@ -60,7 +60,7 @@ fn print_answer(
         phase: phase_of(asked.after),
         bound: asked.bound,
     };
-    let text = split_answer_text(rt.alloc(), &settings, question)?;
+    let text = split_answer_text(rt.alloc(), &settings, &question)?;
     let mut sink = Sink::new(rt.stdout());
     if is_behind {
         sink.write_all(b"\n")?;

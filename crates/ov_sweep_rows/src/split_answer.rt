@@ -29,20 +29,25 @@ pub struct SplitQuestion {
 pub fn split_answer_text(
     alloc: Global,
     settings: &[Setting<'_>],
-    question: SplitQuestion,
+    question: &SplitQuestion,
 ) -> Result<String, OutOfMemory> {
     let differing = differing(alloc, settings)?;
     let order = places_by_size(alloc, settings)?;
-    let percent = question.bound.of_hundred();
-    let phase = phase_name(question.phase);
-    let mut text = format!(in alloc;
-        "Split after {phase} in less than {percent} of 100 runs, by the 95 % interval? The smallest setting first:\n\n"
-    )?;
+    let mut text = question_text(alloc, question)?;
     push_table(alloc, &mut text, settings, &order, &differing, question)?;
     push_answer(alloc, &mut text, settings, &order, &differing, question)?;
     let (fewest, _) = run_counts(settings);
     push_few_runs(&mut text, count(fewest), question.bound)?;
     Ok(text)
+}
+
+/// What is asked, in words, and an empty line.
+fn question_text(alloc: Global, question: &SplitQuestion) -> Result<String, AllocError> {
+    let percent = question.bound.of_hundred();
+    let phase = phase_name(question.phase);
+    format!(in alloc;
+        "Split after {phase} in less than {percent} of 100 runs, by the 95 % interval? The smallest setting first:\n\n"
+    )
 }
 
 /// The line that says that so many runs of a setting are too few to be below a bound, even if none of them is split,
@@ -87,7 +92,7 @@ fn push_table(
     settings: &[Setting<'_>],
     order: &[usize],
     differing: &[usize],
-    question: SplitQuestion,
+    question: &SplitQuestion,
 ) -> Result<(), AllocError> {
     let mut table = TextTable::new(alloc);
     table.push(heads(alloc, differing, question.bound)?)?;
@@ -123,7 +128,7 @@ fn line_of(
     alloc: Global,
     setting: &Setting<'_>,
     differing: &[usize],
-    question: SplitQuestion,
+    question: &SplitQuestion,
 ) -> Result<Vec<String>, AllocError> {
     let mut line = Vec::new(alloc);
     for place in differing {
@@ -178,7 +183,7 @@ fn push_answer(
     settings: &[Setting<'_>],
     order: &[usize],
     differing: &[usize],
-    question: SplitQuestion,
+    question: &SplitQuestion,
 ) -> Result<(), AllocError> {
     let bound = question.bound;
     let percent = bound.of_hundred();
