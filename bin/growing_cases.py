@@ -103,19 +103,24 @@ each("256 KB of stack", "`ulimit -s 256`", "the right output: 256 KB of stack ar
      limits={resource.RLIMIT_STACK: ENOUGH})
 
 
-@case("growing", "growing: a picture that can't be written",
-      "`sweep --svg FILE`, where FILE is /dev/full, a folder, in "
-      "a folder that is not there, or `''`", "FILE is opened at the end, so the rows come first (COMMANDS.md); then "
-      "`refused 72`, status 1 (FORMATS.md)")
+@case("growing", "growing: a picture that can't be opened",
+      "`sweep --svg FILE`, where FILE is a folder, in a folder that is not there, or `''`",
+      "FILE is opened before anything is grown (COMMANDS.md), so no row comes: `refused 72`, status 1 (FORMATS.md)")
+def unopened_picture(lab):
+    for name, file in (("a folder", lab.room), ("no folder", "none/p.svg"), ("''", "")):
+        yield f"--svg {name}", told(lab.run([*lab.words(SWEEP), "--svg", file])), WRITE
+
+
+@case("growing", "growing: a picture that can't be written", "`sweep --svg /dev/full`",
+      "it can be opened, so the rows come first (COMMANDS.md); then `refused 72`, status 1 (FORMATS.md)")
 def unwritten_picture(lab):
-    right = right_of(lab, SWEEP)
-    for name, file in (("/dev/full", "/dev/full"), ("a folder", lab.room), ("no folder", "none/p.svg"), ("''", "")):
-        seen = lab.run([*lab.words(SWEEP), "--svg", file])
-        yield f"--svg {name}", told(seen, right).replace("the right output", "the right rows"), ROWS_FIRST
+    seen = lab.run([*lab.words(SWEEP), "--svg", "/dev/full"])
+    told_rows = told(seen, right_of(lab, SWEEP)).replace("the right output", "the right rows")
+    yield "--svg /dev/full", told_rows, ROWS_FIRST
 
 
 @case("growing", "growing: a picture, and a full device", "`sweep --svg FILE >/dev/full`, where FILE is there",
-      "FILE is opened at the end alone (COMMANDS.md): it is as before, and `refused 72`, status 1")
+      "FILE keeps what it has until the picture is written (COMMANDS.md): it is as before, and `refused 72`, status 1")
 def kept_picture(lab):
     path = pathlib.Path(lab.room, "kept.svg")
     path.write_bytes(b"as before")

@@ -2,7 +2,8 @@
 help, and by ../study/grow.py, which grows overlays by that page alone.
 
 That a number may begin with `+`, as Rust reads numbers, was taken from the program. What `clap` decides is as in
-command_line.py. A summary, a picture and what `--progress` prints are not said.
+command_line.py. A summary, an answer to `--at-most-split`, a picture, the row of a file and what `--progress` prints are
+not said.
 """
 
 import dataclasses
@@ -19,11 +20,10 @@ from second_opinion import Answer  # noqa: E402
 from world import Refusal  # noqa: E402
 
 MOST_RUNS = 1_000_000
-NUMBERS = LIMITS | {"runs": (1, MOST_RUNS), "workers": (1, 64), "list": (1, MOST_RUNS)}
-FLAGS = {"grow": {"crash_cut"}, "sweep": {"crash_cut", "summary", "progress"}}
-TEXTS = {"grow": {*CHOICES}, "sweep": {*CHOICES, "svg", "read"}}
-# Options of a sweep that take one value; all others take a list.
-SINGLE = {"seed", "runs", "workers", "list", "svg"}
+NUMBERS = LIMITS | {"runs": (1, MOST_RUNS), "workers": (1, 64), "list": (1, MOST_RUNS), "at_most_split": (1, 99)}
+PHASES = ("settle", "crash", "heal")
+FLAGS = {"grow": {"crash_cut", "certificates"}, "sweep": {"crash_cut", "summary", "progress"}}
+TEXTS = {"grow": {*CHOICES, "row"}, "sweep": {*CHOICES, "svg", "read", "after"}}
 OPTIONS = [field.name for field in dataclasses.fields(Options)]
 SWEEP_ONLY = ("runs", "workers", "list")
 # About how many steps of nodes are grown for one command line.
@@ -90,8 +90,11 @@ def named(command, words):
 def read_grow(words):
     """The options of `overlay grow`."""
     found = named("grow", words)
-    if "crash_cut" in found and "crash" in found:
+    if ("crash_cut" in found and "crash" in found) or ("row" in found and any(name in found for name in OPTIONS)):
         raise BadArguments
+    if "row" in found:
+        raise Open
+    asks = found.pop("certificates", None) is not None
     given = {name: True if name in FLAGS["grow"] else value(name, said[0]) for name, said in found.items()}
     if given.get("crash") == "cut":
         given["crash"], given["crash_cut"] = 0, True
@@ -100,22 +103,35 @@ def read_grow(words):
     options = Options(**given)
     if options.prwl > options.arwl:
         raise BadArguments
-    return options
+    return options, asks
 
 
 def judge_pairs(found):
     """Refuses options of a sweep that don't go together."""
-    if "list" in found and ("summary" in found or "svg" in found):
+    if "list" in found and any(name in found for name in ("summary", "svg", "at_most_split")):
+        raise BadArguments
+    if "after" in found and ("at_most_split" not in found or found["after"][0] not in PHASES):
         raise BadArguments
     if "read" in found and any(name in found for name in ("progress", *OPTIONS, *SWEEP_ONLY)):
         raise BadArguments
+
+
+def values_of(name, word):
+    """The values that a word says in a list: those of a range, or one."""
+    low, dots, high = word.partition("..")
+    if not dots or name in CHOICES:
+        return [value(name, word)]
+    ends = number(name, low), number(name, high)
+    if ends[0] > ends[1]:
+        raise BadArguments
+    return range(ends[0], ends[1] + 1)
 
 
 def list_of(name, found):
     """The values of an option of a sweep, none of them twice."""
     if name not in found:
         return [getattr(Options, name)]
-    values = [value(name, word) for word in found[name][0].split(",")]
+    values = [it for word in found[name][0].split(",") for it in values_of(name, word)]
     if len(set(values)) != len(values):
         raise BadArguments
     return [None if name == "pace" and it == "none" else it for it in values]
@@ -155,7 +171,9 @@ class Sweep:
             raise BadArguments
         self.settings = (setting(names, values) for values in itertools.product(*lists))
         self.reads = found.get("read", [])
-        self.is_open = bool({"summary", "svg", "progress"} & found.keys()) or "-" in self.reads
+        if "at_most_split" in found:
+            number("at_most_split", found["at_most_split"][0])
+        self.is_open = bool({"summary", "svg", "progress", "at_most_split"} & found.keys()) or "-" in self.reads
 
 
 def read_sweep(words):
@@ -169,12 +187,17 @@ def steps(options):
     return options.nodes * rounds
 
 
-def answer_grow(options):
+def answer_grow(request):
     """What `overlay grow` should print."""
+    options, asks = request
     if steps(options) > MOST_STEPS:
         raise Open
     try:
-        return Answer(Growing(options).grow())
+        growing = Growing(options)
+        lines = growing.grow()
+        if asks:
+            lines += [f"certificate {phase.moment}" for phase in growing.phases]
+        return Answer(lines)
     except Refusal as fault:
         return Answer([], f"refused {fault}", 1)
 

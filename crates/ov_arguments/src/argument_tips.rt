@@ -24,6 +24,12 @@ const GAP: &str = "\n\n";
 /// How any other tip of `clap` begins: it is better than those from here.
 const TIP: &str = "\n\n  tip: ";
 
+/// How it tells of an option that looks like the word.
+const SIMILAR: &str = "\n\n  tip: a similar argument exists: ";
+
+/// What stands below a reason.
+pub(crate) const HELP_BELOW: &str = "\n\nFor more information, try '--help'.\n";
+
 /// What is said where two commands stand.
 const TWO_COMMANDS: &str =
     "tip: each command stands behind `overlay`, and a pipe joins two, as `overlay import FILE | overlay analyse`\n";
@@ -83,13 +89,30 @@ pub(crate) fn with_tip(
 ) -> Result<String, AllocError> {
     let mut text = without_value_tip(alloc, said)?;
     if text.as_str().contains(TIP) {
-        return Ok(text);
+        return owners_or_tip(alloc, said, text);
     }
     if let Some(word) = quoted(said, NO_COMMAND, END) {
         push_known(&mut text, "", word)?;
     }
     if let Some(word) = quoted(said, UNEXPECTED, FOUND) {
         push_unexpected(alloc, &mut text, command, words, word)?;
+    }
+    Ok(text)
+}
+
+/// What `clap` says with a tip of its own; but of an option of other commands, which these are, unless the tip is the
+/// same word with more behind it.
+fn owners_or_tip(alloc: Global, said: &str, text: String) -> Result<String, AllocError> {
+    let (Some(word), Some((_, tip))) = (quoted(said, UNEXPECTED, FOUND), said.split_once(SIMILAR))
+    else {
+        return Ok(text);
+    };
+    if tip.contains(word) {
+        return Ok(text);
+    }
+    let mut owned = format!(in alloc; "error: unexpected argument '{word}' found{HELP_BELOW}")?;
+    if push_owners(alloc, &mut owned, word)? {
+        return Ok(owned);
     }
     Ok(text)
 }
@@ -160,7 +183,7 @@ fn push_option(
         return text.push_str("tip: a number has no sign\n");
     }
     if push_owners(alloc, text, word)? {
-        return text.push_str("\n");
+        return Ok(());
     }
     if command.is_empty() {
         return text.push_str(
@@ -188,6 +211,9 @@ fn push_owners(alloc: Global, text: &mut String, word: &str) -> Result<bool, All
             }
             is_there = true;
         }
+    }
+    if is_there {
+        text.push_str("\n")?;
     }
     Ok(is_there)
 }
@@ -226,10 +252,7 @@ fn push_file(
 
 /// Whether a command has this name.
 fn is_any_command(alloc: Global, word: &str) -> Result<bool, AllocError> {
-    if CommandName::of(word).is_some() {
-        return Ok(true);
-    }
-    is_command(alloc, word)
+    Ok(CommandName::of(word).is_some() || is_command(alloc, word)?)
 }
 
 /// The line that says what may be meant by these arguments of `overlay`, if a file can't be opened: help of a command,

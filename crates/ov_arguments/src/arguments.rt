@@ -10,7 +10,9 @@ ghost use Rattle.ov_arguments.specs.declared.arguments.ArgumentsFault.TheVariant
 ghost use Rattle.ov_arguments.specs.declared.arguments.ArgumentsFault.TheVariants.{OutOfMemory as out_of_memory};
 
 use crate::clap_commands_and_help::command;
-use crate::import_and_picture_requests::{ImportRequest, PictureRequest, import_of, picture_of};
+use crate::import_and_picture_requests::{
+    ImportRequest, PictureRequest, import_of, picture_of, text_of,
+};
 use clap::error::ErrorKind;
 use clap::{ArgMatches, Error as ClapError};
 use ov_ids::{NodeId, OutOfMemory, Workers};
@@ -276,7 +278,7 @@ fn analysis_of(alloc: Global, found: &ArgMatches) -> Result<Request, ArgumentsFa
         analysis: AnalysisRequest {
             group,
             group_list: group_list_of(alloc, found, names)?,
-            gone: gone_of(alloc, found)?,
+            gone: text_of(alloc, found, "without")?,
             at_least,
             workers,
             certificate: has_flag(found, "certificate"),
@@ -361,17 +363,6 @@ fn group_list_of(
     if !is_read_later(names, text) {
         return Ok(None);
     }
-    Ok(Some(String::from_str(alloc, text)?))
-}
-
-/// The list of the nodes that are gone, or nothing.
-fn gone_of(alloc: Global, matches: &ArgMatches) -> Result<Option<String>, AllocError>
-    ensures { IfOk result (λ text. first_value (found_of matches.now) (codes "without")
-        ≡ option_map string_bytes text) }
-{
-    let Some(text) = matches.get_str("without") else {
-        return Ok(None);
-    };
     Ok(Some(String::from_str(alloc, text)?))
 }
 

@@ -1,15 +1,13 @@
 use crate::GrowArgumentsFault;
-use crate::argument_tips::with_tip;
+use crate::argument_tips::{HELP_BELOW, with_tip};
 use crate::grow_and_sweep_clap_commands::{CommandName, command};
 use crate::growing_option_table::takes_text;
+use crate::value_slips::slip_tip;
 use clap::error::ErrorKind;
 use clap::{ArgMatches, Error as ClapError};
 use ov_io::shown_name;
 use std::alloc::{AllocError, Global};
 use std::fmt::Write;
-
-/// What stands below a reason, as `clap` writes it.
-const HELP: &str = "\n\nFor more information, try '--help'.\n";
 
 /// What is found in the words of a command.
 pub(crate) fn found_in<'a>(
@@ -64,7 +62,10 @@ pub(crate) fn bad_value_since(
     reason: &str,
 ) -> Result<GrowArgumentsFault, AllocError> {
     let shown = shown_name(alloc, text)?;
+    let tip = slip_tip(alloc, name, shown.as_str())?;
     Ok(GrowArgumentsFault::BadArguments {
-        reason: format!(in alloc; "error: invalid value '{shown}' for '--{name}': {reason}{HELP}")?,
+        reason: format!(in alloc;
+            "error: invalid value '{shown}' for '--{name}': {reason}{HELP_BELOW}{tip}"
+        )?,
     })
 }

@@ -1,6 +1,8 @@
-use crate::clap_commands_and_help::{self, with_command};
-use crate::growing_option_table::{OPTIONS, ORDERS, OptionForm, REFILLS, SWEEP_OPTIONS, Takes};
-use clap::{Arg, ArgAction, Command};
+use crate::clap_commands_and_help::{self, flag_argument as flag, text_argument, with_command};
+use crate::growing_option_table::{
+    OPTIONS, OptionForm, QUESTION_OPTIONS, SWEEP_OPTIONS, Takes, words_of,
+};
+use clap::{Arg, Command};
 use std::alloc::{AllocError, Global};
 
 /// The names of the two commands that grow overlays.
@@ -17,7 +19,8 @@ const SWEEP_NAME: &str = "overlay sweep";
 const GROW_EXAMPLES: &str = "\
 Examples:
   overlay grow --nodes 60 --seed 7 | overlay run
-  overlay grow --active 4 --crash 20 --broadcasts 5 > overlay.txt";
+  overlay grow --active 4 --crash 20 --broadcasts 5 > overlay.txt
+  overlay grow --row rows.csv:12 --certificates | overlay run";
 
 const GROW_ABOUT: &str = "Grows an overlay, and prints the scenario that grows it again.";
 
@@ -28,17 +31,33 @@ The scenario is what `overlay run` reads.";
 /// What help of `overlay sweep` says, with examples first.
 const SWEEP_EXAMPLES: &str = "\
 Examples:
-  overlay sweep --active 3,4,5,6,7 --runs 100 --summary
+  overlay sweep --active 3..7 --runs 100 --summary
+  overlay sweep --active 5,8 --crash 10 --runs 400 --at-most-split 1
   overlay sweep --crash 0,10,cut --workers 4 --svg crash.svg > rows.csv
   overlay sweep --read rows.csv --summary";
 
 const SWEEP_ABOUT: &str = "\
 Grows many overlays, and prints a row of each: how few crashes split it, after it has settled, after the crash, and
-after it has healed. An option takes values with one comma between two, and every combination is one setting.";
+after it has healed. An option takes values with one comma between two, and ranges, as 3..8,12. Every combination is
+one setting.";
 
 const SWEEP_BELOW: &str = "\
+A row has the options, and for each P of settle, crash and heal: P_nodes, how many live; P_k, how few crashes split it,
+0 if it is split; P_least_degree, the fewest links of a node; P_links; P_entries, the moment of a line `certificate`;
+P_delivered, which share of nodes its broadcasts reached.
 A lost JOIN is never sent again, so with --loss-join some nodes may never come in.
-A row can be run again by `overlay grow OPTIONS --seed S | overlay run`.";
+A row can be run again by `overlay grow --row FILE:N | overlay run`.";
+
+const GROW_HELP: [&str; 3] = [GROW_EXAMPLES, GROW_ABOUT, GROW_BELOW];
+
+const SWEEP_HELP: [&str; 3] = [SWEEP_EXAMPLES, SWEEP_ABOUT, SWEEP_BELOW];
+
+/// What help says of the options that only `overlay grow` has.
+const ROW: &str =
+    "Takes all options from row N of this file of rows, counted from 1 without headers";
+
+const CERTIFICATES: &str =
+    "Ends the scenario with a line for the certificate of each of the three reports";
 
 /// What help says of the options that only `overlay sweep` has.
 const SUMMARY: &str = "Prints a summary for people in place of the rows";
@@ -49,8 +68,11 @@ const READ: &str = "Reads rows from these files in place of growing; - is standa
 
 const PROGRESS: &str = "Prints on standard error how far it has come";
 
+/// The option that `--after` stands beside.
+const BOUND: &str = "at-most-split";
+
 /// The option that takes no list in a sweep.
-const SEED: &str = "seed";
+pub(crate) const SEED: &str = "seed";
 
 /// The commands that grow overlays.
 #[derive(Clone, Copy)]
@@ -62,13 +84,11 @@ pub(crate) enum CommandName {
 impl CommandName {
     /// The command of this name, if it grows overlays.
     pub(crate) fn of(word: &str) -> Option<CommandName> {
-        if word == GROW {
-            return Some(CommandName::Grow);
+        match word {
+            GROW => Some(CommandName::Grow),
+            SWEEP => Some(CommandName::Sweep),
+            _ => None,
         }
-        if word == SWEEP {
-            return Some(CommandName::Sweep);
-        }
-        None
     }
 
     /// The command's name.
@@ -105,18 +125,13 @@ pub(crate) fn command<'a>(alloc: Global, name: CommandName) -> Result<Command<'a
 
 /// The words after `overlay grow`.
 fn grow_command<'a>(alloc: Global) -> Result<Command<'a>, AllocError> {
-    let mut command = alone(
-        alloc,
-        GROW,
-        GROW_NAME,
-        GROW_EXAMPLES,
-        GROW_ABOUT,
-        GROW_BELOW,
-    )?;
+    let mut command = alone(alloc, GROW, GROW_NAME, GROW_HELP)?;
     for option in &OPTIONS {
         command = with_argument(command, one_value(alloc, option))?;
     }
-    Ok(command)
+    let row = text(alloc, "row", "FILE:N", ROW).conflicts_with_all(&names_of(alloc, &OPTIONS)?);
+    let of_row = with_argument(command, row)?;
+    with_argument(of_row, Ok(flag(alloc, "certificates", CERTIFICATES)))
 }
 
 /// The words after `overlay sweep`.
@@ -130,41 +145,33 @@ fn sweep_command<'a>(alloc: Global) -> Result<Command<'a>, AllocError> {
 
 /// `overlay sweep` with the options that take lists.
 fn with_lists<'a>(alloc: Global) -> Result<Command<'a>, AllocError> {
-    let mut command = alone(
-        alloc,
-        SWEEP,
-        SWEEP_NAME,
-        SWEEP_EXAMPLES,
-        SWEEP_ABOUT,
-        SWEEP_BELOW,
-    )?;
+    let mut command = alone(alloc, SWEEP, SWEEP_NAME, SWEEP_HELP)?;
     for option in &OPTIONS {
         command = with_argument(command, Ok(list(alloc, option)))?;
     }
     Ok(command)
 }
 
-/// The command with the numbers that only `overlay sweep` takes.
+/// The command with the numbers that only `overlay sweep` takes, and by which it is asked for a setting.
 fn with_numbers<'a>(
     alloc: Global,
     lists: Result<Command<'a>, AllocError>,
 ) -> Result<Command<'a>, AllocError> {
     let mut command = lists?;
-    for option in &SWEEP_OPTIONS {
-        command = with_argument(command, Ok(number(alloc, option)))?;
+    for option in SWEEP_OPTIONS.iter().chain(&QUESTION_OPTIONS) {
+        command = with_argument(command, number(alloc, option))?;
     }
     Ok(command)
 }
 
-/// A command without its options.
+/// A command without its options, of which help says this: above, of the command, and below the options.
 fn alone<'a>(
     alloc: Global,
     name: &'a str,
     whole_name: &'a str,
-    examples: &'a str,
-    about: &'a str,
-    below: &'a str,
+    help: [&'a str; 3],
 ) -> Result<Command<'a>, AllocError> {
+    let [examples, about, below] = help;
     Ok(
         Command::new(alloc, name)
             .bin_name(whole_name)?
@@ -186,8 +193,8 @@ fn with_argument<'a>(
 /// An option of `overlay grow`.
 fn one_value<'a>(alloc: Global, option: &'static OptionForm) -> Result<Arg<'a>, AllocError> {
     let arg = match option.takes {
-        Takes::Order => word(alloc, option, "ORDER", ORDERS.as_slice()),
-        Takes::Refill => word(alloc, option, "RULE", REFILLS.as_slice()),
+        Takes::Order => word(alloc, option, "ORDER"),
+        Takes::Refill => word(alloc, option, "RULE"),
         Takes::Nothing => return flag(alloc, option.name, option.help).conflicts_with("crash"),
         _ => text(alloc, option.name, "N", option.help),
     };
@@ -197,8 +204,8 @@ fn one_value<'a>(alloc: Global, option: &'static OptionForm) -> Result<Arg<'a>, 
 /// An option of `overlay sweep`, which takes a list; but the seed is that of each first run.
 fn list<'a>(alloc: Global, option: &'static OptionForm) -> Arg<'a> {
     let arg = match option.takes {
-        Takes::Order => word(alloc, option, "ORDER,..", ORDERS.as_slice()),
-        Takes::Refill => word(alloc, option, "RULE,..", REFILLS.as_slice()),
+        Takes::Order => word(alloc, option, "ORDER,.."),
+        Takes::Refill => word(alloc, option, "RULE,.."),
         Takes::Nothing => return flag(alloc, option.name, option.help),
         _ if option.name == SEED => {
             return with_usual(text(alloc, option.name, "N", option.help), option);
@@ -208,9 +215,13 @@ fn list<'a>(alloc: Global, option: &'static OptionForm) -> Arg<'a> {
     with_usual(arg.value_delimiter(','), option)
 }
 
-/// An option that only `overlay sweep` has, and that takes a number.
-fn number<'a>(alloc: Global, option: &'static OptionForm) -> Arg<'a> {
-    with_usual(text(alloc, option.name, "N", option.help), option)
+/// An option that only `overlay sweep` has, and that takes a number; or one that stands beside it.
+fn number<'a>(alloc: Global, option: &'static OptionForm) -> Result<Arg<'a>, AllocError> {
+    match option.takes {
+        Takes::Phase => with_usual(word(alloc, option, "PHASE"), option).requires_arg(BOUND),
+        _ if option.name == BOUND => unlisted(text(alloc, BOUND, "P", option.help)),
+        _ => Ok(with_usual(text(alloc, option.name, "N", option.help), option)),
+    }
 }
 
 /// The option, which does not stand beside `--list`.
@@ -226,47 +237,29 @@ fn with_usual<'a>(arg: Arg<'a>, option: &'static OptionForm) -> Arg<'a> {
     }
 }
 
-/// An option of this name, with one of these words.
-fn word<'a>(
-    alloc: Global,
-    option: &'static OptionForm,
-    value: &'static str,
-    words: &'a [&'a str],
-) -> Arg<'a> {
-    text(alloc, option.name, value, option.help).value_parser(words)
+/// An option with one of its words.
+fn word<'a>(alloc: Global, option: &'static OptionForm, value: &'static str) -> Arg<'a> {
+    text(alloc, option.name, value, option.help).value_parser(words_of(option.takes))
 }
 
 /// An option of this name, with a text.
 fn text<'a>(alloc: Global, name: &'static str, value: &'static str, help: &'static str) -> Arg<'a> {
-    Arg::new(alloc, name)
-        .long(name)
-        .action(ArgAction::Set)
-        .value_name(value)
-        .help(help)
+    text_argument(alloc, name, help).value_name(value)
 }
 
 /// The files of rows that are read.
 fn files<'a>(alloc: Global) -> Result<Arg<'a>, AllocError> {
-    let names = growing_names(alloc)?;
     text(alloc, "read", "FILE", READ)
         .num_args(1..)
-        .conflicts_with_all(&names)
+        .conflicts_with("progress")?
+        .conflicts_with_all(&names_of(alloc, &OPTIONS)?)?
+        .conflicts_with_all(&names_of(alloc, &SWEEP_OPTIONS)?)
 }
 
-/// The names of the options that say what grows, or how that is told.
-fn growing_names(alloc: Global) -> Result<Vec<&'static str>, AllocError> {
-    let mut names = Vec::new(alloc);
-    names.push("progress")?;
-    for option in OPTIONS.iter().chain(&SWEEP_OPTIONS) {
-        names.push(option.name)?;
-    }
-    Ok(names)
-}
-
-/// An option of this name, without a text.
-fn flag<'a>(alloc: Global, name: &'static str, help: &'static str) -> Arg<'a> {
-    Arg::new(alloc, name)
-        .long(name)
-        .action(ArgAction::SetTrue)
-        .help(help)
+/// The names of options.
+fn names_of(
+    alloc: Global,
+    options: &'static [OptionForm],
+) -> Result<Vec<&'static str>, AllocError> {
+    options.iter().map(|option| option.name).collect(alloc)
 }

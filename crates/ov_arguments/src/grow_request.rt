@@ -1,24 +1,32 @@
 use crate::GrowArgumentsFault;
+use crate::arguments::has_flag;
 use crate::clap_parsing_and_faults::found_in;
 use crate::grow_and_sweep_clap_commands::CommandName;
-use crate::option_values::{has_flag, long_walk, value};
+use crate::growing_option_table::OPTIONS;
+use crate::import_and_picture_requests::text_of;
+use crate::option_values::{CUT, NO_PACE, long_walk, value};
+use crate::setting_values::{ARWL, COUNT, PRWL, options_with};
 use clap::ArgMatches;
-use ov_grow_options::{Crash, GrowOptions, Pace};
-use ov_ids::Params;
+use ov_grow_options::GrowOptions;
 use std::alloc::Global;
 
 /// What the words after `overlay grow` ask for.
-#[derive(Clone, Copy, Debug, PartialEq, Eq)]
+#[derive(Debug, PartialEq, Eq, Drop)]
 pub struct GrowRequest {
-    /// The options of the overlay.
+    /// The options of the overlay, unless those of a row are asked for.
     pub options: GrowOptions,
+    /// The row whose options are asked for, as FILE:N.
+    pub row: Option<String>,
+    /// Whether the scenario asks for certificates at its end.
+    pub certificates: bool,
 }
 
 /// Reads the words after `overlay grow`: its options, each at most once, `--NAME VALUE` or `--NAME=VALUE`. An option
 /// that is not given has its default.
 ///
 /// BadArguments (73): a word is no option or not what its option takes, an option is given twice, --crash and
-/// --crash-cut are given, --prwl is above --arwl, or help is asked for. OutOfMemory (99): an allocation was refused.
+/// --crash-cut are given, or --row and an option of growing, --prwl is above --arwl, or help is asked for. OutOfMemory
+/// (99): an allocation was refused.
 pub fn read_grow_arguments(
     alloc: Global,
     words: &[String],
@@ -26,51 +34,33 @@ pub fn read_grow_arguments(
     let found = found_in(alloc, CommandName::Grow, words)?;
     Ok(GrowRequest {
         options: options_of(alloc, &found)?,
+        row: text_of(alloc, &found, "row")?,
+        certificates: has_flag(&found, "certificates"),
     })
 }
 
 fn options_of(alloc: Global, found: &ArgMatches<'_>) -> Result<GrowOptions, GrowArgumentsFault> {
-    Ok(GrowOptions {
-        nodes: value(alloc, found, "nodes")?,
-        params: params_of(alloc, found)?,
-        seed: value(alloc, found, "seed")?,
-        loss_join: value(alloc, found, "loss-join")?,
-        loss: value(alloc, found, "loss")?,
-        repeat: value(alloc, found, "repeat")?,
-        order: value(alloc, found, "order")?,
-        pace: pace_of(alloc, found)?,
-        rounds: value(alloc, found, "rounds")?,
-        crash: crash_of(alloc, found)?,
-        heal: value(alloc, found, "heal")?,
-        broadcasts: value(alloc, found, "broadcasts")?,
-    })
-}
-
-fn params_of(alloc: Global, found: &ArgMatches<'_>) -> Result<Params, GrowArgumentsFault> {
-    let active = value(alloc, found, "active")?;
-    let passive = value(alloc, found, "passive")?;
-    let arwl = value(alloc, found, "arwl")?;
-    let prwl = value(alloc, found, "prwl")?;
-    let ka = value(alloc, found, "ka")?;
-    let kp = value(alloc, found, "kp")?;
-    let ttl = value(alloc, found, "ttl")?;
-    let refill = value(alloc, found, "refill")?;
-    match Params::new(active, passive, arwl, prwl, ka, kp, ttl) {
-        Ok(params) => Ok(params.with_refill(refill)),
-        Err(_) => Err(long_walk(alloc, arwl, prwl)?),
+    let mut values = [0; COUNT];
+    let options = OPTIONS.iter().filter(|option| option.is_of_setting());
+    for (place, option) in options.enumerate() {
+        let number = value_of(alloc, found, option.name)?;
+        if let Some(slot) = values.get_mut(place) {
+            *slot = number;
+        }
+    }
+    match options_with(values, value(alloc, found, "seed")?) {
+        Some(options) => Ok(options),
+        None => Err(long_walk(alloc, values[ARWL], values[PRWL])?),
     }
 }
 
-fn pace_of(alloc: Global, found: &ArgMatches<'_>) -> Result<Option<Pace>, GrowArgumentsFault> {
-    if !found.contains_id("pace") {
-        return Ok(None);
+/// The value of the option of this name, by its number.
+fn value_of(alloc: Global, found: &ArgMatches<'_>, name: &str) -> Result<u64, GrowArgumentsFault> {
+    if name == "crash" && has_flag(found, "crash-cut") {
+        return Ok(CUT);
     }
-    value(alloc, found, "pace")
-}
-
-fn crash_of(alloc: Global, found: &ArgMatches<'_>) -> Result<Crash, GrowArgumentsFault> {
-    if has_flag(found, "crash-cut") {
-        return Ok(Crash::Cut);
+    if !found.contains_id(name) {
+        return Ok(NO_PACE);
     }
-    value(alloc, found, "crash")
+    value(alloc, found, name)
 }

@@ -14,6 +14,13 @@ pub(crate) struct OptionForm {
     pub(crate) help: &'static str,
 }
 
+impl OptionForm {
+    /// Whether it is one of a setting: neither the seed, nor another word for a value.
+    pub(crate) fn is_of_setting(&self) -> bool {
+        self.name != "seed" && self.name != "crash-cut"
+    }
+}
+
 /// What an option takes.
 #[derive(Clone, Copy)]
 pub(crate) enum Takes {
@@ -29,7 +36,14 @@ pub(crate) enum Takes {
     Crash,
     /// Nothing: it is there or not.
     Nothing,
+    /// After which phase overlays are looked at.
+    Phase,
 }
+
+/// The largest numbers that `--pace` and `--crash` take.
+pub(crate) const MOST_PACE: u64 = 65536;
+
+pub(crate) const MOST_CRASHED: u64 = 99;
 
 /// The words that `--order` takes.
 pub(crate) static ORDERS: [&str; 2] = ["random", "oldest"];
@@ -56,6 +70,25 @@ pub(crate) static SWEEP_OPTIONS: [OptionForm; 3] = [
         takes: Takes::Number(1, 1_000_000),
         usual: None,
         help: "Grows nothing, and prints commands in place of the rows, each of N runs at most",
+    },
+];
+
+/// The words that `--after` takes.
+pub(crate) static PHASES: [&str; 3] = ["settle", "crash", "heal"];
+
+/// The options by which `overlay sweep` is asked for a setting.
+pub(crate) static QUESTION_OPTIONS: [OptionForm; 2] = [
+    OptionForm {
+        name: "at-most-split",
+        takes: Takes::Number(1, 99),
+        usual: None,
+        help: "1 to 99: prints in place of the rows the smallest setting of which fewer than P of 100 runs are split",
+    },
+    OptionForm {
+        name: "after",
+        takes: Takes::Phase,
+        usual: Some("heal"),
+        help: "After which phase --at-most-split looks",
     },
 ];
 
@@ -189,8 +222,12 @@ pub(crate) static OPTIONS: [OptionForm; 20] = [
 ];
 
 /// What the option of this name takes.
-fn taken_by(name: &str) -> Option<Takes> {
-    for option in OPTIONS.iter().chain(&SWEEP_OPTIONS) {
+pub(crate) fn taken_by(name: &str) -> Option<Takes> {
+    for option in OPTIONS
+        .iter()
+        .chain(&SWEEP_OPTIONS)
+        .chain(&QUESTION_OPTIONS)
+    {
         if option.name == name {
             return Some(option.takes);
         }
@@ -198,11 +235,21 @@ fn taken_by(name: &str) -> Option<Takes> {
     None
 }
 
-/// The limits of the option of this name, if it takes a number.
-pub(crate) fn limits_of(name: &str) -> Option<(u64, u64)> {
-    match taken_by(name)? {
-        Takes::Number(lowest, highest) => Some((lowest, highest)),
-        _ => None,
+/// Whether the option of this name counts in 100.
+pub(crate) fn is_of_hundred(name: &str) -> bool {
+    matches!(
+        taken_by(name),
+        Some(Takes::Crash | Takes::Number(_, 99 | 100))
+    )
+}
+
+/// The words that such an option takes, and no other text.
+pub(crate) fn words_of(takes: Takes) -> &'static [&'static str] {
+    match takes {
+        Takes::Order => ORDERS.as_slice(),
+        Takes::Refill => REFILLS.as_slice(),
+        Takes::Phase => PHASES.as_slice(),
+        _ => &[],
     }
 }
 
@@ -212,8 +259,10 @@ pub(crate) fn takes_text(alloc: Global, name: &str) -> Result<String, AllocError
         Some(Takes::Number(lowest, highest)) => {
             format!(in alloc; "it takes a number from {lowest} to {highest}")
         }
-        Some(Takes::Pace) => String::from_str(alloc, "it takes a number from 0 to 65536, or none"),
-        Some(Takes::Crash) => String::from_str(alloc, "it takes a number from 0 to 99, or cut"),
+        Some(Takes::Pace) => format!(in alloc; "it takes a number from 0 to {MOST_PACE}, or none"),
+        Some(Takes::Crash) => format!(in alloc;
+            "it takes a number from 0 to {MOST_CRASHED}, or cut"
+        ),
         _ => String::from_str(alloc, "it takes no such value"),
     }
 }

@@ -107,7 +107,11 @@ pub(crate) fn picture_of(
 }
 
 /// The text of an option, if it is there.
-fn text_of(alloc: Global, found: &ArgMatches, name: &str) -> Result<Option<String>, AllocError>
+pub(crate) fn text_of(
+    alloc: Global,
+    found: &ArgMatches,
+    name: &str,
+) -> Result<Option<String>, AllocError>
     ensures { IfOk result
         (λ text. first_value (found_of found.now) name.now ≡ option_map string_bytes text) }
 {

@@ -1,153 +1,127 @@
 use crate::GrowArgumentsFault;
 use crate::clap_parsing_and_faults::{bad_value, bad_value_since};
-use crate::growing_option_table::limits_of;
+use crate::growing_option_table::{MOST_CRASHED, MOST_PACE, Takes, taken_by, words_of};
+use crate::value_slips::{RANGE, one_value};
 use clap::ArgMatches;
-use ov_grow_options::{Chance, Count, Crash, NodeCount, Order, Pace, Share};
-use ov_ids::{Refill, Workers};
 use std::alloc::{AllocError, Global};
 use std::fmt::Write;
 
 /// Why a list is refused that has one value twice: its runs would be counted twice.
 pub(crate) const TWICE: &str = "it stands in the list twice";
 
-/// What an option takes, as a text spells it.
-pub(crate) trait OptionValue: Sized {
-    /// The value of the option of this name that a text spells, if it spells one.
-    fn read(name: &str, text: &str) -> Option<Self>;
-}
+/// Why a range is refused of which the first number is above the second one.
+const NO_RANGE: &str = "a range goes up, as 3..8";
 
-/// A number between the limits of the option of this name.
-impl OptionValue for u64 {
-    fn read(name: &str, text: &str) -> Option<u64> {
-        let number = text.parse::<u64>().ok()?;
-        let (lowest, highest) = limits_of(name)?;
-        if number < lowest || number > highest {
-            return None;
-        }
-        Some(number)
-    }
-}
+/// The number that stands for `none` as the pace, and for `cut` as what crashes: each is behind all numbers.
+pub(crate) const NO_PACE: u64 = MOST_PACE + 1;
 
-/// A number of 32 bits between the limits of the option of this name.
-impl OptionValue for u32 {
-    fn read(name: &str, text: &str) -> Option<u32> {
-        u32::try_from(u64::read(name, text)?).ok()
-    }
-}
+pub(crate) const CUT: u64 = MOST_CRASHED + 1;
 
-impl OptionValue for NodeCount {
-    fn read(_name: &str, text: &str) -> Option<NodeCount> {
-        NodeCount::new(short(text)?)
-    }
-}
-
-impl OptionValue for Chance {
-    fn read(_name: &str, text: &str) -> Option<Chance> {
-        Chance::new(short(text)?)
-    }
-}
-
-impl OptionValue for Share {
-    fn read(_name: &str, text: &str) -> Option<Share> {
-        Share::new(short(text)?)
-    }
-}
-
-impl OptionValue for Count {
-    fn read(_name: &str, text: &str) -> Option<Count> {
-        Count::new(short(text)?)
-    }
-}
-
-impl OptionValue for Workers {
-    fn read(_name: &str, text: &str) -> Option<Workers> {
-        Workers::new(short(text)?)
-    }
-}
-
-impl OptionValue for Order {
-    fn read(_name: &str, text: &str) -> Option<Order> {
-        match text {
-            "random" => Some(Order::Random),
-            "oldest" => Some(Order::Oldest),
-            _ => None,
+/// The number that stands for the value of the option of this name that a text spells: the number itself, or the place
+/// of a word. None: the option takes no such text.
+fn number_of(name: &str, text: &str) -> Option<u64> {
+    match taken_by(name)? {
+        Takes::Number(lowest, highest) => number_within(text, lowest, highest),
+        Takes::Pace => number_or(text, MOST_PACE, "none"),
+        Takes::Crash => number_or(text, MOST_CRASHED, "cut"),
+        takes => {
+            let place = words_of(takes).iter().position(|word| *word == text)?;
+            Some(place as u64)
         }
     }
 }
 
-impl OptionValue for Refill {
-    fn read(_name: &str, text: &str) -> Option<Refill> {
-        Refill::from_name(text.as_bytes())
+/// The number between two limits that a text spells.
+fn number_within(text: &str, lowest: u64, highest: u64) -> Option<u64> {
+    let number = text.parse::<u64>().ok()?;
+    (lowest <= number && number <= highest).then_some(number)
+}
+
+/// The number up to a limit that a text spells; a word stands for the next one.
+fn number_or(text: &str, highest: u64, word: &str) -> Option<u64> {
+    if text == word {
+        return Some(highest.saturating_add(1));
     }
+    number_within(text, 0, highest)
 }
 
-/// The turns between two births; `none` if they go on until no packet is left.
-impl OptionValue for Option<Pace> {
-    fn read(_name: &str, text: &str) -> Option<Option<Pace>> {
-        if text == "none" {
-            return Some(None);
-        }
-        Some(Some(Pace::new(short(text)?)?))
-    }
-}
-
-/// Which nodes crash; `cut` for those of the cut.
-impl OptionValue for Crash {
-    fn read(_name: &str, text: &str) -> Option<Crash> {
-        if text == "cut" {
-            return Some(Crash::Cut);
-        }
-        Some(Crash::Share(Share::new(short(text)?)?))
-    }
-}
-
-/// The number of 32 bits that a text spells.
-fn short(text: &str) -> Option<u32> {
-    text.parse::<u32>().ok()
-}
-
-/// Whether a flag is there.
-pub(crate) fn has_flag(found: &ArgMatches<'_>, name: &str) -> bool {
-    found.get_flag(name)
-}
-
-/// The value of an option.
-pub(crate) fn value<T: OptionValue>(
+/// The value of an option, by its number.
+pub(crate) fn value(
     alloc: Global,
     found: &ArgMatches<'_>,
     name: &str,
-) -> Result<T, GrowArgumentsFault> {
+) -> Result<u64, GrowArgumentsFault> {
     let text = found.get_str(name).unwrap_or("");
-    match T::read(name, text) {
+    match number_of(name, text) {
         Some(value) => Ok(value),
+        None if text.contains(',') || text.contains(RANGE) => {
+            let reason = one_value(alloc, name, text)?;
+            Err(bad_value_since(alloc, name, text, reason.as_str())?)
+        }
         None => Err(bad_value(alloc, name, text)?),
     }
 }
 
-/// The values of an option, in the order of its list. None of them may stand twice.
-pub(crate) fn values<T: OptionValue + Copy + PartialEq + Drop>(
+/// The values of an option, by their numbers, in the order of its list, in which `LOW..HIGH` are all numbers from one
+/// to the other. None of them may stand twice.
+pub(crate) fn values(
     alloc: Global,
     found: &ArgMatches<'_>,
     name: &str,
-) -> Result<Vec<T>, GrowArgumentsFault> {
+) -> Result<Vec<u64>, GrowArgumentsFault> {
     let mut values = Vec::new(alloc);
     for text in found.get_strs(name).unwrap_or(&[]) {
-        let Some(value) = T::read(name, text) else {
-            return Err(bad_value(alloc, name, text)?);
-        };
-        if values.contains(&value) {
-            return Err(bad_value_since(alloc, name, text, TWICE)?);
+        match ends_of(text) {
+            None => push_value(alloc, &mut values, name, text)?,
+            Some((low, high)) if low <= high => push_range(alloc, &mut values, name, low, high)?,
+            Some(_) => return Err(bad_value_since(alloc, name, text, NO_RANGE)?),
         }
-        values.push(value)?;
     }
     Ok(values)
+}
+
+/// The two ends of a range, if a text is one.
+fn ends_of(text: &str) -> Option<(u64, u64)> {
+    let (low, high) = text.split_once(RANGE)?;
+    Some((low.parse::<u64>().ok()?, high.parse::<u64>().ok()?))
+}
+
+/// Adds all numbers from one to the other, both of them among these.
+fn push_range(
+    alloc: Global,
+    values: &mut Vec<u64>,
+    name: &str,
+    low: u64,
+    high: u64,
+) -> Result<(), GrowArgumentsFault> {
+    for number in low..=high {
+        let text = format!(in alloc; "{number}")?;
+        push_value(alloc, values, name, text.as_str())?;
+    }
+    Ok(())
+}
+
+/// Adds the value that a text spells.
+fn push_value(
+    alloc: Global,
+    values: &mut Vec<u64>,
+    name: &str,
+    text: &str,
+) -> Result<(), GrowArgumentsFault> {
+    let Some(value) = number_of(name, text) else {
+        return Err(bad_value(alloc, name, text)?);
+    };
+    if values.contains(&value) {
+        return Err(bad_value_since(alloc, name, text, TWICE)?);
+    }
+    Ok(values.push(value)?)
 }
 
 /// Why --prwl is refused that is above --arwl.
 pub(crate) fn long_walk(
     alloc: Global,
-    arwl: u32,
-    prwl: u32,
+    arwl: u64,
+    prwl: u64,
 ) -> Result<GrowArgumentsFault, AllocError> {
     let text = format!(in alloc; "{prwl}")?;
     let reason = format!(in alloc; "with --arwl {arwl} it takes a number from 0 to {arwl}")?;

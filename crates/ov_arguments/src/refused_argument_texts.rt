@@ -15,9 +15,6 @@ use std::fmt::Write;
 /// The program with its version, and the logic that it is proved with. Each kit of that logic may build it.
 const VERSION: &str = "overlay 1.0, proved with Rattle's logic dac8208d650f15bf\n";
 
-/// The word that asks for help of a command, in its place.
-const HELP: &str = "help";
-
 /// What is printed of arguments of which one is no text, so that `clap` does not see them.
 const NO_TEXT: &str = "error: an argument is no UTF-8 text\n";
 
@@ -107,13 +104,19 @@ fn push_ids_tip(
     Ok(())
 }
 
-/// The commands by which these arguments are told. Help is that of any command. Else those that grow overlays are left
-/// out, so that they are not offered in place of what is no command.
+/// The commands by which these arguments are told: all of them if the first argument is a word and none of those that
+/// `read_arguments` reads, so that help is that of any command, and any may be offered in place of what is none. In
+/// place of a file those that grow overlays are not offered.
 fn told_by<'a>(alloc: Global, arguments: &[String]) -> Result<Command<'a>, AllocError> {
     match arguments.first() {
-        Some(first) if first.as_str() == HELP => command_tree(alloc),
+        Some(first) if is_word(first) && !is_command(alloc, first.as_str())? => command_tree(alloc),
         _ => command(alloc),
     }
+}
+
+/// Whether a text is letters alone.
+fn is_word(text: &str) -> bool {
+    text.bytes().all(|byte| byte.is_ascii_alphabetic())
 }
 
 /// The arguments as a person can read them, each on one line: control characters are shown as their codes. None of

@@ -1,10 +1,12 @@
 use crate::GrowArgumentsFault;
+use crate::arguments::has_flag;
 use crate::clap_parsing_and_faults::bad_value_since;
-use crate::option_values::{TWICE, has_flag, long_walk, values};
-use crate::setting_lists::{PacketLists, ParamLists, PhaseLists, SettingLists};
+use crate::growing_option_table::OPTIONS;
+use crate::option_values::{CUT, NO_PACE, TWICE, long_walk, values};
+use crate::setting_lists::SettingLists;
+use crate::setting_values::{ARWL, PRWL};
 use clap::ArgMatches;
 use clap::parser::ValueSource;
-use ov_grow_options::Crash;
 use std::alloc::Global;
 
 /// The values of each option that were found in the words after `overlay sweep`.
@@ -12,42 +14,35 @@ pub(crate) fn lists_of(
     alloc: Global,
     found: &ArgMatches<'_>,
 ) -> Result<SettingLists, GrowArgumentsFault> {
-    let phases = phases_of(alloc, found)?;
-    let packets = packets_of(alloc, found)?;
-    let params = params_of(alloc, found)?;
-    let nodes = values(alloc, found, "nodes")?;
-    Ok(SettingLists {
-        nodes,
-        params,
-        packets,
-        phases,
-    })
+    let mut lists = Vec::new(alloc);
+    for option in OPTIONS.iter().filter(|option| option.is_of_setting()) {
+        lists.push(list_of(alloc, found, option.name)?)?;
+    }
+    judge_walks(alloc, &lists)?;
+    Ok(SettingLists { lists })
 }
 
-fn params_of(alloc: Global, found: &ArgMatches<'_>) -> Result<ParamLists, GrowArgumentsFault> {
-    let arwl = values(alloc, found, "arwl")?;
-    let prwl = values(alloc, found, "prwl")?;
-    judge_walks(alloc, &arwl, &prwl)?;
-    let active = values(alloc, found, "active")?;
-    let passive = values(alloc, found, "passive")?;
-    let ka = values(alloc, found, "ka")?;
-    let kp = values(alloc, found, "kp")?;
-    let ttl = values(alloc, found, "ttl")?;
-    let refill = values(alloc, found, "refill")?;
-    Ok(ParamLists {
-        active,
-        passive,
-        arwl,
-        prwl,
-        ka,
-        kp,
-        ttl,
-        refill,
-    })
+/// The values of the option of this name. Where no pace is given, it is none.
+fn list_of(
+    alloc: Global,
+    found: &ArgMatches<'_>,
+    name: &str,
+) -> Result<Vec<u64>, GrowArgumentsFault> {
+    if name == "crash" {
+        return crashes_of(alloc, found);
+    }
+    let mut list = values(alloc, found, name)?;
+    if list.is_empty() {
+        list.push(NO_PACE)?;
+    }
+    Ok(list)
 }
 
 /// Refuses lists of which one combination has --prwl above --arwl.
-fn judge_walks(alloc: Global, arwl: &[u32], prwl: &[u32]) -> Result<(), GrowArgumentsFault> {
+fn judge_walks(alloc: Global, lists: &[Vec<u64>]) -> Result<(), GrowArgumentsFault> {
+    let (Some(arwl), Some(prwl)) = (lists.get(ARWL), lists.get(PRWL)) else {
+        return Ok(());
+    };
     let least = arwl.iter().copied().min().unwrap_or(0);
     let most = prwl.iter().copied().max().unwrap_or(0);
     if most <= least {
@@ -56,48 +51,17 @@ fn judge_walks(alloc: Global, arwl: &[u32], prwl: &[u32]) -> Result<(), GrowArgu
     Err(long_walk(alloc, least, most)?)
 }
 
-fn packets_of(alloc: Global, found: &ArgMatches<'_>) -> Result<PacketLists, GrowArgumentsFault> {
-    let loss_join = values(alloc, found, "loss-join")?;
-    let loss = values(alloc, found, "loss")?;
-    let repeat = values(alloc, found, "repeat")?;
-    let order = values(alloc, found, "order")?;
-    let mut pace = values(alloc, found, "pace")?;
-    if pace.is_empty() {
-        pace.push(None)?;
-    }
-    Ok(PacketLists {
-        loss_join,
-        loss,
-        repeat,
-        order,
-        pace,
-    })
-}
-
-fn phases_of(alloc: Global, found: &ArgMatches<'_>) -> Result<PhaseLists, GrowArgumentsFault> {
-    let rounds = values(alloc, found, "rounds")?;
-    let crash = crashes_of(alloc, found)?;
-    let heal = values(alloc, found, "heal")?;
-    let broadcasts = values(alloc, found, "broadcasts")?;
-    Ok(PhaseLists {
-        rounds,
-        crash,
-        heal,
-        broadcasts,
-    })
-}
-
 /// The values of --crash. With --crash-cut they are one more, or that alone if --crash is not given.
-fn crashes_of(alloc: Global, found: &ArgMatches<'_>) -> Result<Vec<Crash>, GrowArgumentsFault> {
+fn crashes_of(alloc: Global, found: &ArgMatches<'_>) -> Result<Vec<u64>, GrowArgumentsFault> {
     let mut crashes = values(alloc, found, "crash")?;
     if has_flag(found, "crash-cut") {
         if found.value_source("crash") == Some(ValueSource::DefaultValue) {
             crashes.clear();
         }
-        if crashes.contains(&Crash::Cut) {
+        if crashes.contains(&CUT) {
             return Err(bad_value_since(alloc, "crash", "cut", TWICE)?);
         }
-        crashes.push(Crash::Cut)?;
+        crashes.push(CUT)?;
     }
     Ok(crashes)
 }

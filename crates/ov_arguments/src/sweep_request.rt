@@ -1,12 +1,16 @@
 ghost use Rattle.std.specs.Prelude.{◌≡◌, ◌+◌, ◌%◌, ◌^◌, IfSome};
 
+use crate::arguments::has_flag;
 use crate::clap_parsing_and_faults::{bad_value_since, found_in};
 use crate::grow_and_sweep_clap_commands::CommandName;
-use crate::option_values::{has_flag, value};
+use crate::import_and_picture_requests::text_of;
+use crate::option_values::value;
+use crate::setting_lists::SettingLists;
+use crate::setting_values::short;
 use crate::sweep_list_reading::lists_of;
-use crate::{GrowArgumentsFault, SettingLists, SweepBlocks, SweepRuns};
+use crate::{GrowArgumentsFault, SweepBlocks, SweepRuns};
 use clap::ArgMatches;
-use ov_grow_options::GrowOptions;
+use ov_grow_options::{GrowOptions, Share};
 use ov_ids::Workers;
 use std::alloc::{AllocError, Global};
 
@@ -17,7 +21,7 @@ const MOST_RUNS: u64 = 1_000_000;
 #[derive(Drop)]
 pub struct SweepRequest {
     /// The settings.
-    pub settings: SettingLists,
+    pub(crate) settings: SettingLists,
     /// How many runs each setting has.
     pub runs: u32,
     /// The seed of the first run of each setting. Each further run has the next seed, and 0 follows the last of 64
@@ -27,6 +31,8 @@ pub struct SweepRequest {
     pub workers: Workers,
     /// What is printed.
     pub printed: Printed,
+    /// What is asked of the settings, if something is.
+    pub question: Option<SplitAsked>,
     /// The file for the picture, if one is asked for.
     pub svg: Option<String>,
     /// The files whose rows are read in place of growing, if they are given.
@@ -42,8 +48,30 @@ pub enum Printed {
     Rows,
     /// A summary of them.
     Summary,
+    /// The answer to what is asked of the settings, and nothing else.
+    Answer,
     /// The commands that grow them, each of at most so many runs. Nothing is grown.
     List { block: u32 },
+}
+
+/// What is asked of the settings: which is the smallest of which fewer runs than so many of 100 are split.
+#[derive(Clone, Copy, Debug, PartialEq, Eq)]
+pub struct SplitAsked {
+    /// Fewer than so many of 100, 1 or more.
+    pub bound: Share,
+    /// After which phase.
+    pub after: AskedPhase,
+}
+
+/// The phase after which overlays are looked at.
+#[derive(Clone, Copy, Debug, PartialEq, Eq)]
+pub enum AskedPhase {
+    /// All have joined, and the overlay has settled.
+    Settle,
+    /// Nodes have crashed.
+    Crash,
+    /// The overlay has healed.
+    Heal,
 }
 
 impl SweepRequest {
@@ -71,14 +99,9 @@ impl SweepRequest {
         self.settings.get(place / runs, seed)
     }
 
-    /// All settings, each with the first seed.
-    pub fn settings(&self) -> SweepRuns<'_> {
-        SweepRuns::new(self, u64::from(self.runs))
-    }
-
     /// All runs: setting after setting, and seed after seed.
     pub fn runs(&self) -> SweepRuns<'_> {
-        SweepRuns::new(self, 1)
+        SweepRuns::new(self)
     }
 
     /// All blocks of at most so many runs of one setting, in the order of the runs.
@@ -92,9 +115,9 @@ impl SweepRequest {
 /// given has its default alone.
 ///
 /// BadArguments (73): a word is no option or not what its option takes, an option is given twice, two options exclude
-/// each other (--list and --summary or --svg, --read and what grows or --progress), a value stands in its list twice,
-/// some --prwl is above some --arwl, there are more than 1,000,000 runs, or help is asked for. OutOfMemory (99): an
-/// allocation was refused.
+/// each other (--list and --summary, --at-most-split or --svg, --read and what grows or --progress), a value stands in
+/// its list twice, some --prwl is above some --arwl, there are more than 1,000,000 runs, or help is asked for.
+/// OutOfMemory (99): an allocation was refused.
 pub fn read_sweep_arguments(
     alloc: Global,
     words: &[String],
@@ -108,9 +131,13 @@ pub fn read_sweep_arguments(
 }
 
 fn request_of(alloc: Global, found: &ArgMatches<'_>) -> Result<SweepRequest, GrowArgumentsFault> {
-    let (runs, first_seed, workers) = numbers_of(alloc, found)?;
-    let printed = printed_of(alloc, found)?;
-    let (svg, read) = names_of(alloc, found)?;
+    let runs = short(value(alloc, found, "runs")?);
+    let first_seed = value(alloc, found, "seed")?;
+    let workers = Workers::new(short(value(alloc, found, "workers")?)).unwrap_or(Workers::ONE);
+    let question = question_of(alloc, found)?;
+    let printed = printed_of(alloc, found, question.is_some())?;
+    let read = files_of(alloc, found)?;
+    let svg = text_of(alloc, found, "svg")?;
     let settings = lists_of(alloc, found)?;
     Ok(SweepRequest {
         settings,
@@ -118,31 +145,11 @@ fn request_of(alloc: Global, found: &ArgMatches<'_>) -> Result<SweepRequest, Gro
         first_seed,
         workers,
         printed,
+        question,
         svg,
         read,
         progress: has_flag(found, "progress"),
     })
-}
-
-/// How many runs each setting has, the seed of the first of them, and how many runs go on at once.
-fn numbers_of(
-    alloc: Global,
-    found: &ArgMatches<'_>,
-) -> Result<(u32, u64, Workers), GrowArgumentsFault> {
-    let runs = value(alloc, found, "runs")?;
-    let first_seed = value(alloc, found, "seed")?;
-    let workers = value(alloc, found, "workers")?;
-    Ok((runs, first_seed, workers))
-}
-
-/// The name of the file for a picture, and those of the files that are read, as far as they are given.
-fn names_of(
-    alloc: Global,
-    found: &ArgMatches<'_>,
-) -> Result<(Option<String>, Option<Vec<String>>), AllocError> {
-    let read = files_of(alloc, found)?;
-    let svg = svg_of(alloc, found)?;
-    Ok((svg, read))
 }
 
 /// Why a sweep is refused that has too many runs.
@@ -156,23 +163,37 @@ fn too_many(alloc: Global, request: &SweepRequest) -> Result<GrowArgumentsFault,
     bad_value_since(alloc, "runs", text.as_str(), reason.as_str())
 }
 
-fn printed_of(alloc: Global, found: &ArgMatches<'_>) -> Result<Printed, GrowArgumentsFault> {
-    if found.contains_id("list") {
-        let block = value(alloc, found, "list")?;
-        return Ok(Printed::List { block });
+/// What is asked of the settings.
+fn question_of(
+    alloc: Global,
+    found: &ArgMatches<'_>,
+) -> Result<Option<SplitAsked>, GrowArgumentsFault> {
+    if !found.contains_id("at-most-split") {
+        return Ok(None);
     }
-    if has_flag(found, "summary") {
-        Ok(Printed::Summary)
-    } else {
-        Ok(Printed::Rows)
-    }
+    let after = match value(alloc, found, "after")? {
+        0 => AskedPhase::Settle,
+        1 => AskedPhase::Crash,
+        _ => AskedPhase::Heal,
+    };
+    let bound = Share::new(short(value(alloc, found, "at-most-split")?));
+    Ok(bound.map(|bound| SplitAsked { bound, after }))
 }
 
-fn svg_of(alloc: Global, found: &ArgMatches<'_>) -> Result<Option<String>, AllocError> {
-    let Some(name) = found.get_str("svg") else {
-        return Ok(None);
-    };
-    Ok(Some(String::from_str(alloc, name)?))
+fn printed_of(
+    alloc: Global,
+    found: &ArgMatches<'_>,
+    is_asked: bool,
+) -> Result<Printed, GrowArgumentsFault> {
+    if found.contains_id("list") {
+        let block = short(value(alloc, found, "list")?);
+        return Ok(Printed::List { block });
+    }
+    Ok(match (has_flag(found, "summary"), is_asked) {
+        (true, _) => Printed::Summary,
+        (false, true) => Printed::Answer,
+        (false, false) => Printed::Rows,
+    })
 }
 
 fn files_of(alloc: Global, found: &ArgMatches<'_>) -> Result<Option<Vec<String>>, AllocError> {

@@ -10,17 +10,15 @@ pub struct SweepRuns<'a> {
     sweep: &'a SweepRequest,
     place: u64,
     end: u64,
-    apart: u64,
 }
 
 impl<'a> SweepRuns<'a> {
-    /// All runs whose place is a multiple of `apart`, which is not 0.
-    pub(crate) fn new(sweep: &'a SweepRequest, apart: u64) -> SweepRuns<'a> {
+    /// All runs.
+    pub(crate) fn new(sweep: &'a SweepRequest) -> SweepRuns<'a> {
         SweepRuns {
             sweep,
             place: 0,
             end: sweep.len(),
-            apart: apart.max(1),
         }
     }
 }
@@ -35,7 +33,7 @@ impl Iterator for SweepRuns<'_> {
             return None;
         }
         let place = self.place;
-        self.place = place.saturating_add(self.apart.max(1));
+        self.place = place.saturating_add(1);
         self.sweep.get(place)
     }
 }

@@ -1,5 +1,5 @@
 -- What `overlay grow` prints.
-use Rattle.std.specs.Prelude.{◌≡◌, ℕ, List, Option, Result, Ok, Err}
+use Rattle.std.specs.Prelude.{◌≡◌, ℕ, List, [], ◌∷◌, ◌++◌, Option, Result, Ok, Err, codes, decimal}
 use Rattle.std.specs.Io.KnownBytes.{Appends}
 use Rattle.ov_grow_options.specs.declared.options.GrowOptions.{GrowOptions}
 use Rattle.ov_grow.specs.Growing.{Grows, IsGrowRefusal}
@@ -19,12 +19,20 @@ pub record IsGrownBy (o : GrowOptions) (text : List ℕ) : Type 0 where
   pub grows : Grows o text core.world settled crashed healed
   pub replays : Replays text core
 
--- what a writer took: all of such a text; a prefix of it, if writing failed; and nothing, if growing was refused
--- for this reason
+-- the lines by which a scenario asks for the certificates of the reports of three moments
+abbrev pub certificate_lines : List ℕ → List ℕ
+certificate_lines (settled ∷ crashed ∷ healed ∷ []) =
+    codes "certificate " ++ (decimal settled ++ (codes "\ncertificate " ++ (decimal crashed ++ (codes "\ncertificate "
+    ++ (decimal healed ++ codes "\n")))))
+certificate_lines other = []
+
+-- what a writer took: all of such a text, and the moments at the end of the phases are known; a prefix of it, if
+-- writing failed; and nothing, if growing was refused for this reason
 abbrev pub WasPrinted :
-    {W : Type 0} → GrowOptions → (W → Option (List ℕ)) → W → W → Result (Unit {0}) GrowthFault → Type 0
-WasPrinted o contents old new (Ok done) =
-    (text : List ℕ) × IsGrownBy o text × Appends (contents old) (contents new) text
+    {W : Type 0} → GrowOptions → (W → Option (List ℕ)) → W → W → Result (List ℕ) GrowthFault → Type 0
+WasPrinted o contents old new (Ok moments) =
+    (text : List ℕ) × (grown : IsGrownBy o text) × Appends (contents old) (contents new) text
+    × (moments ≡ grown.settled.moment ∷ grown.crashed.moment ∷ grown.healed.moment ∷ [])
 WasPrinted o contents old new (Err growth.Write) =
     (text : List ℕ) × IsGrownBy o text × AppendsPrefixOf text (contents old) (contents new)
 WasPrinted o contents old new (Err (growth.Growing fault)) = IsGrowRefusal o fault × (new ≡ old)

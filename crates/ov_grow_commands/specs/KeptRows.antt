@@ -1,20 +1,21 @@
 -- The rows that `overlay sweep` keeps of what it grows.
 use Rattle.std.specs.Prelude.{Bool, true, false, ◌||◌, List, is_some}
 use Rattle.ov_arguments.specs.declared.sweep_request.Printed.{Printed}
-use Rattle.ov_arguments.specs.declared.sweep_request.Printed.TheVariants.{Summary}
+use Rattle.ov_arguments.specs.declared.sweep_request.Printed.TheVariants.{Answer, Summary}
 use Rattle.ov_arguments.specs.declared.sweep_request.SweepRequest.{SweepRequest}
 use Rattle.ov_ids.specs.Members.{Has}
 use Rattle.ov_grow.specs.Rows.{IsRowOf}
 use Rattle.ov_sweep_rows.specs.declared.row.Row.{Row}
 
--- a summary is printed
-abbrev pub is_summary : Printed → Bool
-is_summary Summary = true
-is_summary other = false
+-- what is printed is told of all rows together: a summary, or an answer
+abbrev pub is_of_all : Printed → Bool
+is_of_all Summary = true
+is_of_all Answer = true
+is_of_all other = false
 
--- the rows are needed at the end, for a summary or a picture
+-- the rows are needed at the end, for a summary, an answer or a picture
 abbrev pub needs_rows : SweepRequest → Bool
-needs_rows request = is_summary request.printed || is_some request.svg
+needs_rows request = is_of_all request.printed || is_some request.svg
 
 -- each of these rows is that of the options that it names
 abbrev pub AreGrown : List Row → Type 0

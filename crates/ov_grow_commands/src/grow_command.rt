@@ -1,39 +1,80 @@
-ghost use Rattle.std.specs.Prelude.{◌≡◌, ◌<◌, ◌+◌, IfErr};
+ghost use Rattle.std.specs.Prelude.{◌≡◌, ◌<◌, ◌+◌, IfErr, IfOk};
+ghost use Rattle.std.specs.Io.KnownBytes.{Appends};
 ghost use Rattle.ov_io.specs.Device.{most_faults};
-ghost use Rattle.ov_grow_commands.specs.Growing.{WasPrinted};
+ghost use Rattle.ov_grow_commands.specs.Growing.{WasPrinted, certificate_lines};
 ghost use Rattle.ov_grow_commands.specs.declared.grow_command_fault.GrowthFault.TheVariants.{Growing};
 ghost use Rattle.ov_grow_commands.specs.declared.grow_command_fault.GrowthFault.TheVariants.{Write as write_failed};
 
 use crate::grow_command_fault::GrowthFault;
+use crate::row_files::options_of_row;
 use ov_arguments::GrowRequest;
 use ov_grow::{GrowFault, grow};
 use ov_grow_options::GrowOptions;
 use ov_io::Sink;
 use std::io::Write;
 
-/// Grows an overlay, and prints its scenario. Prints nothing if growing is refused, but why on standard error.
+/// Grows an overlay, and prints its scenario, with the lines for its certificates if they are asked for. Prints nothing
+/// if growing is refused, but why on standard error.
 pub(crate) fn grow_asked(rt: &HostRuntime, request: &GrowRequest) -> Result<(), GrowthFault> {
+    let options = match &request.row {
+        Some(row) => options_of_row(rt, row.as_str())?,
+        None => request.options,
+    };
     let mut sink = Sink::new(rt.stdout());
-    print_scenario(rt, &request.options, &mut sink)
+    let moments = print_scenario(rt, &options, &mut sink)?;
+    if !request.certificates {
+        return Ok(());
+    }
+    print_certificate_lines(rt, moments, &mut sink)
 }
 
-/// Grows an overlay with these options, and writes its scenario. Writes nothing if growing is refused. Prints why it
-/// ended before its end.
+/// Grows an overlay with these options, and writes its scenario. Writes nothing if growing is refused. The moments at
+/// the end of its phases are returned. Prints why it ended before its end.
 fn print_scenario<W: Write>(
     rt: &HostRuntime,
     options: &GrowOptions,
     sink: &mut Sink<W>,
-) -> Result<(), GrowthFault>
+) -> Result<[u32; 3], GrowthFault>
     requires { sink.old.faults < most_faults }
     ensures printed { WasPrinted options.now W.contents sink.old.writer sink.new.writer result }
     ensures failed { IfErr result (λ fault. fault ≡ write_failed → sink.new.faults ≡ sink.old.faults + 1) }
 {
     match grow(rt.alloc(), options) {
-        Ok(grown) => match sink.write_all(&grown.text) {
+        Ok(grown) => {
+            let moments = [
+                grown.settled.moment,
+                grown.crashed.moment,
+                grown.healed.moment,
+            ];
+            match sink.write_all(&grown.text) {
+                Ok(()) => Ok(moments),
+                Err(_) => Err(told(rt, GrowthFault::Write)),
+            }
+        }
+        Err(fault) => Err(not_grown(rt, fault)),
+    }
+}
+
+/// Writes the lines by which a scenario asks for the certificates of the reports of these moments. Prints why it ended
+/// before its end.
+fn print_certificate_lines<W: Write>(
+    rt: &HostRuntime,
+    moments: [u32; 3],
+    sink: &mut Sink<W>,
+) -> Result<(), GrowthFault>
+    requires { sink.old.faults < most_faults }
+    ensures { IfOk result (λ _. Appends (W.contents sink.old.writer) (W.contents sink.new.writer)
+        (certificate_lines moments)) }
+{
+    let [settled, crashed, healed] = moments;
+    match format!(in rt.alloc();
+        "certificate {settled}\ncertificate {crashed}\ncertificate {healed}\n"
+    ) {
+        Ok(text) => match sink.write_all(text.as_bytes()) {
             Ok(()) => Ok(()),
             Err(_) => Err(told(rt, GrowthFault::Write)),
         },
-        Err(fault) => Err(not_grown(rt, fault)),
+        Err(_) => Err(told(rt, GrowthFault::OutOfMemory)),
     }
 }
 

@@ -4,10 +4,12 @@
 mod grow_command;
 mod grow_command_fault;
 mod grow_or_sweep_dispatch;
+mod picture_file;
 mod row_files;
 mod row_printing;
 mod sweep_command;
 mod sweep_progress;
+mod sweep_report;
 
 pub use grow_command_fault::GrowthFault;
 pub use grow_or_sweep_dispatch::grow_or_sweep;

@@ -1,5 +1,6 @@
 use crate::grow_command::told;
 use crate::grow_command_fault::GrowthFault;
+use ov_grow_options::GrowOptions;
 use ov_io::{ReadFault, Source, shown_name, unopened_text, unread_text};
 use ov_sweep_rows::{Row, RowFault, read_rows};
 use std::fs::File;
@@ -16,6 +17,33 @@ pub(crate) fn rows_of_files(rt: &HostRuntime, files: &[String]) -> Result<Vec<Ro
         }
     }
     Ok(rows)
+}
+
+/// The options of a row that is named as FILE:N. Prints why, if there is no such row.
+pub(crate) fn options_of_row(rt: &HostRuntime, row: &str) -> Result<GrowOptions, GrowthFault> {
+    let Some((file, number)) = row.rsplit_once(":") else {
+        return Err(no_row(rt, row, "a row is named FILE:N, as rows.csv:12"));
+    };
+    let Ok(number) = number.parse::<usize>() else {
+        return Err(no_row(rt, row, "a row is named FILE:N, as rows.csv:12"));
+    };
+    let mut files = Vec::new(rt.alloc());
+    files.push(String::from_str(rt.alloc(), file)?)?;
+    let rows = rows_of_files(rt, &files)?;
+    match rows.get(number.wrapping_sub(1)) {
+        Some(row) => Ok(row.options),
+        None => Err(no_row(rt, row, "the file has no such row; they are counted from 1")),
+    }
+}
+
+/// Ends if a row that is asked for is not there. Prints its name, and why.
+fn no_row(rt: &HostRuntime, row: &str, reason: &str) -> GrowthFault {
+    let ended = GrowthFault::Row;
+    let _ = eprintln!(rt; "{ended}");
+    if let Ok(shown) = shown_name(rt.alloc(), row) {
+        let _ = eprintln!(rt; "{shown}: {reason}");
+    }
+    ended
 }
 
 /// The name that stands for standard input.

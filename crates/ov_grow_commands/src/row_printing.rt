@@ -9,7 +9,8 @@ use ov_grow::{RowTaker, SweepFault};
 use ov_io::Sink;
 use ov_sweep_rows::{Row, header_text, row_text};
 
-/// Prints the rows of a sweep as they come, unless a summary is asked for, and keeps those that are needed at the end.
+/// Prints the rows of a sweep as they come, unless a summary or an answer is asked for, and keeps those that are needed
+/// at the end.
 #[derive(Drop)]
 pub(crate) struct RowPrinter<'a> {
     rt: &'a HostRuntime,
@@ -19,12 +20,12 @@ pub(crate) struct RowPrinter<'a> {
     done: u64,
 }
 
-/// Whether the rows are needed at the end, for a summary or a picture.
+/// Whether the rows are needed at the end, for a summary, an answer or a picture.
 fn needs_rows(request: &SweepRequest) -> bool
     ensures { result ≡ needs_rows request.now }
 {
     match request.printed {
-        Printed::Summary => true,
+        Printed::Summary | Printed::Answer => true,
         Printed::Rows | Printed::List { .. } => request.svg.is_some(),
     }
 }
@@ -62,7 +63,7 @@ impl<'a> RowPrinter<'a> {
         write_rows(self.rt, rows)
     }
 
-    /// Keeps rows, if a summary or a picture needs them.
+    /// Keeps rows, if a summary, an answer or a picture needs them.
     fn keep(&mut self, rows: &[Row]) -> Result<(), SweepFault>
         ensures { WereGiven rows.now (kept_rows self.old.request.now self.old.kept.items)
             (kept_rows self.new.request.now self.new.kept.items) result }

@@ -1,3 +1,4 @@
+pub mod Bounding
 pub mod Records
 pub mod Said
 pub mod RowByRow

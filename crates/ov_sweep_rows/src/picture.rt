@@ -1,7 +1,7 @@
 use crate::picture_layout::{HEADING, LEFT, Layout, WIDTH, layout_of};
 use crate::picture_style::{STYLE, tone};
 use crate::plot_panel::{Panel, push_panel};
-use crate::runs_by_setting::{common_command, differing, number, run_counts};
+use crate::runs_by_setting::{differing, number, run_counts, swept_command};
 use crate::setting_names::{SETTING_NAMES, SettingName};
 use crate::summary_text_writing::phase_name;
 use crate::{Phase, Setting};
@@ -13,7 +13,8 @@ use std::fmt::Write;
 const TITLE: &str = "How few crashes split the overlay, run by run";
 
 /// The picture of a sweep, as SVG: a column for each setting, and in it a dot for each run at its k, after settling,
-/// after the crash and after healing beside one another, each with the share of runs that are split above it. It is
+/// after the crash and after healing beside one another, each with the share of runs that are split above it, with its
+/// interval as a bar. It is
 /// 1,200 pixels wide, has no scripts and no fonts of its own, and is light, or dark where the reader prefers it.
 /// OutOfMemory (99) if an allocation is refused.
 pub fn svg_text(alloc: Global, settings: &[Setting<'_>]) -> Result<String, OutOfMemory> {
@@ -58,7 +59,7 @@ fn push_heading(
     settings: &[Setting<'_>],
     differing: &[usize],
 ) -> Result<(), AllocError> {
-    let command = common_command(alloc, settings, differing)?;
+    let command = swept_command(alloc, settings, differing)?;
     let (fewest, most) = run_counts(settings);
     write!(
         text,
@@ -68,10 +69,11 @@ fn push_heading(
     push_legend(text)?;
     text.push_str("<text x=\"390\" y=\"84.5\">one dot is one run, ")?;
     if fewest == most {
-        write!(text, "{most} runs of each setting</text>\n")
+        write!(text, "{most} runs of each setting")?;
     } else {
-        write!(text, "{fewest} to {most} runs of a setting</text>\n")
+        write!(text, "{fewest} to {most} runs of a setting")?;
     }
+    text.push_str("; above them the share that is split, with its 95 % interval</text>\n")
 }
 
 /// Appends a dot and its meaning for each phase.

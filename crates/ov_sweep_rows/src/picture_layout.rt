@@ -1,5 +1,6 @@
 use crate::phase_summary::ascending_ks;
 use crate::runs_by_setting::number;
+use crate::split_answer::runs_of;
 use crate::{Phase, Setting};
 use std::alloc::{AllocError, Global};
 
@@ -15,8 +16,15 @@ const RIGHT: f64 = 20.0;
 /// How high the heading is.
 pub(crate) const HEADING: f64 = 108.0;
 
+/// How much of a panel is above its shares, how high these are, and how much stands between them and what it plots.
+pub(crate) const TOP: f64 = 26.0;
+
+pub(crate) const SHARES: f64 = 60.0;
+
+const GAP: f64 = 14.0;
+
 /// How much of a panel is above what it plots.
-pub(crate) const ABOVE: f64 = 24.0;
+pub(crate) const ABOVE: f64 = TOP + SHARES + GAP;
 
 /// How high the plotted part of a panel is.
 pub(crate) const PLOT: f64 = 300.0;
@@ -45,6 +53,9 @@ const WIDEST_STEP: f64 = 8.0;
 /// How many shorter distances are tried, each shorter by a hundredth of the widest.
 const STEPS: u32 = 99;
 
+/// Round shares, in percent.
+const ROUND_SHARES: [f64; 5] = [2.0, 5.0, 10.0, 20.0, 50.0];
+
 /// Where everything stands.
 #[derive(Clone, Copy, Debug, PartialEq)]
 pub(crate) struct Layout {
@@ -54,6 +65,8 @@ pub(crate) struct Layout {
     pub(crate) column: f64,
     /// The highest k.
     pub(crate) most_k: u32,
+    /// The highest share of split runs that is drawn, in percent.
+    pub(crate) most_share: f64,
     /// How far two dots are from each other.
     pub(crate) step: f64,
     /// How many lines of labels there are.
@@ -92,9 +105,26 @@ pub(crate) fn layout_of(
         columns,
         column,
         most_k,
+        most_share: most_share(settings),
         step: step_for(most_dots, column, height),
         labels,
     })
+}
+
+/// The lowest of some round shares, in percent, that no interval exceeds.
+fn most_share(settings: &[Setting<'_>]) -> f64 {
+    let mut highest = 0.0;
+    for setting in settings {
+        for phase in Phase::ALL {
+            highest = runs_of(setting, phase).interval().high.max(highest);
+        }
+    }
+    for share in ROUND_SHARES {
+        if highest * 100.0 <= share {
+            return share;
+        }
+    }
+    100.0
 }
 
 /// The widest distance of two dots with which so many dots fit the room of a phase and a k.

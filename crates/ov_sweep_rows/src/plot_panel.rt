@@ -1,11 +1,11 @@
-use crate::phase_summary::{ascending_ks, count, split_count};
+use crate::phase_summary::ascending_ks;
 use crate::picture_layout::{ABOVE, LABEL, LEFT, Layout, PHASE, PLOT};
-use crate::picture_style::tone;
 use crate::plot_dots::push_dots;
+use crate::plot_shares::{push_share, push_share_axis};
 use crate::runs_by_setting::{cell_at, number, shown_cell};
 use crate::setting_names::SETTING_NAMES;
-use crate::summary_text_writing::percent;
-use crate::{Phase, Row, Setting};
+use crate::split_answer::runs_of;
+use crate::{Phase, Setting};
 use std::alloc::{AllocError, Global};
 use std::fmt::Write;
 
@@ -75,8 +75,7 @@ fn push_axes(text: &mut String, panel: Panel<'_>, columns: f64) -> Result<(), Al
         text,
         "<text class=\"middle\" transform=\"translate(20 {middle:.1}) rotate(-90)\">{AXIS}</text>\n"
     )?;
-    let split = panel.top + 12.0;
-    push_name(text, split, "runs split, %")
+    push_share_axis(text, panel, right)
 }
 
 /// Appends the two axes.
@@ -100,7 +99,7 @@ fn push_edge(text: &mut String, panel: Panel<'_>, x: f64) -> Result<(), AllocErr
 }
 
 /// Appends a text that ends before the vertical axis.
-fn push_name(text: &mut String, y: f64, name: &str) -> Result<(), AllocError> {
+pub(crate) fn push_name(text: &mut String, y: f64, name: &str) -> Result<(), AllocError> {
     let x = LEFT - 10.0;
     write!(
         text,
@@ -153,39 +152,9 @@ fn push_column(
     ] {
         let ks = ascending_ks(alloc, &setting.runs, phase)?;
         push_dots(text, panel.layout, phase, &ks, x, panel.zero())?;
-        push_share(text, panel, phase, &setting.runs, x)?;
+        push_share(text, panel, phase, runs_of(setting, phase), x)?;
     }
     Ok(())
-}
-
-/// Appends the share that is split after a phase.
-fn push_share(
-    text: &mut String,
-    panel: Panel<'_>,
-    phase: Phase,
-    runs: &[&Row],
-    x: f64,
-) -> Result<(), AllocError> {
-    let class = tone(phase);
-    let y = panel.top + 12.0;
-    let share = percent(split_count(runs, phase), count(runs.len()));
-    write!(
-        text,
-        "<text class=\"small middle {class}\" x=\"{x:.1}\" y=\"{y:.1}\">"
-    )?;
-    push_percent(text, share)?;
-    text.push_str("</text>\n")
-}
-
-/// Appends a share in whole percent. One that is neither nothing nor all is not rounded to that.
-fn push_percent(text: &mut String, share: f64) -> Result<(), AllocError> {
-    if share > 0.0 && share < 1.0 {
-        text.push_str("&lt;1")
-    } else if share > 99.0 && share < 100.0 {
-        text.push_str("&gt;99")
-    } else {
-        write!(text, "{share:.0}")
-    }
 }
 
 /// Appends what the settings of a panel have in one of the options in which they differ, on this line below the axis.

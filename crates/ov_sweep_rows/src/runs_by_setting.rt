@@ -7,6 +7,9 @@ use ov_ids::OutOfMemory;
 use std::alloc::{AllocError, Global};
 use std::fmt::Write;
 
+/// How many characters fit a line of the picture.
+const LINE: usize = 160;
+
 /// The runs of one setting, whose options are the same but for the seed.
 #[derive(Drop)]
 pub struct Setting<'a> {
@@ -96,6 +99,41 @@ pub(crate) fn common_command(
         let cell = cell_at(&first.cells, place);
         if !differing.contains(&place) && cell != cell_at(&usual, place) {
             write!(text, " --{name} {cell}")?;
+        }
+    }
+    Ok(text)
+}
+
+/// The command of the sweep with the values of the options in which settings differ too, in the order in which they
+/// come. The text is that of `common_command` if it would not fit a line.
+pub(crate) fn swept_command(
+    alloc: Global,
+    settings: &[Setting<'_>],
+    differing: &[usize],
+) -> Result<String, AllocError> {
+    let common = common_command(alloc, settings, differing)?;
+    let mut text = common.clone()?;
+    for place in differing {
+        let name = SETTING_NAMES.get(*place).map_or("", |option| option.name);
+        let values = values_at(alloc, settings, *place)?;
+        write!(text, " --{name} {values}")?;
+    }
+    if text.len() > LINE {
+        return Ok(common);
+    }
+    Ok(text)
+}
+
+/// The values that settings have in the option at a place, with commas between them.
+fn values_at(alloc: Global, settings: &[Setting<'_>], place: usize) -> Result<String, AllocError> {
+    let mut cells = IndexSet::new(alloc);
+    let mut text = String::new(alloc);
+    for setting in settings {
+        let shown = shown_cell(alloc, cell_at(&setting.cells, place))?;
+        let (_, is_new) = cells.insert_full(shown.clone()?)?;
+        if is_new {
+            let comma = if text.is_empty() { "" } else { "," };
+            write!(text, "{comma}{shown}")?;
         }
     }
     Ok(text)

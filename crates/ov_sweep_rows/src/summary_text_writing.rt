@@ -1,14 +1,16 @@
-use crate::phase_summary::{PhaseSummary, phase_summary};
+use crate::phase_summary::{PhaseSummary, count, phase_summary};
 use crate::runs_by_setting::{cell_at, common_command, differing, run_counts, shown_cell};
 use crate::setting_names::SETTING_NAMES;
+use crate::split_answer::push_few_runs;
 use crate::text_table::TextTable;
 use crate::{Phase, Setting, Survival, wilson_interval};
+use ov_grow_options::Share;
 use ov_ids::OutOfMemory;
 use std::alloc::{AllocError, Global};
 use std::fmt::Write;
 
 /// The heads of the columns behind the options.
-const HEADS: [&str; 10] = [
+pub(crate) const HEADS: [&str; 10] = [
     "runs",
     "split",
     "share",
@@ -20,6 +22,9 @@ const HEADS: [&str; 10] = [
     "mean",
     "at k 50 %",
 ];
+
+/// The share of split runs, in percent, of which the heading says whether the runs are too few to be below it.
+const USUAL_BOUND: u32 = 1;
 
 /// What the columns mean.
 const MEANING: &str = "
@@ -60,6 +65,9 @@ fn heading(
             text,
             "\nsettings: {number}; runs of each: {fewest} to {most}\n"
         )?;
+    }
+    if let Some(bound) = Share::new(USUAL_BOUND) {
+        push_few_runs(&mut text, count(fewest), bound)?;
     }
     Ok(text)
 }
@@ -122,7 +130,7 @@ fn line_of(
 }
 
 /// Appends how many runs there are, and how many of them are split.
-fn push_split(
+pub(crate) fn push_split(
     alloc: Global,
     line: &mut Vec<String>,
     summary: &PhaseSummary,

@@ -1,9 +1,10 @@
 //! The summary and the picture of four rows, and Wilson's interval, reckoned by hand.
 use crate::sweep::rows::HEADER;
+use ov_grow_options::Share;
 use ov_ids::OutOfMemory;
 use ov_sweep_rows::{
-    Interval, Row, RowFault, Setting, read_rows, settings_of, summary_text, svg_text,
-    wilson_interval,
+    Interval, Row, RowFault, Setting, SplitRuns, Verdict, read_rows, settings_of, summary_text,
+    svg_text, wilson_interval,
 };
 use std::alloc::{AllocError, Global};
 
@@ -19,6 +20,7 @@ const FOUR: [&str; 4] = [
 const SUMMARY: &str = "\
 overlay sweep --nodes 60 --crash 10
 settings: 2; runs of each: 1 to 3
+No split in 1 run still allows 79.3 %: below 1 % takes 381 runs
 
 After settling
 active  runs  split   share  95 % interval  k 25 %  k 50 %  k 75 %  least degree  mean  at k 50 %
@@ -39,9 +41,12 @@ active  runs  split  share  95 % interval  k 25 %  k 50 %  k 75 %  least degree 
 split: ";
 
 /// What stands in the picture, and how often; None for once or more often.
-const PARTS: [(&str, Option<usize>); 7] = [
-    // a dot for each of four runs after each of three phases, and one for each phase in the legend
-    ("h0", Some(15)),
+const PARTS: [(&str, Option<usize>); 9] = [
+    // a dot for each of four runs after each of three phases, one for each phase in the legend, and one for the share
+    // of each of two settings after each phase, with a bar for its interval
+    ("h0", Some(21)),
+    ("stroke-width=\"2\"", Some(6)),
+    (">overlay sweep --nodes 60 --crash 10 --active 4,3<", Some(1)),
     ("&lt;", Some(0)),
     ("width=\"1200\"", None),
     ("prefers-color-scheme:dark", None),
@@ -126,4 +131,35 @@ fn is_interval(alloc: Global, interval: Interval, shown: &str) -> bool {
 #[test]
 fn three_of_ten(rt: HostRuntime) {
     assert!(rt; is_interval(rt.alloc(), wilson_interval(3, 10), "0.1078 0.6032"));
+}
+
+/// Whether the verdict of so many runs, reckoned in whole numbers, is that of the ends of their interval.
+fn is_of_interval(runs: SplitRuns, bound: Share) -> bool {
+    let share = f64::from(bound.of_hundred()) / 100.0;
+    let interval = runs.interval();
+    match runs.verdict(bound) {
+        Verdict::Below => interval.high < share,
+        Verdict::Open => interval.low <= share && share <= interval.high,
+        Verdict::Above => share < interval.low,
+    }
+}
+
+/// Whether that is so of up to 40 split runs of so many.
+fn are_of_intervals(runs: u32, bound: Share) -> bool {
+    for split in 0..runs.min(40) {
+        if !is_of_interval(SplitRuns { split, runs }, bound) {
+            return false;
+        }
+    }
+    true
+}
+
+#[test]
+fn verdicts_are_those_of_intervals(rt: HostRuntime) {
+    for percent in [1, 2, 5, 50, 99] {
+        for runs in [1, 2, 30, 73, 380, 381, 1000, 1_000_000] {
+            let is_so = matches!(Share::new(percent), Some(bound) if are_of_intervals(runs, bound));
+            assert!(rt; is_so, "{percent} {runs}");
+        }
+    }
 }

@@ -1,5 +1,5 @@
 -- What was written is the text of what was grown.
-use Rattle.std.proofs.Common.{ℕ, List, sym, subst}
+use Rattle.std.proofs.Common.{ℕ, List, refl, sym, subst}
 use Rattle.std.specs.Prelude.{Err}
 use Rattle.std.specs.Io.KnownBytes.{Appends}
 use Rattle.ov_io.specs.Device.{AppendsPrefixOf}
@@ -32,6 +32,7 @@ returns-in-Ok-write_all-clause-printed g c =
           c.in-Ok.ensures.grows c.in-Ok.ensures.replays,
       subst (λ (text : List ℕ). Appends (g.W.Write.contents c.args.sink.now.writer) (g.W.Write.contents
           c.write_all.new.self.writer) text) c.deref.ensures.value c.in-Ok-write_all.ensures.bytes,
+      refl,
     )
 
 pub returns-in-Ok-clause-printed : goal.returns-in-Ok-clause-printed
