@@ -1,10 +1,10 @@
 use crate::GrowArgumentsFault;
 use crate::clap_parsing_and_faults::found_in;
 use crate::grow_and_sweep_clap_commands::CommandName;
-use crate::option_values::{has_flag, long_walk, value};
+use crate::option_values::{has_flag, long_walk, no_such_sender, value};
 use clap::ArgMatches;
-use ov_grow_options::{Crash, GrowOptions, Pace};
-use ov_ids::Params;
+use ov_grow_options::{Crash, GrowOptions, NodeCount, Pace};
+use ov_ids::{NodeId, Params};
 use std::alloc::Global;
 
 /// What the words after `overlay grow` ask for.
@@ -18,7 +18,7 @@ pub struct GrowRequest {
 /// that is not given has its default.
 ///
 /// BadArguments (73): a word is no option or not what its option takes, an option is given twice, --crash and
-/// --crash-cut are given, --prwl is above --arwl, or help is asked for. OutOfMemory (99): an allocation was refused.
+/// --crash-cut are given, --prwl is above --arwl, --sender is above --nodes, or help is asked for. OutOfMemory (99): an allocation was refused.
 pub fn read_grow_arguments(
     alloc: Global,
     words: &[String],
@@ -30,8 +30,9 @@ pub fn read_grow_arguments(
 }
 
 fn options_of(alloc: Global, found: &ArgMatches<'_>) -> Result<GrowOptions, GrowArgumentsFault> {
+    let nodes = value(alloc, found, "nodes")?;
     Ok(GrowOptions {
-        nodes: value(alloc, found, "nodes")?,
+        nodes,
         params: params_of(alloc, found)?,
         seed: value(alloc, found, "seed")?,
         loss_join: value(alloc, found, "loss-join")?,
@@ -43,6 +44,9 @@ fn options_of(alloc: Global, found: &ArgMatches<'_>) -> Result<GrowOptions, Grow
         crash: crash_of(alloc, found)?,
         heal: value(alloc, found, "heal")?,
         broadcasts: value(alloc, found, "broadcasts")?,
+        sequential: has_flag(found, "sequential"),
+        sender: sender_of(alloc, found, nodes)?,
+        detect: has_flag(found, "detect"),
     })
 }
 
@@ -66,6 +70,24 @@ fn pace_of(alloc: Global, found: &ArgMatches<'_>) -> Result<Option<Pace>, GrowAr
         return Ok(None);
     }
     value(alloc, found, "pace")
+}
+
+/// The node that makes each broadcast, if it is given. It must be one of so many.
+fn sender_of(
+    alloc: Global,
+    found: &ArgMatches<'_>,
+    nodes: NodeCount,
+) -> Result<Option<NodeId>, GrowArgumentsFault> {
+    if !found.contains_id("sender") {
+        return Ok(None);
+    }
+    let sender: Option<NodeId> = value(alloc, found, "sender")?;
+    match sender {
+        Some(node) if node.number() > nodes.count() => {
+            Err(no_such_sender(alloc, node, nodes.count())?)
+        }
+        _ => Ok(sender),
+    }
 }
 
 fn crash_of(alloc: Global, found: &ArgMatches<'_>) -> Result<Crash, GrowArgumentsFault> {

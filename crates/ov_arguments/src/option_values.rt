@@ -3,7 +3,7 @@ use crate::clap_parsing_and_faults::{bad_value, bad_value_since};
 use crate::growing_option_table::limits_of;
 use clap::ArgMatches;
 use ov_grow_options::{Chance, Count, Crash, NodeCount, Order, Pace, Share};
-use ov_ids::{Refill, Workers};
+use ov_ids::{NodeId, Refill, Workers};
 use std::alloc::{AllocError, Global};
 use std::fmt::Write;
 
@@ -91,6 +91,17 @@ impl OptionValue for Option<Pace> {
     }
 }
 
+/// The node that makes each broadcast; `none` if one is chosen for each.
+impl OptionValue for Option<NodeId> {
+    fn read(_name: &str, text: &str) -> Option<Option<NodeId>> {
+        if text == "none" {
+            return Some(None);
+        }
+        let node = NodeCount::new(short(text)?)?;
+        Some(Some(NodeId::new(node.count())))
+    }
+}
+
 /// Which nodes crash; `cut` for those of the cut.
 impl OptionValue for Crash {
     fn read(_name: &str, text: &str) -> Option<Crash> {
@@ -152,4 +163,16 @@ pub(crate) fn long_walk(
     let text = format!(in alloc; "{prwl}")?;
     let reason = format!(in alloc; "with --arwl {arwl} it takes a number from 0 to {arwl}")?;
     bad_value_since(alloc, "prwl", text.as_str(), reason.as_str())
+}
+
+/// Why --sender is refused that is above --nodes.
+pub(crate) fn no_such_sender(
+    alloc: Global,
+    sender: NodeId,
+    most: u32,
+) -> Result<GrowArgumentsFault, AllocError> {
+    let number = sender.number();
+    let text = format!(in alloc; "{number}")?;
+    let reason = format!(in alloc; "with --nodes {most} it takes a number from 1 to {most}")?;
+    bad_value_since(alloc, "sender", text.as_str(), reason.as_str())
 }

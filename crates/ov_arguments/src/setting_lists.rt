@@ -1,7 +1,7 @@
 ghost use Rattle.std.specs.Prelude.{◌≡◌, IfSome};
 
 use ov_grow_options::{Chance, Count, Crash, GrowOptions, NodeCount, Order, Pace, Share};
-use ov_ids::{Params, Refill};
+use ov_ids::{NodeId, Params, Refill};
 
 /// The values of each option in a sweep. Every combination of them is one setting; the value of the first option varies
 /// slowest.
@@ -11,6 +11,7 @@ pub struct SettingLists {
     pub(crate) params: ParamLists,
     pub(crate) packets: PacketLists,
     pub(crate) phases: PhaseLists,
+    pub(crate) further: FurtherLists,
 }
 
 /// The values of the nodes' parameters.
@@ -45,6 +46,14 @@ pub(crate) struct PhaseLists {
     pub(crate) broadcasts: Vec<Count>,
 }
 
+/// The values of the further options: how broadcasts are made, and how nodes learn of crashes.
+#[derive(Drop)]
+pub(crate) struct FurtherLists {
+    pub(crate) sequential: bool,
+    pub(crate) sender: Vec<Option<NodeId>>,
+    pub(crate) detect: bool,
+}
+
 /// A place among combinations, of which values are taken from the option that varies fastest on.
 #[derive(Drop)]
 pub(crate) struct Place(u64);
@@ -69,6 +78,7 @@ impl SettingLists {
             .len()
             .saturating_mul(self.packets.len())
             .saturating_mul(self.phases.len())
+            .saturating_mul(self.further.sender.len() as u64)
             .saturating_mul(self.nodes.len() as u64)
     }
 
@@ -85,6 +95,7 @@ impl SettingLists {
             return None;
         }
         let mut place = Place(place);
+        let sender = place.take(&self.further.sender)?;
         let (rounds, crash, heal, broadcasts) = self.phases.at(&mut place)?;
         let (loss_join, loss, repeat, order, pace) = self.packets.at(&mut place)?;
         let params = self.params.at(&mut place)?;
@@ -102,7 +113,20 @@ impl SettingLists {
             crash,
             heal,
             broadcasts,
+            sequential: self.further.sequential,
+            sender,
+            detect: self.further.detect,
         })
+    }
+
+    /// Whether a further option is asked for.
+    pub fn asks_further(&self) -> bool {
+        let FurtherLists {
+            sequential,
+            sender,
+            detect,
+        } = &self.further;
+        *sequential || *detect || sender.iter().any(|node| node.is_some())
     }
 }
 

@@ -1,10 +1,11 @@
 use crate::GrowArgumentsFault;
 use crate::clap_parsing_and_faults::bad_value_since;
-use crate::option_values::{TWICE, has_flag, long_walk, values};
-use crate::setting_lists::{PacketLists, ParamLists, PhaseLists, SettingLists};
+use crate::option_values::{TWICE, has_flag, long_walk, no_such_sender, values};
+use crate::setting_lists::{FurtherLists, PacketLists, ParamLists, PhaseLists, SettingLists};
 use clap::ArgMatches;
 use clap::parser::ValueSource;
-use ov_grow_options::Crash;
+use ov_grow_options::{Crash, NodeCount};
+use ov_ids::NodeId;
 use std::alloc::Global;
 
 /// The values of each option that were found in the words after `overlay sweep`.
@@ -16,12 +17,47 @@ pub(crate) fn lists_of(
     let packets = packets_of(alloc, found)?;
     let params = params_of(alloc, found)?;
     let nodes = values(alloc, found, "nodes")?;
+    let further = further_of(alloc, found, &nodes)?;
     Ok(SettingLists {
         nodes,
         params,
         packets,
         phases,
+        further,
     })
+}
+
+/// The values of the further options. Each sender must be a node of all overlays.
+fn further_of(
+    alloc: Global,
+    found: &ArgMatches<'_>,
+    nodes: &[NodeCount],
+) -> Result<FurtherLists, GrowArgumentsFault> {
+    let mut sender = values(alloc, found, "sender")?;
+    if sender.is_empty() {
+        sender.push(None)?;
+    }
+    judge_senders(alloc, &sender, nodes)?;
+    Ok(FurtherLists {
+        sequential: has_flag(found, "sequential"),
+        sender,
+        detect: has_flag(found, "detect"),
+    })
+}
+
+/// Refuses lists of which one combination has --sender above --nodes.
+fn judge_senders(
+    alloc: Global,
+    senders: &[Option<NodeId>],
+    nodes: &[NodeCount],
+) -> Result<(), GrowArgumentsFault> {
+    let fewest = nodes.iter().map(|count| count.count()).min().unwrap_or(0);
+    for sender in senders.iter().flatten() {
+        if sender.number() > fewest {
+            return Err(no_such_sender(alloc, *sender, fewest)?);
+        }
+    }
+    Ok(())
 }
 
 fn params_of(alloc: Global, found: &ArgMatches<'_>) -> Result<ParamLists, GrowArgumentsFault> {

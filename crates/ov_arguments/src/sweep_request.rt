@@ -93,8 +93,8 @@ impl SweepRequest {
 ///
 /// BadArguments (73): a word is no option or not what its option takes, an option is given twice, two options exclude
 /// each other (--list and --summary or --svg, --read and what grows or --progress), a value stands in its list twice,
-/// some --prwl is above some --arwl, there are more than 1,000,000 runs, or help is asked for. OutOfMemory (99): an
-/// allocation was refused.
+/// some --prwl is above some --arwl, some --sender is above some --nodes, there are more than 1,000,000 runs, or help is
+/// asked for. OutOfMemory (99): an allocation was refused.
 pub fn read_sweep_arguments(
     alloc: Global,
     words: &[String],

@@ -9,7 +9,7 @@ use ov_arguments::{Printed, SweepRequest};
 use ov_grow::{RefusedRun, SweepFault, sweep};
 use ov_ids::OutOfMemory;
 use ov_io::{Sink, unopened_text};
-use ov_sweep_rows::{Row, header_text, settings_of, summary_text, svg_text};
+use ov_sweep_rows::{Row, RowForm, header_text, settings_of, summary_text, svg_text};
 use std::fs::File;
 use std::thread::Threads;
 
@@ -68,11 +68,12 @@ fn read_and_print(
     Ok(rows)
 }
 
-/// Prints the header, and these rows.
+/// Prints the header, and these rows, with the columns that all of them have.
 fn print_rows(rt: &HostRuntime, rows: &[Row]) -> Result<(), GrowthFault> {
-    let header = header_text(rt.alloc())?;
+    let form = RowForm::of_rows(rows);
+    let header = header_text(rt.alloc(), form)?;
     Sink::new(rt.stdout()).write_all(&header)?;
-    match write_rows(rt, rows) {
+    match write_rows(rt, form, rows) {
         Ok(()) => Ok(()),
         Err(SweepFault::OutOfMemory) => Err(GrowthFault::OutOfMemory),
         Err(_) => Err(GrowthFault::Write),

@@ -1,5 +1,5 @@
 use crate::Row;
-use crate::columns::{Cell, setting_cells};
+use crate::columns::{Cell, further_cells, setting_cells};
 use crate::setting_names::{SETTING_NAMES, SettingName};
 use indexmap::IndexSet;
 use ov_grow_options::GrowOptions;
@@ -11,7 +11,7 @@ use std::fmt::Write;
 #[derive(Drop)]
 pub struct Setting<'a> {
     /// What each column of a setting says.
-    pub(crate) cells: [Cell; 18],
+    pub(crate) cells: [Cell; 21],
     /// The runs.
     pub(crate) runs: Vec<&'a Row>,
 }
@@ -22,7 +22,7 @@ pub fn settings_of(alloc: Global, rows: &[Row]) -> Result<Vec<Setting<'_>>, OutO
     let mut keys = IndexSet::new(alloc);
     let mut settings: Vec<Setting<'_>> = Vec::new(alloc);
     for row in rows {
-        let cells = setting_cells(&row.options);
+        let cells = all_cells(&row.options);
         let (place, is_new) = keys.insert_full(key_of(alloc, &cells)?)?;
         if is_new {
             settings.push(Setting {
@@ -35,6 +35,17 @@ pub fn settings_of(alloc: Global, rows: &[Row]) -> Result<Vec<Setting<'_>>, OutO
         }
     }
     Ok(settings)
+}
+
+/// The cells of all options of a setting: those of its columns, and then those of the further options.
+fn all_cells(options: &GrowOptions) -> [Cell; 21] {
+    let mut cells = [Cell::Empty; 21];
+    for (place, cell) in setting_cells(options).iter().chain(&further_cells(options)).enumerate() {
+        if let Some(free) = cells.get_mut(place) {
+            *free = *cell;
+        }
+    }
+    cells
 }
 
 /// A text that says a setting.
@@ -91,11 +102,15 @@ pub(crate) fn common_command(
     let Some(first) = settings.first() else {
         return Ok(text);
     };
-    let usual = setting_cells(&GrowOptions::default());
-    for (place, SettingName { name, .. }) in SETTING_NAMES.iter().enumerate() {
+    let usual = all_cells(&GrowOptions::default());
+    for (place, SettingName { name, takes, .. }) in SETTING_NAMES.iter().enumerate() {
         let cell = cell_at(&first.cells, place);
-        if !differing.contains(&place) && cell != cell_at(&usual, place) {
-            write!(text, " --{name} {cell}")?;
+        if differing.contains(&place) || cell == cell_at(&usual, place) {
+            continue;
+        }
+        write!(text, " --{name}")?;
+        if *takes {
+            write!(text, " {cell}")?;
         }
     }
     Ok(text)
