@@ -15,14 +15,16 @@ import sys
 sys.path.insert(0, str(pathlib.Path(__file__).resolve().parent.parent / "study"))
 from grow import Growing  # noqa: E402
 from options import CHOICES, LIMITS, SEEDS, Options  # noqa: E402
-from rows import header, row_of  # noqa: E402
+from rows import swept_header, swept_row  # noqa: E402
 from second_opinion import Answer  # noqa: E402
 from world import Refusal  # noqa: E402
 
 MOST_RUNS = 1_000_000
 NUMBERS = LIMITS | {"runs": (1, MOST_RUNS), "workers": (1, 64), "list": (1, MOST_RUNS), "at_most_split": (1, 99)}
 PHASES = ("settle", "crash", "heal")
-FLAGS = {"grow": {"crash_cut", "certificates"}, "sweep": {"crash_cut", "summary", "progress"}}
+# The options of growing that take nothing, and those of each command.
+SWITCHES = {"crash_cut", "sequential", "detect"}
+FLAGS = {"grow": {*SWITCHES, "certificates"}, "sweep": {*SWITCHES, "summary", "progress"}}
 TEXTS = {"grow": {*CHOICES, "row"}, "sweep": {*CHOICES, "svg", "read", "after"}}
 OPTIONS = [field.name for field in dataclasses.fields(Options)]
 SWEEP_ONLY = ("runs", "workers", "list")
@@ -51,7 +53,7 @@ def value(name, word):
     """What a word says as the value of an option."""
     if name in CHOICES and word not in CHOICES[name]:
         raise BadArguments
-    if name in CHOICES or (name, word) in (("pace", "none"), ("crash", "cut")):
+    if name in CHOICES or (name, word) in (("pace", "none"), ("sender", "none"), ("crash", "cut")):
         return word
     return number(name, word)
 
@@ -98,10 +100,8 @@ def read_grow(words):
     given = {name: True if name in FLAGS["grow"] else value(name, said[0]) for name, said in found.items()}
     if given.get("crash") == "cut":
         given["crash"], given["crash_cut"] = 0, True
-    if given.get("pace") == "none":
-        given["pace"] = None
-    options = Options(**given)
-    if options.prwl > options.arwl:
+    options = Options(**{name: None if said == "none" else said for name, said in given.items()})
+    if options.prwl > options.arwl or (options.sender or 0) > options.nodes:
         raise BadArguments
     return options, asks
 
@@ -129,12 +129,14 @@ def values_of(name, word):
 
 def list_of(name, found):
     """The values of an option of a sweep, none of them twice."""
+    if name in SWITCHES:
+        return [name in found]
     if name not in found:
         return [getattr(Options, name)]
     values = [it for word in found[name][0].split(",") for it in values_of(name, word)]
     if len(set(values)) != len(values):
         raise BadArguments
-    return [None if name == "pace" and it == "none" else it for it in values]
+    return [None if it == "none" else it for it in values]
 
 
 def crashes(found):
@@ -166,6 +168,9 @@ class Sweep:
         self.seed, self.runs, self.block = one.get("seed", 0), one.get("runs", 30), one.get("list")
         if max(lists[names.index("prwl")]) > min(lists[names.index("arwl")]):
             raise BadArguments
+        if max(sender or 0 for sender in lists[names.index("sender")]) > min(lists[names.index("nodes")]):
+            raise BadArguments
+        self.is_further = any(len(values) > 1 or values[0] for values in lists[-3:])
         self.count = functools.reduce(lambda product, values: product * len(values), lists, self.runs)
         if self.count > MOST_RUNS:
             raise BadArguments
@@ -223,7 +228,7 @@ def answer_sweep(sweep):
         raise Open
     if sweep.block:
         return Answer(list(blocks(sweep)))
-    lines, left = [header()], MOST_STEPS
+    lines, left = [swept_header(sweep.is_further)], MOST_STEPS
     for options in sweep.settings:
         for run in range(sweep.runs):
             options.seed = (sweep.seed + run) % SEEDS
@@ -235,5 +240,5 @@ def answer_sweep(sweep):
                 growing.grow()
             except Refusal as fault:
                 return Answer(lines, f"refused {fault}", 1)
-            lines.append(row_of(options, growing.phases))
+            lines.append(swept_row(options, growing.phases, sweep.is_further))
     return Answer(lines)

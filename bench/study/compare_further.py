@@ -1,11 +1,12 @@
 #!/usr/bin/env python3
-"""compare_further.py [--simulate PROGRAM] [--networkx] [--overlay PROGRAM] [--count N] [--first SEED]: grows N overlays
-with options drawn at random, --sequential, --sender and --detect among them, and holds others against grow.py:
+"""compare_further.py [--simulate PROGRAM] [--networkx] [--overlay PROGRAM [--grows]] [--count N] [--first SEED]: grows N
+overlays with options drawn at random, --sequential, --sender and --detect among them, and holds others against grow.py:
 
   --simulate  this simulation prints the same scenario, the same row, with and without further columns, and the same row
               of each broadcast
   --networkx  networkx finds the same largest component, clustering, paths and diameter after each phase
   --overlay   the scenario, run strictly by this program, prints event for event what growing saw
+  --grows     this program grows the same scenario, and its sweep prints the same row, or refuses both as grow.py does
 
 It ends with status 1 at the first difference. The same seeds give the same options.
 """
@@ -18,7 +19,7 @@ from fractions import Fraction
 
 from compare import drawn, first_difference, run
 from grow import Growing
-from rows import further_header, further_row, header, message_rows, row_of
+from rows import asks_further, further_header, further_row, header, message_rows, row_of, swept_header, swept_row
 from shapes import clustering, coefficient, largest, paths
 from world import Refusal
 
@@ -69,12 +70,27 @@ def shape_difference(neighbours):
     return None if here == there else f"{here} and {there}"
 
 
+def swept_rows(growing):
+    """The rows of a sweep of this one overlay."""
+    is_further = asks_further(growing.options)
+    return "\n".join([swept_header(is_further), swept_row(growing.options, growing.phases, is_further), ""])
+
+
+def by_overlay(overlay, growing, words, scenario):
+    """What a program is asked to grow, and how it differs, in words."""
+    for command, text in (["grow"], scenario), (["sweep", "--runs", "1"], swept_rows(growing)):
+        yield f"overlay {command[0]}", first_difference(text, run(overlay, [*command, *words])[1])
+
+
 def differences(given, options):
     """What is compared, and how it differs, in words."""
     growing, words = Growing(options), options.heading().split(" ")[2:]
     try:
         scenario = "\n".join([*growing.grow(), ""])
     except Refusal as fault:
+        if given.overlay and given.grows:
+            is_refused = run(given.overlay, ["grow", *words]) == (1, "")
+            yield "overlay grow, refused", None if is_refused else f"it does not refuse as grow.py does: {fault}"
         if given.simulate:
             is_refused = run(given.simulate, [*words, "--scenario"]) == (1, "")
             yield "simulate, refused", None if is_refused else f"it does not refuse as grow.py does: {fault}"
@@ -84,6 +100,8 @@ def differences(given, options):
     if given.networkx:
         for phase in growing.phases:
             yield "networkx", shape_difference(phase.graph.neighbours)
+    if given.overlay and given.grows:
+        yield from by_overlay(given.overlay, growing, words, scenario)
     if given.overlay:
         status, printed = run(given.overlay, ["run", "--strict"], scenario.encode())
         seen = "\n".join([*growing.printed, ""])
@@ -95,6 +113,7 @@ def main():
     parser.add_argument("--simulate")
     parser.add_argument("--networkx", action="store_true")
     parser.add_argument("--overlay")
+    parser.add_argument("--grows", action="store_true")
     parser.add_argument("--count", type=int, default=50)
     parser.add_argument("--first", type=int, default=0)
     given = parser.parse_args()

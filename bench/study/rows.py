@@ -126,13 +126,28 @@ def option_fields(options):
 
 
 def further_fields(options):
-    """The options that rows of `overlay sweep` do not have."""
+    """The further options of a row, which rows of `overlay sweep` have if one of them is asked for."""
     return [int(options.sequential), "" if options.sender is None else options.sender, int(options.detect)]
 
 
 def row_of(options, phases):
     """The row of an overlay."""
     return ",".join(map(str, [*option_fields(options), *(figure for phase in phases for figure in phase.figures())]))
+
+
+def asks_further(options):
+    """Whether one of the further options is asked for."""
+    return options.sequential or options.sender is not None or options.detect
+
+
+def swept_header(is_further):
+    """The header of the rows of a sweep: with the further options if one of them is asked for."""
+    return ",".join([header(), *(FURTHER_OPTIONS if is_further else ())])
+
+
+def swept_row(options, phases, is_further):
+    """The row of an overlay in a sweep."""
+    return ",".join([row_of(options, phases), *(map(str, further_fields(options)) if is_further else ())])
 
 
 def further_header():

@@ -1,6 +1,6 @@
 use crate::clap_commands_and_help::{self, flag_argument as flag, text_argument, with_command};
 use crate::growing_option_table::{
-    OPTIONS, OptionForm, QUESTION_OPTIONS, SWEEP_OPTIONS, Takes, words_of,
+    CRASH_CUT, OPTIONS, OptionForm, QUESTION_OPTIONS, SWEEP_OPTIONS, Takes, words_of,
 };
 use clap::{Arg, Command};
 use std::alloc::{AllocError, Global};
@@ -195,10 +195,19 @@ fn one_value<'a>(alloc: Global, option: &'static OptionForm) -> Result<Arg<'a>, 
     let arg = match option.takes {
         Takes::Order => word(alloc, option, "ORDER"),
         Takes::Refill => word(alloc, option, "RULE"),
-        Takes::Nothing => return flag(alloc, option.name, option.help).conflicts_with("crash"),
+        Takes::Nothing => return alone_or_beside(alloc, option),
         _ => text(alloc, option.name, "N", option.help),
     };
     Ok(with_usual(arg, option))
+}
+
+/// An option of `overlay grow` that takes nothing. One of them does not stand beside `--crash`.
+fn alone_or_beside<'a>(alloc: Global, option: &'static OptionForm) -> Result<Arg<'a>, AllocError> {
+    let arg = flag(alloc, option.name, option.help);
+    if option.name == CRASH_CUT {
+        return arg.conflicts_with("crash");
+    }
+    Ok(arg)
 }
 
 /// An option of `overlay sweep`, which takes a list; but the seed is that of each first run.

@@ -2,10 +2,10 @@ use crate::GrowArgumentsFault;
 use crate::arguments::has_flag;
 use crate::clap_parsing_and_faults::found_in;
 use crate::grow_and_sweep_clap_commands::CommandName;
-use crate::growing_option_table::OPTIONS;
+use crate::growing_option_table::{CRASH_CUT, OPTIONS, OptionForm};
 use crate::import_and_picture_requests::text_of;
-use crate::option_values::{CUT, NO_PACE, long_walk, value};
-use crate::setting_values::{ARWL, COUNT, PRWL, options_with};
+use crate::option_values::{CUT, judge_sender, long_walk, value, without_text};
+use crate::setting_values::{ARWL, COUNT, NODES, PRWL, SENDER, options_with};
 use clap::ArgMatches;
 use ov_grow_options::GrowOptions;
 use std::alloc::Global;
@@ -25,8 +25,8 @@ pub struct GrowRequest {
 /// that is not given has its default.
 ///
 /// BadArguments (73): a word is no option or not what its option takes, an option is given twice, --crash and
-/// --crash-cut are given, or --row and an option of growing, --prwl is above --arwl, or help is asked for. OutOfMemory
-/// (99): an allocation was refused.
+/// --crash-cut are given, or --row and an option of growing, --prwl is above --arwl, --sender is above --nodes, or help
+/// is asked for. OutOfMemory (99): an allocation was refused.
 pub fn read_grow_arguments(
     alloc: Global,
     words: &[String],
@@ -43,24 +43,29 @@ fn options_of(alloc: Global, found: &ArgMatches<'_>) -> Result<GrowOptions, Grow
     let mut values = [0; COUNT];
     let options = OPTIONS.iter().filter(|option| option.is_of_setting());
     for (place, option) in options.enumerate() {
-        let number = value_of(alloc, found, option.name)?;
+        let number = value_of(alloc, found, option)?;
         if let Some(slot) = values.get_mut(place) {
             *slot = number;
         }
     }
-    match options_with(values, value(alloc, found, "seed")?) {
-        Some(options) => Ok(options),
-        None => Err(long_walk(alloc, values[ARWL], values[PRWL])?),
-    }
+    let Some(options) = options_with(values, value(alloc, found, "seed")?) else {
+        return Err(long_walk(alloc, values[ARWL], values[PRWL])?);
+    };
+    judge_sender(alloc, values[SENDER], values[NODES])?;
+    Ok(options)
 }
 
-/// The value of the option of this name, by its number.
-fn value_of(alloc: Global, found: &ArgMatches<'_>, name: &str) -> Result<u64, GrowArgumentsFault> {
-    if name == "crash" && has_flag(found, "crash-cut") {
+/// The value of an option, by its number.
+fn value_of(
+    alloc: Global,
+    found: &ArgMatches<'_>,
+    option: &OptionForm,
+) -> Result<u64, GrowArgumentsFault> {
+    if option.name == "crash" && has_flag(found, CRASH_CUT) {
         return Ok(CUT);
     }
-    if !found.contains_id(name) {
-        return Ok(NO_PACE);
+    if option.takes_nothing() || !found.contains_id(option.name) {
+        return Ok(without_text(found, option));
     }
-    value(alloc, found, name)
+    value(alloc, found, option.name)
 }

@@ -17,7 +17,12 @@ pub(crate) struct OptionForm {
 impl OptionForm {
     /// Whether it is one of a setting: neither the seed, nor another word for a value.
     pub(crate) fn is_of_setting(&self) -> bool {
-        self.name != "seed" && self.name != "crash-cut"
+        self.name != "seed" && self.name != CRASH_CUT
+    }
+
+    /// Whether it is there or not, and has no value.
+    pub(crate) fn takes_nothing(&self) -> bool {
+        matches!(self.takes, Takes::Nothing)
     }
 }
 
@@ -34,16 +39,20 @@ pub(crate) enum Takes {
     Pace,
     /// How many nodes crash of 100, or `cut`.
     Crash,
+    /// The node that makes each broadcast, or `none`.
+    Sender,
     /// Nothing: it is there or not.
     Nothing,
     /// After which phase overlays are looked at.
     Phase,
 }
 
-/// The largest numbers that `--pace` and `--crash` take.
+/// The largest numbers that `--pace`, `--crash` and `--sender` take.
 pub(crate) const MOST_PACE: u64 = 65536;
 
 pub(crate) const MOST_CRASHED: u64 = 99;
+
+pub(crate) const MOST_SENDER: u64 = 256;
 
 /// The words that `--order` takes.
 pub(crate) static ORDERS: [&str; 2] = ["random", "oldest"];
@@ -97,8 +106,24 @@ const REFILL: &str = "\
 What a node does that an active member sends DISCONNECT: never looks for another one (the profile), looks if it is \
 alone, looks always";
 
+/// The option that excludes `--crash`.
+pub(crate) const CRASH_CUT: &str = "crash-cut";
+
+/// What help says of `--sequential`.
+const SEQUENTIAL: &str = "\
+Broadcasts are made one by one: when one begins, nothing is left of the one before";
+
+/// What help says of `--sender`.
+const SENDER: &str = "\
+1 to --nodes: the node that makes each broadcast, or the next one that lives; without it, or with none, one is chosen \
+for each";
+
+/// What help says of `--detect`.
+const DETECT: &str = "\
+Nodes learn of crashes only by sending, from the crashes on: whoever sends to a crashed node is told";
+
 /// The options of growing, in the order of their table.
-pub(crate) static OPTIONS: [OptionForm; 20] = [
+pub(crate) static OPTIONS: [OptionForm; 23] = [
     OptionForm {
         name: "nodes",
         takes: Takes::Number(1, 256),
@@ -202,7 +227,7 @@ pub(crate) static OPTIONS: [OptionForm; 20] = [
         help: "0 to 99: of 100 live nodes, how many crash; cut is --crash-cut",
     },
     OptionForm {
-        name: "crash-cut",
+        name: CRASH_CUT,
         takes: Takes::Nothing,
         usual: None,
         help: "The nodes crash that the settled overlay's report names as the cut",
@@ -218,6 +243,24 @@ pub(crate) static OPTIONS: [OptionForm; 20] = [
         takes: Takes::Number(0, 1000),
         usual: Some("0"),
         help: "0 to 1000: broadcasts after each of the three snapshots",
+    },
+    OptionForm {
+        name: "sequential",
+        takes: Takes::Nothing,
+        usual: None,
+        help: SEQUENTIAL,
+    },
+    OptionForm {
+        name: "sender",
+        takes: Takes::Sender,
+        usual: None,
+        help: SENDER,
+    },
+    OptionForm {
+        name: "detect",
+        takes: Takes::Nothing,
+        usual: None,
+        help: DETECT,
     },
 ];
 
@@ -262,6 +305,9 @@ pub(crate) fn takes_text(alloc: Global, name: &str) -> Result<String, AllocError
         Some(Takes::Pace) => format!(in alloc; "it takes a number from 0 to {MOST_PACE}, or none"),
         Some(Takes::Crash) => format!(in alloc;
             "it takes a number from 0 to {MOST_CRASHED}, or cut"
+        ),
+        Some(Takes::Sender) => format!(in alloc;
+            "it takes a number from 1 to {MOST_SENDER}, or none"
         ),
         _ => String::from_str(alloc, "it takes no such value"),
     }

@@ -1,6 +1,9 @@
 use crate::GrowArgumentsFault;
+use crate::arguments::has_flag;
 use crate::clap_parsing_and_faults::{bad_value, bad_value_since};
-use crate::growing_option_table::{MOST_CRASHED, MOST_PACE, Takes, taken_by, words_of};
+use crate::growing_option_table::{
+    MOST_CRASHED, MOST_PACE, MOST_SENDER, OptionForm, Takes, taken_by, words_of,
+};
 use crate::value_slips::{RANGE, one_value};
 use clap::ArgMatches;
 use std::alloc::{AllocError, Global};
@@ -12,8 +15,11 @@ pub(crate) const TWICE: &str = "it stands in the list twice";
 /// Why a range is refused of which the first number is above the second one.
 const NO_RANGE: &str = "a range goes up, as 3..8";
 
-/// The number that stands for `none` as the pace, and for `cut` as what crashes: each is behind all numbers.
+/// The number that stands for `none` as the pace and as the sender, and for `cut` as what crashes: each is behind all
+/// numbers.
 pub(crate) const NO_PACE: u64 = MOST_PACE + 1;
+
+pub(crate) const NO_SENDER: u64 = MOST_SENDER + 1;
 
 pub(crate) const CUT: u64 = MOST_CRASHED + 1;
 
@@ -22,8 +28,9 @@ pub(crate) const CUT: u64 = MOST_CRASHED + 1;
 fn number_of(name: &str, text: &str) -> Option<u64> {
     match taken_by(name)? {
         Takes::Number(lowest, highest) => number_within(text, lowest, highest),
-        Takes::Pace => number_or(text, MOST_PACE, "none"),
-        Takes::Crash => number_or(text, MOST_CRASHED, "cut"),
+        Takes::Pace => number_or(text, 0, MOST_PACE, "none"),
+        Takes::Crash => number_or(text, 0, MOST_CRASHED, "cut"),
+        Takes::Sender => number_or(text, 1, MOST_SENDER, "none"),
         takes => {
             let place = words_of(takes).iter().position(|word| *word == text)?;
             Some(place as u64)
@@ -37,12 +44,21 @@ fn number_within(text: &str, lowest: u64, highest: u64) -> Option<u64> {
     (lowest <= number && number <= highest).then_some(number)
 }
 
-/// The number up to a limit that a text spells; a word stands for the next one.
-fn number_or(text: &str, highest: u64, word: &str) -> Option<u64> {
+/// The number between two limits that a text spells; a word stands for the next one.
+fn number_or(text: &str, lowest: u64, highest: u64, word: &str) -> Option<u64> {
     if text == word {
         return Some(highest.saturating_add(1));
     }
-    number_within(text, 0, highest)
+    number_within(text, lowest, highest)
+}
+
+/// The number of an option that has no default and is not given, and of one that takes nothing: 1 if it is there.
+pub(crate) fn without_text(found: &ArgMatches<'_>, option: &OptionForm) -> u64 {
+    match option.takes {
+        Takes::Nothing => u64::from(has_flag(found, option.name)),
+        Takes::Sender => NO_SENDER,
+        _ => NO_PACE,
+    }
 }
 
 /// The value of an option, by its number.
@@ -126,4 +142,18 @@ pub(crate) fn long_walk(
     let text = format!(in alloc; "{prwl}")?;
     let reason = format!(in alloc; "with --arwl {arwl} it takes a number from 0 to {arwl}")?;
     bad_value_since(alloc, "prwl", text.as_str(), reason.as_str())
+}
+
+/// Refuses a sender above the fewest nodes of an overlay.
+pub(crate) fn judge_sender(
+    alloc: Global,
+    sender: u64,
+    fewest: u64,
+) -> Result<(), GrowArgumentsFault> {
+    if sender == NO_SENDER || sender <= fewest {
+        return Ok(());
+    }
+    let text = format!(in alloc; "{sender}")?;
+    let reason = format!(in alloc; "with --nodes {fewest} it takes a number from 1 to {fewest}")?;
+    Err(bad_value_since(alloc, "sender", text.as_str(), reason.as_str())?)
 }

@@ -1,6 +1,7 @@
 ghost use Rattle.std.specs.Prelude.{◌≡◌, IfSome};
 
-use crate::setting_values::{COUNT, options_with};
+use crate::option_values::NO_SENDER;
+use crate::setting_values::{COUNT, DETECT, SENDER, SEQUENTIAL, options_with};
 use ov_grow_options::GrowOptions;
 
 /// The values of each option in a sweep. Every combination of them is one setting; the value of the first option varies
@@ -19,6 +20,21 @@ impl SettingLists {
             number = number.saturating_mul(list.len() as u64);
         }
         number
+    }
+
+    /// Whether one of the further options is asked for: --sequential, --sender or --detect.
+    pub(crate) fn asks_further(&self) -> bool {
+        self.has_other(SEQUENTIAL, 0)
+            || self.has_other(SENDER, NO_SENDER)
+            || self.has_other(DETECT, 0)
+    }
+
+    /// Whether the option at a place has another value than this one.
+    fn has_other(&self, place: usize, usual: u64) -> bool {
+        match self.lists.get(place) {
+            Some(list) => list.iter().any(|value| *value != usual),
+            None => false,
+        }
     }
 
     /// The setting at a place, counted from 0, with this seed. None is returned behind the last one.

@@ -1,16 +1,24 @@
 ghost use Rattle.std.specs.Prelude.{◌≡◌, IfSome};
 
-use crate::option_values::{CUT, NO_PACE};
+use crate::option_values::{CUT, NO_PACE, NO_SENDER};
 use ov_grow_options::{Chance, Count, Crash, GrowOptions, NodeCount, Order, Pace, Share};
-use ov_ids::{Params, Refill};
+use ov_ids::{NodeId, Params, Refill};
 
 /// How many options a setting has.
-pub(crate) const COUNT: usize = 18;
+pub(crate) const COUNT: usize = 21;
 
-/// The places of --arwl and --prwl among them.
+/// The places of some among them.
+pub(crate) const NODES: usize = 0;
+
 pub(crate) const ARWL: usize = 3;
 
 pub(crate) const PRWL: usize = 4;
+
+pub(crate) const SEQUENTIAL: usize = 18;
+
+pub(crate) const SENDER: usize = 19;
+
+pub(crate) const DETECT: usize = 20;
 
 /// The options of growing with these values, each by its number, in the order of a row, and this seed. None: --prwl is
 /// above --arwl, or a number stands for no value of its option.
@@ -19,7 +27,7 @@ pub(crate) fn options_with(v: [u64; COUNT], seed: u64) -> Option<GrowOptions>
 {
     let params = params_with([v[1], v[2], v[ARWL], v[PRWL], v[5], v[6], v[7]])?;
     Some(GrowOptions {
-        nodes: NodeCount::new(short(v[0]))?,
+        nodes: NodeCount::new(short(v[NODES]))?,
         params: params.with_refill(refill_of(v[8])),
         seed,
         loss_join: Chance::new(short(v[9]))?,
@@ -31,6 +39,9 @@ pub(crate) fn options_with(v: [u64; COUNT], seed: u64) -> Option<GrowOptions>
         crash: crash_of(v[15])?,
         heal: Count::new(short(v[16]))?,
         broadcasts: Count::new(short(v[17]))?,
+        sequential: v[SEQUENTIAL] == 1,
+        sender: sender_of(v[SENDER]),
+        detect: v[DETECT] == 1,
     })
 }
 
@@ -69,6 +80,13 @@ fn pace_of(number: u64) -> Option<Pace> {
         return None;
     }
     Pace::new(short(number))
+}
+
+fn sender_of(number: u64) -> Option<NodeId> {
+    if number == NO_SENDER {
+        return None;
+    }
+    Some(NodeId::new(short(number)))
 }
 
 fn crash_of(number: u64) -> Option<Crash> {

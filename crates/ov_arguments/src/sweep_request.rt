@@ -85,6 +85,11 @@ impl SweepRequest {
         self.len() == 0
     }
 
+    /// Whether one of the further options is asked for: --sequential, --sender or --detect. Rows have their columns then.
+    pub fn asks_further(&self) -> bool {
+        self.settings.asks_further()
+    }
+
     /// The options of the run at a place, counted from 0: setting after setting, and seed after seed. None is returned
     /// behind the last one.
     pub fn get(&self, place: u64) -> Option<GrowOptions>
@@ -111,13 +116,13 @@ impl SweepRequest {
 }
 
 /// Reads the words after `overlay sweep`: each option at most once, `--NAME VALUE` or `--NAME=VALUE`. Every option of
-/// `overlay grow` but --seed and --crash-cut takes a list, with one comma between two values. An option that is not
-/// given has its default alone.
+/// growing but --seed, --crash-cut, --sequential and --detect takes a list, with one comma between two values. An option
+/// that is not given has its default alone.
 ///
 /// BadArguments (73): a word is no option or not what its option takes, an option is given twice, two options exclude
 /// each other (--list and --summary, --at-most-split or --svg, --read and what grows or --progress), a value stands in
-/// its list twice, some --prwl is above some --arwl, there are more than 1,000,000 runs, or help is asked for.
-/// OutOfMemory (99): an allocation was refused.
+/// its list twice, some --prwl is above some --arwl, some --sender is above some --nodes, there are more than 1,000,000
+/// runs, or help is asked for. OutOfMemory (99): an allocation was refused.
 pub fn read_sweep_arguments(
     alloc: Global,
     words: &[String],

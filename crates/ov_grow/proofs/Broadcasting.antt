@@ -1,43 +1,75 @@
 -- Broadcasts and timers.
-use Rattle.std.proofs.Common.{◌≡◌, ◌<◌, ◌≤◌, ◌+◌, ℕ, suc, Bool, true, false, ◌||◌, List, [], ◌∷◌}
-use Rattle.std.proofs.Common.{length, drop, get_or, refl, sym, subst, ap, arith, ◌∙◌, inl, inr}
-use Rattle.std.proofs.lemmas.Option.{slice_get_read}
+use Rattle.std.proofs.Common.{◌≡◌, ◌<◌, ◌≤◌, ◌+◌, ◌⊎◌, ℕ, zero, suc, Bool, true, false, ◌||◌, List, [], ◌∷◌, ◌++◌}
+use Rattle.std.proofs.Common.{Option, Some, None, length, drop, get_or, refl, sym, subst, ap, arith, ◌∙◌, inl, inr}
 use Rattle.std.proofs.Math.Seq.{drop-cons}
 use Rattle.ov_ids.specs.declared.id.MsgId.{MsgId}
 use Rattle.ov_net.specs.Net.{LivesAs}
 use Rattle.ov_peer.specs.PeerState.{PeerState}
 use Rattle.ov_grow.specs.declared.recordable_event.Act.TheVariants as act
-use Rattle.ov_grow.specs.Growth.{Growth, Does, Chooses}
+use Rattle.ov_grow.specs.Growth.{Growth, Does}
 use Rattle.ov_grow.specs.Turns.{RunOut}
-use Rattle.ov_grow.specs.Broadcasts.{BroadcastBy, BroadcastsBegin, Fire, FireAt, FireAtEach, FiresIfItRuns}
-use Rattle.ov_grow.specs.Broadcasts.{TimersFire}
-use Rattle.ov_grow.specs.declared.packet_turn_rules.TurnRules.{TurnRules}
-use Rattle.ov_ids.specs.Members.{Has}
+use Rattle.ov_grow.specs.Broadcasts.{AtOnce, BroadcastBy, BroadcastsBegin, Fire, FireAt, FireAtEach, FiresIfItRuns}
+use Rattle.ov_grow.specs.Broadcasts.{IsSender, OneByOne, StandsInFor, TimersFire}
+use Rattle.ov_grow.specs.declared.phase_rules.PhaseRules.{PhaseRules}
+use Rattle.ov_ids.specs.Members.{Ascends, Has}
+use Rattle.ov_grow.specs.Code.Standing.{HaveNone}
+use Rattle.ov_grow.proofs.Healing.{first_found, is_item}
 use Rattle.ov_grow.proofs.Rounding.{drop_past}
 use Rattle.ov_grow.proofs.Turning.{Longer, AsLong, as_long_by, longer_by, does_longer}
 
--- the next broadcast
-pub broadcasts_more : (nodes : List ℕ) (n m place node : ℕ) (id : MsgId) (later : List MsgId) (s t v u : Growth)
-    → n ≡ suc m → Chooses (length nodes) s place t → place < length nodes → node ≡ get_or nodes place node
-    → BroadcastBy node t id v → BroadcastsBegin nodes m v later u
-    → BroadcastsBegin nodes n s (id ∷ later) u
-broadcasts_more nodes n m place node id later s t v u one chooses within is by more =
-    subst (λ k. BroadcastsBegin nodes k s (id ∷ later) u) (sym one) (
-      place,
-      node,
-      id,
-      later,
-      t,
-      v,
-      chooses,
-      slice_get_read nodes (length nodes) place node refl within is,
-      by,
-      refl,
-      more,
-    )
+-- who makes the next broadcast is found without an event
+pub sender_same : (sender : Option ℕ) (nodes : List ℕ) (node : ℕ) (s u : Growth) → IsSender sender nodes s node u
+    → u.world ≡ s.world
+sender_same None nodes node s u (place, chooses, at) = ap (λ g. g.world) chooses.1
+sender_same (Some n) nodes node s u (stands, same) = ap (λ g. g.world) same
 
-pub broadcasts_end : (nodes : List ℕ) (n : ℕ) (s : Growth) → n ≡ 0 → BroadcastsBegin nodes n s [] s
-broadcasts_end nodes n s none = subst (λ k. BroadcastsBegin nodes k s [] s) (sym none) (refl, refl)
+le_or_lt : (a b : ℕ) → (a ≤ b) ⊎ (b < a)
+le_or_lt zero b = inl (omega arith)
+le_or_lt (suc a) zero = inr (omega arith)
+le_or_lt (suc a) (suc b) = elim (le_or_lt a b) [
+  | inl least ↦ inl (omega (arith, least))
+  | inr less ↦ inr (omega (arith, less))
+]
+
+below : (n a : ℕ) → ¬ (n ≤ a) → a < n
+below n a not = elim (le_or_lt n a) [
+  | inl least ↦ absurd (not least)
+  | inr less ↦ less
+]
+
+-- if all of these nodes have smaller ids, the first of them stands in
+pub stands_last : (n : ℕ) (ids : List ℕ) (x : ℕ) → HaveNone (λ a. n ≤ a) ids → 0 < length ids → Ascends ids
+    → x ≡ get_or ids 0 x → StandsInFor n ids x
+stands_last n ids x none some ascend is = inr (
+  (λ a has. below n a (none a has)),
+  first_found (λ a. 0 ≤ a) ids 0 x some (is_item ids 0 x some is) ascend (λ a has. absurd has) (omega arith),
+)
+
+-- who stands in for a node is one of the live nodes
+pub stands_among : (n : ℕ) (live : List ℕ) (node : ℕ) → StandsInFor n live node → Has live node
+stands_among n live node (inl one) = one.has
+stands_among n live node (inr (none, one)) = one.has
+
+-- the next broadcast
+pub begins_more : (sender : Option ℕ) (nodes : List ℕ) (n m node : ℕ) (id : MsgId) (later : List MsgId)
+    (s t v u : Growth) → n ≡ suc m → IsSender sender nodes s node t → BroadcastBy node t id v
+    → BroadcastsBegin sender nodes m v later u → BroadcastsBegin sender nodes n s (id ∷ later) u
+begins_more sender nodes n m node id later s t v u one whose by more =
+    subst (λ k. BroadcastsBegin sender nodes k s (id ∷ later) u) (sym one)
+    (node, id, later, t, v, whose, by, refl, more)
+
+pub begins_end : (sender : Option ℕ) (nodes : List ℕ) (n : ℕ) (s : Growth) → n ≡ 0
+    → BroadcastsBegin sender nodes n s [] s
+begins_end sender nodes n s none = subst (λ k. BroadcastsBegin sender nodes k s [] s) (sym none) (refl, refl)
+
+-- the next of broadcasts that are made one by one
+pub one_more : (rules : PhaseRules) (n m : ℕ) (first later : List MsgId) (s t u : Growth) → n ≡ suc m
+    → AtOnce rules 1 s first t → OneByOne rules m t later u → OneByOne rules n s (first ++ later) u
+one_more rules n m first later s t u one begins more =
+    subst (λ k. OneByOne rules k s (first ++ later) u) (sym one) (first, later, t, begins, refl, more)
+
+pub no_more : (rules : PhaseRules) (n : ℕ) (s : Growth) → n ≡ 0 → OneByOne rules n s [] s
+no_more rules n s none = subst (λ k. OneByOne rules k s [] s) (sym none) (refl, refl)
 
 -- a node that broadcasts lives, and the message has its next number
 pub broadcast_by : (node made : ℕ) (s u : Growth) → ((p : PeerState) → LivesAs s.world.net node p → made ≡ p.tree.made)
@@ -86,11 +118,11 @@ fire_each_next nodes ids i node others s u within is fires =
     (drop-cons nodes i node within ∙ ap (λ x. x ∷ drop (suc i) nodes) (sym is)) fires)
 
 -- timers fired, and packets ran out
-pub timers_more : (rules : TurnRules) (ids : List MsgId) (s t v u : Growth) → Fire ids s true t → RunOut rules t v
+pub timers_more : (rules : PhaseRules) (ids : List MsgId) (s t v u : Growth) → Fire ids s true t → RunOut rules t v
     → TimersFire rules ids v u → TimersFire rules ids s u
 timers_more rules ids s t v u fires out (n, times) = (suc n, (t, v, fires, out, times))
 
-pub timers_end : (rules : TurnRules) (ids : List MsgId) (s u : Growth) → Fire ids s false u → TimersFire rules ids s u
+pub timers_end : (rules : PhaseRules) (ids : List MsgId) (s u : Growth) → Fire ids s false u → TimersFire rules ids s u
 timers_end rules ids s u none = (0, none)
 
 -- the journal is longer if a timer fired

@@ -38,7 +38,7 @@ use Rattle.ov_grow_options.specs.declared.options.Crash.{Crash}
 use Rattle.ov_grow_options.specs.declared.options.Crash.TheVariants.{Share, Cut}
 use Rattle.ov_grow.specs.Phases.{AreShareOfLive, AreToCrash, IsCutAt, cut_of, Births, Join, joining}
 use Rattle.ov_grow.specs.Code.Standing.{AllLive, HaveMade, MayCrash, StillLive}
-use Rattle.ov_grow.specs.declared.packet_turn_rules.TurnRules.{TurnRules}
+use Rattle.ov_grow.specs.declared.phase_rules.PhaseRules.{PhaseRules}
 use Rattle.ov_grow.proofs.Keeping.{keeps_same, lives_still, order_has, order_lives, turns_keep}
 use Rattle.ov_grow.proofs.Made.{none_made}
 use Rattle.ov_grow.proofs.Making.{MakesMost, makes_none, makes_then, run_out_keeps}
@@ -62,7 +62,7 @@ boot_made s u id contact did =
       journal = did.step.journal;
     }
 
-births_made : (rules : TurnRules) (pace id n : ℕ) (s u : Growth) → Births rules pace id n s u → MakesMost 0 s u
+births_made : (rules : PhaseRules) (pace id n : ℕ) (s u : Growth) → Births rules pace id n s u → MakesMost 0 s u
 births_made rules pace id zero s u same = makes_none s u (keeps_same s u (ap (λ g. g.world) same))
 births_made rules pace id (suc n) s u (place, t, v, w, turns, chooses, did, more) =
     makes_then 0 0 0 s t u (omega arith) (makes_none s t (turns_keep rules pace s t turns))

@@ -38,7 +38,7 @@ use Rattle.ov_grow.specs.Turns.{MayBeRepeated}
 use Rattle.ov_grow.specs.Code.Standing.{AreBorn, Fails, IsRefusedAct, MayBeTold, MayMake, growth_of}
 use Rattle.ov_grow.specs.declared.fault.GrowFault.{GrowFault}
 use Rattle.ov_grow.specs.declared.growing.Growing.{Growing}
-use Rattle.ov_grow.specs.declared.packet_turn_rules.TurnRules.{TurnRules}
+use Rattle.ov_grow.specs.declared.phase_rules.PhaseRules.{PhaseRules}
 
 -- the end of a chain has no fault
 passed_some : {E : Type 0} (f : E) → ¬ Passed (Some f)
@@ -102,7 +102,7 @@ report_full w a crashed p f lives gone judged =
     (live_passes w a p Known f lives judged)))
 
 -- a packet that may have been repeated is still there
-pub still_there : (rules : TurnRules) (place : ℕ) (s u : Growth) → MayBeRepeated rules place s u
+pub still_there : (rules : PhaseRules) (place : ℕ) (s u : Growth) → MayBeRepeated rules place s u
     → place < length s.world.net.packets → place < length u.world.net.packets
 still_there rules place s u (true, t, tries, did) within =
     let (packet, at, same) = did.step.step.2 in

@@ -5,7 +5,8 @@ use Rattle.ov_ids.specs.Members.{Ascends, Has}
 use Rattle.ov_ids.proofs.Members.{all_member}
 use Rattle.ov_grow.specs.Growth.{Growth, AreLive}
 use Rattle.ov_grow.specs.Phases.{AreFirst, HasNone, IsCrashedNeighbour}
-use Rattle.ov_grow.specs.Code.Standing.{HaveNone, IsFirstOf}
+use Rattle.ov_grow.specs.Growth.{IsFirstOf}
+use Rattle.ov_grow.specs.Code.Standing.{HaveNone}
 
 -- what is read within a list does not hang on the default
 get_or-default : (ids : List ℕ) (i d e : ℕ) → i < length ids → get_or ids i d ≡ get_or ids i e

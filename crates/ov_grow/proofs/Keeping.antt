@@ -31,7 +31,7 @@ use Rattle.ov_grow.specs.Growth.{Growth, Does, IsLive}
 use Rattle.ov_grow.specs.Rounds.{AreLiveInOrder}
 use Rattle.ov_grow.specs.Turns.{Arrives, IsDelivered, MayBeRepeated, SenderIsTold, Turn, TurnsUpTo}
 use Rattle.ov_grow.specs.Code.Standing.{AllLive, AreBorn, BornIn}
-use Rattle.ov_grow.specs.declared.packet_turn_rules.TurnRules.{TurnRules}
+use Rattle.ov_grow.specs.declared.phase_rules.PhaseRules.{PhaseRules}
 use Rattle.ov_grow.proofs.Made.{MakesNone, none_made}
 use Rattle.ov_grow.proofs.Turning.{whose_same}
 
@@ -192,30 +192,30 @@ told_keeps b s u place true (packet, at, inl (failed, did)) = report_keeps s u p
 told_keeps b s u place true (packet, at, inr (fine, same)) = keeps_same s u (ap (λ g. g.world) same)
 told_keeps b s u place false same = keeps_same s u (ap (λ g. g.world) same)
 
-delivered_keeps : (rules : TurnRules) (place : ℕ) (s u : Growth) → IsDelivered rules place s u → Keeps s u
+delivered_keeps : (rules : PhaseRules) (place : ℕ) (s u : Growth) → IsDelivered rules place s u → Keeps s u
 delivered_keeps rules place s u (t, did, told) =
     keeps_trans s t u (deliver_keeps s t place did) (told_keeps s t u place rules.tells_crashes told)
 
-repeated_keeps : (rules : TurnRules) (place : ℕ) (s u : Growth) → MayBeRepeated rules place s u → Keeps s u
+repeated_keeps : (rules : PhaseRules) (place : ℕ) (s u : Growth) → MayBeRepeated rules place s u → Keeps s u
 repeated_keeps rules place s u (true, t, tries, did) =
     keeps_trans s t u (keeps_same s t (ap (λ g. g.world) tries.1)) (repeat_keeps t u place did)
 repeated_keeps rules place s u (false, t, tries, same) =
     keeps_same s u (ap (λ g. g.world) same ∙ ap (λ g. g.world) tries.1)
 
-lost_keeps : (rules : TurnRules) (place : ℕ) (s u : Growth) (lost : Bool)
+lost_keeps : (rules : PhaseRules) (place : ℕ) (s u : Growth) (lost : Bool)
     → MatchBool lost (Does s (act.Lose place) u) (Arrives rules place s u) → Keeps s u
 lost_keeps rules place s u true did = lose_keeps s u place did
 lost_keeps rules place s u false (t, again, arrived) =
     keeps_trans s t u (repeated_keeps rules place s t again) (delivered_keeps rules place t u arrived)
 
 -- a turn
-pub turn_keeps : (rules : TurnRules) (s u : Growth) → Turn rules s u → Keeps s u
+pub turn_keeps : (rules : PhaseRules) (s u : Growth) → Turn rules s u → Keeps s u
 turn_keeps rules s u (place, lost, t, v, whose, tries, rest) =
     keeps_trans s v u (keeps_same s v (ap (λ g. g.world) tries.1 ∙ whose_same rules.order place s t whose))
     (lost_keeps rules place v u lost rest)
 
 -- so many turns
-pub turns_keep : (rules : TurnRules) (n : ℕ) (s u : Growth) → TurnsUpTo rules n s u → Keeps s u
+pub turns_keep : (rules : PhaseRules) (n : ℕ) (s u : Growth) → TurnsUpTo rules n s u → Keeps s u
 turns_keep rules zero s u same = keeps_same s u (ap (λ g. g.world) same)
 turns_keep rules (suc n) s u (inl none) = keeps_same s u (ap (λ g. g.world) none.1)
 turns_keep rules (suc n) s u (inr (some, t, turn, more)) =
@@ -249,7 +249,7 @@ born_keeps n s u keeps born = record {
   count = keeps.nodes.count ∙ born.count;
 }
 
-pub born_turns : (rules : TurnRules) (pace n : ℕ) (s u : Growth) → TurnsUpTo rules pace s u → AreBorn n s → AreBorn n u
+pub born_turns : (rules : PhaseRules) (pace n : ℕ) (s u : Growth) → TurnsUpTo rules pace s u → AreBorn n s → AreBorn n u
 born_turns rules pace n s u turns = born_keeps n s u (turns_keep rules pace s u turns)
 
 -- nobody was born yet

@@ -18,7 +18,7 @@ use Rattle.ov_net.specs.declared.journal_entry_and_changes.Entry.{Entry}
 use Rattle.ov_net.specs.declared.member.Member.{Member}
 use Rattle.ov_net.specs.declared.member.Member.TheVariants.{Live, Gone}
 use Rattle.ov_net.proofs.Journal.After.{holds_cases, holds_told}
-use Rattle.ov_grow.specs.declared.packet_turn_rules.TurnRules.{TurnRules}
+use Rattle.ov_grow.specs.declared.phase_rules.PhaseRules.{PhaseRules}
 use Rattle.ov_grow.specs.declared.recordable_event.Act.TheVariants as act
 use Rattle.ov_grow.specs.Growth.{Growth, AreLive, Does}
 use Rattle.ov_grow.specs.Phases.{IsCrashedNeighbour}
@@ -141,7 +141,7 @@ search_kept s u ids place (suc from) before after keeps none same quiet = λ a h
 
 -- a report and its packets
 pub reported_keeps :
-    (rules : TurnRules) (s t u : Growth) (node crashed : ℕ) → Does s (act.CrashReport node crashed) t → RunOut rules t u
+    (rules : PhaseRules) (s t u : Growth) (node crashed : ℕ) → Does s (act.CrashReport node crashed) t → RunOut rules t u
     → Keeps s u
 reported_keeps rules s t u node crashed did (n, turns, out) =
     keeps_trans s t u (report_keeps s t node crashed did) (turns_keep rules n t u turns)

@@ -1,5 +1,5 @@
 -- What longer ways leave of the nodes: who lives, and how many broadcasts each has made.
-use Rattle.std.proofs.Common.{◌≡◌, ◌≤◌, ◌+◌, ℕ, zero, suc, Bool, true, false, List, [], ◌∷◌, Some}
+use Rattle.std.proofs.Common.{◌≡◌, ◌≤◌, ◌+◌, ℕ, zero, suc, Bool, true, false, List, [], ◌∷◌, Option, Some}
 use Rattle.std.proofs.Common.{sym, ap, subst, ◌∙◌, inl, inr, arith}
 use Rattle.std.specs.Ordering.{eq_by_cmp, nat_cmp}
 use Rattle.std.specs.Cmp.{nat_cmp_total}
@@ -21,14 +21,16 @@ use Rattle.ov_grow.specs.declared.recordable_event.Act.TheVariants as act
 use Rattle.ov_grow.specs.Growth.{Growth, Does, IsLive, SomebodyLives}
 use Rattle.ov_grow.specs.Turns.{RunOut}
 use Rattle.ov_grow.specs.Rounds.{DoesEach, Round, Rounds}
-use Rattle.ov_grow.specs.Broadcasts.{BroadcastBy, Broadcasts, BroadcastsBegin, FireAt, FireAtEach, FireTimes}
-use Rattle.ov_grow.specs.Broadcasts.{FiresIfItRuns}
-use Rattle.ov_grow.specs.Phases.{EndsPhase, IsAnalysedAt, ReportCrashes, ReportTimes, Settle, settling}
+use Rattle.ov_grow.specs.Broadcasts.{AtOnce, BroadcastBy, Broadcasts, BroadcastsBegin, FireAt, FireAtEach, FireTimes}
+use Rattle.ov_grow.specs.Broadcasts.{FiresIfItRuns, OneByOne}
+use Rattle.ov_grow.specs.Phases.{AreTold, EndsPhase, IsAnalysedAt, ReportCrashes, ReportTimes, Settle, settling}
 use Rattle.ov_grow.specs.Code.Standing.{AllLive, HaveMade, MayMake, StillLive}
 use Rattle.ov_grow.specs.declared.phase_moment_and_deliveries.Phase.{Phase}
-use Rattle.ov_grow.specs.declared.packet_turn_rules.TurnRules.{TurnRules}
+use Rattle.ov_grow.specs.declared.phase_rules.PhaseRules.{PhaseRules}
 use Rattle.ov_grow.proofs.Keeping.{Keeps, keeps_same, keeps_trans, lives_still, shuffle_keeps, snapshot_keeps}
 use Rattle.ov_grow.proofs.Keeping.{report_keeps, timer_keeps, turns_keep}
+use Rattle.std.specs.Prelude.{MatchBool}
+use Rattle.ov_grow.proofs.Broadcasting.{sender_same}
 use Rattle.ov_grow.proofs.Made.{one_made}
 
 -- who lives goes on living, and nobody has made more broadcasts than so many more
@@ -77,14 +79,16 @@ broadcast_made s u node did =
       journal = did.step.journal;
     }
 
-begin_made : (nodes : List ℕ) (n : ℕ) (s u : Growth) (ids : List MsgId) → BroadcastsBegin nodes n s ids u
-    → MakesMost n s u
-begin_made nodes zero s u ids (none, same) = makes_none s u (keeps_same s u (ap (λ g. g.world) same))
-begin_made nodes (suc n) s u ids (place, node, id, later, t, v, chooses, at, (p, lives, is, did), names, more) =
-    makes_then 0 (suc n) (suc n) s t u (omega arith) (makes_none s t (keeps_same s t (ap (λ g. g.world) chooses.1)))
-    (makes_then 1 n (suc n) t v u (omega arith) (broadcast_made t v node did) (begin_made nodes n v u later more))
+begin_made : (sender : Option ℕ) (nodes : List ℕ) (n : ℕ) (s u : Growth) (ids : List MsgId)
+    → BroadcastsBegin sender nodes n s ids u → MakesMost n s u
+begin_made sender nodes zero s u ids (none, same) = makes_none s u (keeps_same s u (ap (λ g. g.world) same))
+begin_made sender nodes (suc n) s u ids (node, id, later, t, v, whose, (p, lives, is, did), names, more) =
+    makes_then 0 (suc n) (suc n) s t u (omega arith)
+    (makes_none s t (keeps_same s t (sender_same sender nodes node s t whose)))
+    (makes_then 1 n (suc n) t v u (omega arith) (broadcast_made t v node did)
+    (begin_made sender nodes n v u later more))
 
-pub run_out_keeps : (rules : TurnRules) (s u : Growth) → RunOut rules s u → Keeps s u
+pub run_out_keeps : (rules : PhaseRules) (s u : Growth) → RunOut rules s u → Keeps s u
 run_out_keeps rules s u (n, turns, none) = turns_keep rules n s u turns
 
 fires_keep : (node : ℕ) (id : MsgId) (s u : Growth) (fired : Bool) → FiresIfItRuns node id s fired u → Keeps s u
@@ -102,17 +106,35 @@ fire_each_keeps [] ids s u fired (same, fails) = keeps_same s u (ap (λ g. g.wor
 fire_each_keeps (node ∷ nodes) ids s u fired (first, others, t, fires, more, is) =
     keeps_trans s t u (fire_at_keeps node ids s t first fires) (fire_each_keeps nodes ids t u others more)
 
-times_keep : (rules : TurnRules) (ids : List MsgId) (n : ℕ) (s u : Growth) → FireTimes rules ids n s u → Keeps s u
+times_keep : (rules : PhaseRules) (ids : List MsgId) (n : ℕ) (s u : Growth) → FireTimes rules ids n s u → Keeps s u
 times_keep rules ids zero s u (live, are, each) = fire_each_keeps live ids s u false each
 times_keep rules ids (suc n) s u (t, v, (live, are, each), out, more) =
     keeps_trans s t u (fire_each_keeps live ids s t true each)
     (keeps_trans t v u (run_out_keeps rules t v out) (times_keep rules ids n v u more))
 
--- broadcasts
-pub broadcasts_made : (rules : TurnRules) (n : ℕ) (s u : Growth) → Broadcasts rules n s u → MakesMost n s u
-broadcasts_made rules n s u (live, ids, t, v, are, begin, out, (k, times)) =
-    makes_then n 0 n s t u (omega arith) (begin_made live n s t ids begin)
+-- broadcasts at once
+pub at_once_made : (rules : PhaseRules) (n : ℕ) (s u : Growth) (ids : List MsgId) → AtOnce rules n s ids u
+    → MakesMost n s u
+at_once_made rules n s u ids (live, t, v, are, begin, out, (k, times)) =
+    makes_then n 0 n s t u (omega arith) (begin_made rules.sender live n s t ids begin)
     (makes_none t u (keeps_trans t v u (run_out_keeps rules t v out) (times_keep rules ids k v u times)))
+
+one_by_one_made : (rules : PhaseRules) (n : ℕ) (s u : Growth) (ids : List MsgId) → OneByOne rules n s ids u
+    → MakesMost n s u
+one_by_one_made rules zero s u ids (none, same) = makes_none s u (keeps_same s u (ap (λ g. g.world) same))
+one_by_one_made rules (suc n) s u ids (first, later, t, one, is, more) =
+    makes_then 1 n (suc n) s t u (omega arith) (at_once_made rules 1 s t first one)
+    (one_by_one_made rules n t u later more)
+
+either_made : (sequential : Bool) (rules : PhaseRules) (n : ℕ) (s u : Growth) (ids : List MsgId)
+    → MatchBool sequential (OneByOne rules n s ids u) (AtOnce rules n s ids u) → MakesMost n s u
+either_made true rules n s u ids made = one_by_one_made rules n s u ids made
+either_made false rules n s u ids made = at_once_made rules n s u ids made
+
+-- broadcasts
+pub broadcasts_made : (rules : PhaseRules) (n : ℕ) (s u : Growth) (ids : List MsgId) → Broadcasts rules n s ids u
+    → MakesMost n s u
+broadcasts_made rules n s u ids made = either_made rules.sequential rules n s u ids made
 
 -- a snapshot that is analysed
 pub analysed_keeps : (m : ℕ) (s u : Growth) → IsAnalysedAt m s u → Keeps s u
@@ -120,19 +142,19 @@ analysed_keeps m s u (t, did, lives, is, writes) =
     keeps_trans s t u (snapshot_keeps s t did) (keeps_same t u (ap (λ g. g.world) writes))
 
 -- the end of a phase
-pub ending_made : (rules : TurnRules) (n : ℕ) (s u : Growth) (phase : Phase) → EndsPhase rules n s phase u
+pub ending_made : (rules : PhaseRules) (n : ℕ) (s u : Growth) (phase : Phase) → EndsPhase rules n s phase u
     → MakesMost n s u
-ending_made rules n s u phase (t, analysed, broadcasts, count) =
+ending_made rules n s u phase (t, ids, analysed, broadcasts, count) =
     makes_then 0 n n s t u (omega arith) (makes_none s t (analysed_keeps phase.moment s t analysed))
-    (broadcasts_made rules n t u broadcasts)
+    (broadcasts_made rules n t u ids broadcasts)
 
 -- some node lives at the end of a phase
-pub ending_live : (rules : TurnRules) (n : ℕ) (s u : Growth) (phase : Phase) → EndsPhase rules n s phase u
+pub ending_live : (rules : PhaseRules) (n : ℕ) (s u : Growth) (phase : Phase) → EndsPhase rules n s phase u
     → SomebodyLives u
-ending_live rules n s u phase (t, (v, did, (a, lives), is, writes), broadcasts, count) =
+ending_live rules n s u phase (t, ids, (v, did, (a, lives), is, writes), broadcasts, count) =
     let same : t.world ≡ v.world = ap (λ g. g.world) writes in (
       a,
-      (broadcasts_made rules n t u broadcasts).live a
+      (broadcasts_made rules n t u ids broadcasts).live a
           (subst (λ w. (p : PeerState) × LivesAs w.net a p) (sym same) lives),
     )
 
@@ -141,13 +163,13 @@ each_keeps [] s u same = keeps_same s u (ap (λ g. g.world) same)
 each_keeps (node ∷ nodes) s u (t, did, more) =
     keeps_trans s t u (shuffle_keeps s t node did) (each_keeps nodes t u more)
 
-round_keeps : (rules : TurnRules) (s u : Growth) → Round rules s u → Keeps s u
+round_keeps : (rules : PhaseRules) (s u : Growth) → Round rules s u → Keeps s u
 round_keeps rules s u (order, t, v, (live, after, are, orders, same), each, out) =
     keeps_trans s t u (keeps_same s t (ap (λ g. g.world) same))
     (keeps_trans t v u (each_keeps order t v each) (run_out_keeps rules v u out))
 
 -- rounds of shuffles
-pub rounds_keep : (rules : TurnRules) (n : ℕ) (s u : Growth) → Rounds rules n s u → Keeps s u
+pub rounds_keep : (rules : PhaseRules) (n : ℕ) (s u : Growth) → Rounds rules n s u → Keeps s u
 rounds_keep rules zero s u same = keeps_same s u (ap (λ g. g.world) same)
 rounds_keep rules (suc n) s u (t, round, more) =
     keeps_trans s t u (round_keeps rules s t round) (rounds_keep rules n t u more)
@@ -183,6 +205,14 @@ room_more count done node s t u id same (p, lives, is, did) (k, most, few) =
       few,
     )
 
+-- one broadcast more was made, and nothing is left of it
+pub room_less : (count done : ℕ) (s u : Growth) → MakesMost 1 s u → HasRoom count done s → HasRoom count (done + 1) u
+room_less count done s u one (k, most, few) =
+    (k, have_more (k + done + 1) (k + (done + 1)) u (omega arith) (one.made (k + done) most), few)
+
+pub somebody_lives_on : (n : ℕ) (s u : Growth) → MakesMost n s u → SomebodyLives s → SomebodyLives u
+somebody_lives_on n s u makes (a, lives) = (a, makes.live a lives)
+
 pub broadcast_lives : (nodes : List ℕ) (node : ℕ) (s t u : Growth) (id : MsgId) → t.world ≡ s.world
     → BroadcastBy node t id u → AllLive nodes s → AllLive nodes u
 broadcast_lives nodes node s t u id same (p, lives, is, did) all = λ a has.
@@ -199,15 +229,20 @@ lives_keeps s u keeps (a, lives) = (a, (makes_none s u keeps).live a lives)
 pub made_keeps : (k : ℕ) (s u : Growth) → Keeps s u → HaveMade k s → HaveMade k u
 made_keeps k s u keeps most = have_more (k + 0) k u (omega arith) ((makes_none s u keeps).made k most)
 
-times_reported : (rules : TurnRules) (n : ℕ) (s u : Growth) → ReportTimes rules n s u → Keeps s u
+times_reported : (rules : PhaseRules) (n : ℕ) (s u : Growth) → ReportTimes rules n s u → Keeps s u
 times_reported rules zero s u (none, same) = keeps_same s u (ap (λ g. g.world) same)
 times_reported rules (suc n) s u (node, crashed, t, v, first, did, out, more) =
     keeps_trans s t u (report_keeps s t node crashed did)
     (keeps_trans t v u (run_out_keeps rules t v out) (times_reported rules n v u more))
 
 -- crash reports
-pub reports_keep : (rules : TurnRules) (s u : Growth) → ReportCrashes rules s u → Keeps s u
+pub reports_keep : (rules : PhaseRules) (s u : Growth) → ReportCrashes rules s u → Keeps s u
 reports_keep rules s u (n, times) = times_reported rules n s u times
+
+-- nodes are told of crashes, or are not
+pub told_all_keep : (detect : Bool) (rules : PhaseRules) (s u : Growth) → AreTold detect rules s u → Keeps s u
+told_all_keep true rules s u same = keeps_same s u (ap (λ g. g.world) same)
+told_all_keep false rules s u reports = reports_keep rules s u reports
 
 -- all of the nodes at the last moment of the journal live
 pub still_now : (m : ℕ) (s : Growth) → Stands s.world → m ≡ length s.world.journal → StillLive m s

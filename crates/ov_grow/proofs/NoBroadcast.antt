@@ -1,23 +1,20 @@
 -- Broadcasts that can't be made.
-use Rattle.std.proofs.Common.{◌≡◌, ◌<◌, ◌+◌, ℕ, zero, suc, Bool, true, false, List, length, drop, get_or, refl, subst}
-use Rattle.std.proofs.Common.{inl, inr}
-use Rattle.std.proofs.lemmas.Option.{slice_get_read}
-use Rattle.rand_pcg.specs.Lcg.{Lcg}
+use Rattle.std.proofs.Common.{◌≡◌, ◌<◌, ◌+◌, ℕ, zero, suc, Bool, true, false, List, Option, length, drop, get_or}
+use Rattle.std.proofs.Common.{inl, inr, subst}
 use Rattle.ov_ids.specs.declared.id.MsgId.{MsgId}
 use Rattle.ov_grow.specs.declared.recordable_event.Act.TheVariants as act
-use Rattle.ov_grow.specs.Choices.{one_of}
-use Rattle.ov_grow.specs.Choices.{later as later_choices}
 use Rattle.ov_grow.specs.Growth.{Growth, AreLive, Does}
 use Rattle.ov_grow.specs.Turns.{RunOut}
-use Rattle.ov_grow.specs.Broadcasts.{BroadcastBy, Broadcasts, BroadcastsBegin, Fire, FireAt, FireAtEach, FiresIfItRuns}
-use Rattle.ov_grow.specs.Broadcasts.{TimerRuns, TimersFire}
+use Rattle.ov_grow.specs.Broadcasts.{AtOnce, BroadcastBy, BroadcastsBegin, Fire, FireAt, FireAtEach, FiresIfItRuns}
+use Rattle.ov_grow.specs.Broadcasts.{IsSender, OneByOne, TimerRuns, TimersFire}
 use Rattle.ov_grow.specs.Code.Standing.{Goes, IsNoWay, growth_of}
 use Rattle.ov_grow.specs.declared.fault.GrowFault.{GrowFault}
 use Rattle.ov_grow.specs.declared.growing.Growing.{Growing}
-use Rattle.ov_grow.specs.declared.packet_turn_rules.TurnRules.{TurnRules}
+use Rattle.ov_grow.specs.declared.phase_rules.PhaseRules.{PhaseRules}
 use Rattle.ov_grow.proofs.Broadcasting.{fire_at_next, fire_each_next}
-use Rattle.ov_grow.proofs.Going.{IsOn, chosen, no_way_by, on_nowhere}
+use Rattle.ov_grow.proofs.Going.{IsOn, no_way_by, on_nowhere}
 use Rattle.ov_grow.proofs.OnePhase.{begin_follows, begin_rest, begun_follows, broadcasts_follow, broadcasts_rest}
+use Rattle.ov_grow.proofs.OnePhase.{one_by_one_rest}
 use Rattle.ov_grow.proofs.OnePhase.{fire_at_rest, fire_each_rest, fire_follows, fired_follows, timers_rest}
 use Rattle.ov_grow.proofs.Ways.{timers_goes}
 
@@ -29,42 +26,36 @@ no_way_broadcast node b fault none =
     no_way_by (λ s u. Does s (act.Broadcast node) u) (λ s u. (id : MsgId) × BroadcastBy node s id u) b b fault
     (λ u (id, (p, lives, is, did)). (u, did)) none
 
--- of the broadcasts of these nodes so many are left when growing has come from b to t
-abbrev pub AreLeft : List ℕ → ℕ → ℕ → Growing → Growing → Type 0
-AreLeft nodes count n b t =
-    (ids : List MsgId) (u : Growth) → BroadcastsBegin nodes count (growth_of b) ids u
-    → (rest : List MsgId) × BroadcastsBegin nodes n (growth_of t) rest u
+-- of so many steps by which messages begin so many are left when growing has come from b to t
+abbrev pub AreLeft : (ℕ → Growth → List MsgId → Growth → Type 0) → ℕ → ℕ → Growing → Growing → Type 0
+AreLeft Way count n b t =
+    (ids : List MsgId) (u : Growth) → Way count (growth_of b) ids u
+    → (rest : List MsgId) × Way n (growth_of t) rest u
 
 -- the next broadcast can't be made
-pub no_way_next : (nodes : List ℕ) (count n m place node : ℕ) (b t : Growing) (left : Lcg) (fault : GrowFault)
-    → AreLeft nodes count n b t → n ≡ suc m → place ≡ one_of (length nodes) t.choices
-    → left ≡ later_choices t.choices → place < length nodes → node ≡ get_or nodes place node
-    → IsNoWay (λ s u. (id : MsgId) × BroadcastBy node s id u) (record t { choices = left }) fault
-    → IsNoWay (λ s u. (ids : List MsgId) × BroadcastsBegin nodes count s ids u) b fault
-no_way_next nodes count n m place node b t left fault so one value rest within is none =
+pub no_way_next : (sender : Option ℕ) (nodes : List ℕ) (count n m node : ℕ) (b t v : Growing) (fault : GrowFault)
+    → AreLeft (BroadcastsBegin sender nodes) count n b t → n ≡ suc m
+    → Goes (λ s w. IsSender sender nodes s node w) t v
+    → IsNoWay (λ s u. (id : MsgId) × BroadcastBy node s id u) v fault
+    → IsNoWay (λ s u. (ids : List MsgId) × BroadcastsBegin sender nodes count s ids u) b fault
+no_way_next sender nodes count n m node b t v fault so one whose none =
     no_way_by (λ s u. (id : MsgId) × BroadcastBy node s id u)
-    (λ s u. (ids : List MsgId) × BroadcastsBegin nodes count s ids u) (record t { choices = left }) b fault
+    (λ s u. (ids : List MsgId) × BroadcastsBegin sender nodes count s ids u) v b fault
     (λ u (ids, begin).
     let (others, more) = so ids u begin in
-    let (id, later, v, by, same, last) = begin_follows nodes m place node others (growth_of t)
-    (growth_of (record t { choices = left })) u (chosen t (length nodes) (length nodes) place left refl value rest)
-    (slice_get_read nodes (length nodes) place node refl within is)
-    (subst (λ k. BroadcastsBegin nodes k (growth_of t) others u) one more) in
-    (v, (id, by))) none
+    let (id, later, w, by, same, last) = begin_follows sender nodes m node others (growth_of t) (growth_of v) u whose.way
+    (subst (λ k. BroadcastsBegin sender nodes k (growth_of t) others u) one more) in
+    (w, (id, by))) none
 
 -- one more broadcast was made
-pub left_next : (nodes : List ℕ) (count n m place node : ℕ) (id : MsgId) (b t v : Growing) (left : Lcg)
-    → AreLeft nodes count n b t → n ≡ suc m → place ≡ one_of (length nodes) t.choices
-    → left ≡ later_choices t.choices → place < length nodes → node ≡ get_or nodes place node
-    → Goes (λ s w. BroadcastBy node s id w) (record t { choices = left }) v
-    → AreLeft nodes count m b v
-left_next nodes count n m place node id b t v left so one value rest within is by ids u begin =
+pub left_next : (sender : Option ℕ) (nodes : List ℕ) (count n m node : ℕ) (id : MsgId) (b t v w : Growing)
+    → AreLeft (BroadcastsBegin sender nodes) count n b t → n ≡ suc m
+    → Goes (λ s x. IsSender sender nodes s node x) t v → Goes (λ s x. BroadcastBy node s id x) v w
+    → AreLeft (BroadcastsBegin sender nodes) count m b w
+left_next sender nodes count n m node id b t v w so one whose by ids u begin =
     let (others, more) = so ids u begin in
-    let (later, same, last) = begin_rest nodes m place node id others (growth_of t)
-    (growth_of (record t { choices = left })) (growth_of v) u
-    (chosen t (length nodes) (length nodes) place left refl value rest)
-    (slice_get_read nodes (length nodes) place node refl within is) by.way
-    (subst (λ k. BroadcastsBegin nodes k (growth_of t) others u) one more) in
+    let (later, same, last) = begin_rest sender nodes m node id others (growth_of t) (growth_of v) (growth_of w) u
+    whose.way by.way (subst (λ k. BroadcastsBegin sender nodes k (growth_of t) others u) one more) in
     (later, last)
 
 -- a timer that runs fires
@@ -150,13 +141,13 @@ no_way_fire ids live nodes b fault are same none =
     (subst (λ xs. IsNoWay (λ s u. (fired : Bool) × FireAtEach xs ids s fired u) b fault) same none)
 
 -- timers fire at least once
-first_fire : (rules : TurnRules) (ids : List MsgId) (s u : Growth) → TimersFire rules ids s u
+first_fire : (rules : PhaseRules) (ids : List MsgId) (s u : Growth) → TimersFire rules ids s u
     → (v : Growth) × ((fired : Bool) × Fire ids s fired v)
 first_fire rules ids s u (zero, fires) = (u, (false, fires))
 first_fire rules ids s u (suc n, (t, v, fires, out, more)) = (t, (true, fires))
 
 -- timers can't fire
-pub no_way_timers : (rules : TurnRules) (ids : List MsgId) (b t : Growing) (fault : GrowFault)
+pub no_way_timers : (rules : PhaseRules) (ids : List MsgId) (b t : Growing) (fault : GrowFault)
     → IsOn (TimersFire rules ids) (TimersFire rules ids) b t
     → IsNoWay (λ s u. (fired : Bool) × Fire ids s fired u) t fault → IsNoWay (TimersFire rules ids) b fault
 no_way_timers rules ids b t fault so none =
@@ -164,7 +155,7 @@ no_way_timers rules ids b t fault so none =
     (λ u timers. first_fire rules ids (growth_of t) u timers) none
 
 -- a timer fired, and packets can't run out
-pub no_way_fired : (rules : TurnRules) (ids : List MsgId) (fired : Bool) (b t v : Growing) (fault : GrowFault)
+pub no_way_fired : (rules : PhaseRules) (ids : List MsgId) (fired : Bool) (b t v : Growing) (fault : GrowFault)
     → IsOn (TimersFire rules ids) (TimersFire rules ids) b t → fired ≡ true → Goes (λ s w. Fire ids s fired w) t v
     → IsNoWay (RunOut rules) v fault → IsNoWay (TimersFire rules ids) b fault
 no_way_fired rules ids fired b t v fault so holds fires none =
@@ -175,7 +166,7 @@ no_way_fired rules ids fired b t v fault so holds fires none =
     (left.0, left.1)) none
 
 -- a timer fired, and packets ran out
-pub left_timers : (rules : TurnRules) (ids : List MsgId) (fired : Bool) (b t v w : Growing)
+pub left_timers : (rules : PhaseRules) (ids : List MsgId) (fired : Bool) (b t v w : Growing)
     → IsOn (TimersFire rules ids) (TimersFire rules ids) b t → fired ≡ true → Goes (λ s x. Fire ids s fired x) t v
     → Goes (RunOut rules) v w → IsOn (TimersFire rules ids) (TimersFire rules ids) b w
 left_timers rules ids fired b t v w so holds fires out = record {
@@ -185,39 +176,69 @@ left_timers rules ids fired b t v w so holds fires out = record {
 }
 
 -- broadcasts can't begin
-pub no_way_begin : (rules : TurnRules) (n : ℕ) (live nodes : List ℕ) (b : Growing) (fault : GrowFault)
+pub no_way_begin : (rules : PhaseRules) (n : ℕ) (live nodes : List ℕ) (b : Growing) (fault : GrowFault)
     → AreLive (growth_of b) live → nodes ≡ live
-    → IsNoWay (λ s u. (ids : List MsgId) × BroadcastsBegin nodes n s ids u) b fault
-    → IsNoWay (Broadcasts rules n) b fault
+    → IsNoWay (λ s u. (ids : List MsgId) × BroadcastsBegin rules.sender nodes n s ids u) b fault
+    → IsNoWay (λ s u. (ids : List MsgId) × AtOnce rules n s ids u) b fault
 no_way_begin rules n live nodes b fault are same none =
-    no_way_by (λ s u. (ids : List MsgId) × BroadcastsBegin live n s ids u) (Broadcasts rules n) b b fault
-    (λ u broadcasts.
-    let (ids, t, v, begin, out, fires) = broadcasts_follow rules n live (growth_of b) u are broadcasts in
+    no_way_by (λ s u. (ids : List MsgId) × BroadcastsBegin rules.sender live n s ids u)
+    (λ s u. (ids : List MsgId) × AtOnce rules n s ids u) b b fault
+    (λ u (ids, broadcasts).
+    let (t, v, begin, out, fires) = broadcasts_follow rules n live ids (growth_of b) u are broadcasts in
     (t, (ids, begin)))
-    (subst (λ xs. IsNoWay (λ s u. (ids : List MsgId) × BroadcastsBegin xs n s ids u) b fault) same none)
+    (subst (λ xs. IsNoWay (λ s u. (ids : List MsgId) × BroadcastsBegin rules.sender xs n s ids u) b fault) same none)
 
 -- broadcasts have begun, and packets can't run out
-pub no_way_begun : (rules : TurnRules) (n : ℕ) (live nodes : List ℕ) (ids : List MsgId) (b t : Growing)
+pub no_way_begun : (rules : PhaseRules) (n : ℕ) (live nodes : List ℕ) (ids : List MsgId) (b t : Growing)
     (fault : GrowFault) → AreLive (growth_of b) live → nodes ≡ live
-    → Goes (λ s w. BroadcastsBegin nodes n s ids w) b t → IsNoWay (RunOut rules) t fault
-    → IsNoWay (Broadcasts rules n) b fault
+    → Goes (λ s w. BroadcastsBegin rules.sender nodes n s ids w) b t → IsNoWay (RunOut rules) t fault
+    → IsNoWay (λ s u. (ids : List MsgId) × AtOnce rules n s ids u) b fault
 no_way_begun rules n live nodes ids b t fault are same begin none =
-    no_way_by (RunOut rules) (Broadcasts rules n) t b fault
-    (λ u broadcasts.
-    let left = begun_follows rules n live ids (growth_of b) (growth_of t) u are
-    (subst (λ xs. BroadcastsBegin xs n (growth_of b) ids (growth_of t)) same begin.way) broadcasts in
-    (left.0, left.1)) none
+    no_way_by (RunOut rules) (λ s u. (ids : List MsgId) × AtOnce rules n s ids u) t b fault
+    (λ u (also, broadcasts).
+    let (one, (v, out, fires)) = begun_follows rules n live ids also (growth_of b) (growth_of t) u are
+    (subst (λ xs. BroadcastsBegin rules.sender xs n (growth_of b) ids (growth_of t)) same begin.way) broadcasts in
+    (v, out)) none
 
 -- packets have run out, and timers can't fire
-pub no_way_broadcasts : (rules : TurnRules) (n : ℕ) (live nodes : List ℕ) (ids messages : List MsgId) (b t v : Growing)
-    (fault : GrowFault) → AreLive (growth_of b) live → nodes ≡ live → messages ≡ ids
-    → Goes (λ s w. BroadcastsBegin nodes n s ids w) b t → Goes (RunOut rules) t v
-    → IsNoWay (TimersFire rules messages) v fault → IsNoWay (Broadcasts rules n) b fault
-no_way_broadcasts rules n live nodes ids messages b t v fault are same names begin out none =
-    no_way_by (TimersFire rules ids) (Broadcasts rules n) v b fault
-    (λ u broadcasts. (
+pub no_way_at_once : (rules : PhaseRules) (n : ℕ) (live nodes : List ℕ) (ids messages : List MsgId)
+    (b t v : Growing) (fault : GrowFault) → AreLive (growth_of b) live → nodes ≡ live → messages ≡ ids
+    → Goes (λ s w. BroadcastsBegin rules.sender nodes n s ids w) b t → Goes (RunOut rules) t v
+    → IsNoWay (TimersFire rules messages) v fault → IsNoWay (λ s u. (ids : List MsgId) × AtOnce rules n s ids u) b fault
+no_way_at_once rules n live nodes ids messages b t v fault are same names begin out none =
+    no_way_by (TimersFire rules ids) (λ s u. (ids : List MsgId) × AtOnce rules n s ids u) v b fault
+    (λ u (also, broadcasts). (
       u,
-      broadcasts_rest rules n live ids (growth_of b) (growth_of t) (growth_of v) u are
-          (subst (λ xs. BroadcastsBegin xs n (growth_of b) ids (growth_of t)) same begin.way) out.way broadcasts,
+      (broadcasts_rest rules n live ids also (growth_of b) (growth_of t) (growth_of v) u are
+          (subst (λ xs. BroadcastsBegin rules.sender xs n (growth_of b) ids (growth_of t)) same begin.way) out.way
+          broadcasts).1,
     ))
     (subst (λ ms. IsNoWay (TimersFire rules ms) v fault) names none)
+
+-- the first of so many broadcasts that are made one by one
+first_of_them : (rules : PhaseRules) (n m : ℕ) (ids : List MsgId) (s u : Growth) → n ≡ suc m → OneByOne rules n s ids u
+    → OneByOne rules (suc m) s ids u
+first_of_them rules n m ids s u one made = subst (λ k. OneByOne rules k s ids u) one made
+
+-- the next of them can't be made
+pub no_way_one : (rules : PhaseRules) (count n m : ℕ) (b t : Growing) (fault : GrowFault)
+    → AreLeft (OneByOne rules) count n b t → n ≡ suc m
+    → IsNoWay (λ s u. (ids : List MsgId) × AtOnce rules 1 s ids u) t fault
+    → IsNoWay (λ s u. (ids : List MsgId) × OneByOne rules count s ids u) b fault
+no_way_one rules count n m b t fault so one none =
+    no_way_by (λ s u. (ids : List MsgId) × AtOnce rules 1 s ids u)
+    (λ s u. (ids : List MsgId) × OneByOne rules count s ids u) t b fault
+    (λ u (ids, made).
+    let (others, more) = so ids u made in
+    let (first, later, v, head, is, rest) = first_of_them rules n m others (growth_of t) u one more in
+    (v, (first, head))) none
+
+-- one more of them was made
+pub left_one : (rules : PhaseRules) (count n m : ℕ) (first : List MsgId) (b t v : Growing)
+    → AreLeft (OneByOne rules) count n b t → n ≡ suc m → Goes (λ s x. AtOnce rules 1 s first x) t v
+    → AreLeft (OneByOne rules) count m b v
+left_one rules count n m first b t v so one head ids u made =
+    let (others, more) = so ids u made in
+    let (later, is, rest) = one_by_one_rest rules m first others (growth_of t) (growth_of v) u head.way
+    (first_of_them rules n m others (growth_of t) u one more) in
+    (later, rest)

@@ -11,19 +11,19 @@ use Rattle.ov_grow.specs.Phases.{Births, Join, joining, turns_between}
 use Rattle.ov_grow.specs.Code.Standing.{Goes, IsNoWay, growth_of}
 use Rattle.ov_grow.specs.declared.fault.GrowFault.{GrowFault}
 use Rattle.ov_grow.specs.declared.growing.Growing.{Growing}
-use Rattle.ov_grow.specs.declared.packet_turn_rules.TurnRules.{TurnRules}
+use Rattle.ov_grow.specs.declared.phase_rules.PhaseRules.{PhaseRules}
 use Rattle.ov_grow.proofs.Going.{no_way_by}
 use Rattle.ov_grow.proofs.OnePhase.{birth_follows, births_follow, births_rest, join_follows, join_rest, round_rest}
 use Rattle.ov_grow.proofs.OnePhase.{round_shuffles}
 
 -- a birth begins with turns
-pub births_begin : (rules : TurnRules) (pace id n m : ℕ) (s u : Growth) → n ≡ suc m → Births rules pace id n s u
+pub births_begin : (rules : PhaseRules) (pace id n m : ℕ) (s u : Growth) → n ≡ suc m → Births rules pace id n s u
     → (t : Growth) × TurnsUpTo rules pace s t
 births_begin rules pace id n m s u one births =
     let (place, t, v, w, turns, chooses, did, more) = subst (λ k. Births rules pace id k s u) one births in (t, turns)
 
 -- after the turns the node is born with the chosen contact
-pub birth_next : (rules : TurnRules) (pace id n m place who contact : ℕ) (s t v u : Growth) → n ≡ suc m
+pub birth_next : (rules : PhaseRules) (pace id n m place who contact : ℕ) (s t v u : Growth) → n ≡ suc m
     → TurnsUpTo rules pace s t → Chooses (id - 1) t place v → who ≡ id → contact ≡ 1 + place
     → Births rules pace id n s u → (w : Growth) × Does v (act.Boot who (Some contact)) w
 birth_next rules pace id n m place who contact s t v u one turns chooses is by births =
@@ -35,7 +35,7 @@ birth_next rules pace id n m place who contact s t v u one turns chooses is by b
     )
 
 -- what is left after a birth
-pub births_left : (rules : TurnRules) (pace id n m place who contact : ℕ) (s t v w u : Growth) → n ≡ suc m
+pub births_left : (rules : PhaseRules) (pace id n m place who contact : ℕ) (s t v w u : Growth) → n ≡ suc m
     → TurnsUpTo rules pace s t → Chooses (id - 1) t place v → who ≡ id → contact ≡ 1 + place
     → Does v (act.Boot who (Some contact)) w → Births rules pace id n s u → Births rules pace (id + 1) m w u
 births_left rules pace id n m place who contact s t v w u one turns chooses is by did births =
@@ -53,7 +53,7 @@ no_way_boot o who b t fault one says none =
     (v, subst (λ x. Does (growth_of t) (act.Boot x None) v) (sym one) did)) none
 
 -- the other nodes can't be born
-pub no_way_births : (o : GrowOptions) (rules : TurnRules) (pace nodes who : ℕ) (b t v : Growing) (fault : GrowFault)
+pub no_way_births : (o : GrowOptions) (rules : PhaseRules) (pace nodes who : ℕ) (b t v : Growing) (fault : GrowFault)
     → rules ≡ joining o → pace ≡ turns_between o.pace → nodes ≡ o.nodes → who ≡ 1
     → Goes (λ s x. Writes s (comment_line (codes "join")) x) b t → Goes (λ s x. Does s (act.Boot who None) x) t v
     → IsNoWay (Births rules pace 2 (nodes - 1)) v fault → IsNoWay (Join o) b fault
@@ -68,7 +68,7 @@ no_way_births o rules pace nodes who b t v fault by at all one says did none =
     )) none
 
 -- all nodes are born, and packets can't run out
-pub no_way_joined : (o : GrowOptions) (rules : TurnRules) (pace nodes who : ℕ) (b t v w : Growing) (fault : GrowFault)
+pub no_way_joined : (o : GrowOptions) (rules : PhaseRules) (pace nodes who : ℕ) (b t v w : Growing) (fault : GrowFault)
     → rules ≡ joining o → pace ≡ turns_between o.pace → nodes ≡ o.nodes → who ≡ 1
     → Goes (λ s x. Writes s (comment_line (codes "join")) x) b t → Goes (λ s x. Does s (act.Boot who None) x) t v
     → Goes (Births rules pace 2 (nodes - 1)) v w → IsNoWay (RunOut rules) w fault → IsNoWay (Join o) b fault
@@ -85,7 +85,7 @@ no_way_joined o rules pace nodes who b t v w fault by at all one says did births
     )) none
 
 -- nodes can't start their shuffles
-pub no_way_shuffles : (rules : TurnRules) (order nodes : List ℕ) (b t : Growing) (fault : GrowFault) → nodes ≡ order
+pub no_way_shuffles : (rules : PhaseRules) (order nodes : List ℕ) (b t : Growing) (fault : GrowFault) → nodes ≡ order
     → Goes (λ s w. AreLiveInOrder s order w) b t → IsNoWay (DoesEach act.Shuffle nodes) t fault
     → IsNoWay (Round rules) b fault
 no_way_shuffles rules order nodes b t fault same lives none =
@@ -94,7 +94,7 @@ no_way_shuffles rules order nodes b t fault same lives none =
     (v, subst (λ xs. DoesEach act.Shuffle xs (growth_of t) v) (sym same) each)) none
 
 -- nodes started their shuffles, and packets can't run out
-pub no_way_shuffled : (rules : TurnRules) (order nodes : List ℕ) (b t v : Growing) (fault : GrowFault) → nodes ≡ order
+pub no_way_shuffled : (rules : PhaseRules) (order nodes : List ℕ) (b t v : Growing) (fault : GrowFault) → nodes ≡ order
     → Goes (λ s w. AreLiveInOrder s order w) b t → Goes (DoesEach act.Shuffle nodes) t v
     → IsNoWay (RunOut rules) v fault → IsNoWay (Round rules) b fault
 no_way_shuffled rules order nodes b t v fault same lives each none =

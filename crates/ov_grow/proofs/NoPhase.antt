@@ -1,8 +1,9 @@
 -- Why a phase can't be gone through.
-use Rattle.std.proofs.Common.{◌≡◌, ◌+◌, ℕ, List, [], ◌∷◌, length, Some, None, sym, ap, subst, ◌∙◌, inl, inr, ◌⊎◌}
+use Rattle.std.proofs.Common.{◌≡◌, ◌+◌, ℕ, Bool, false, List, [], ◌∷◌, length, Some, None, sym, ap, subst, ◌∙◌, inl, inr, ◌⊎◌}
 use Rattle.std.proofs.Common.{arith, length-append}
 use Rattle.std.specs.Prelude.{codes}
 use Rattle.ov_ids.specs.Members.{Has}
+use Rattle.ov_ids.specs.declared.id.MsgId.{MsgId}
 use Rattle.ov_ids.specs.FaultOrder.{HoldsThen, IsRefusedBy, Passed}
 use Rattle.ov_ids.proofs.Stepping.{step_passes}
 use Rattle.ov_net.specs.Journal.{Live}
@@ -25,15 +26,15 @@ use Rattle.ov_grow.specs.Growth.{Growth, Does, SomebodyLives, Writes}
 use Rattle.ov_grow.specs.Turns.{RunOut}
 use Rattle.ov_grow.specs.Rounds.{DoesEach, Rounds}
 use Rattle.ov_grow.specs.Broadcasts.{Broadcasts}
-use Rattle.ov_grow.specs.Phases.{AreFirst, AreToCrash, CrashNodes, EndsPhase, Heal, IsAnalysedAt, ReportCrashes, Settle}
-use Rattle.ov_grow.specs.Phases.{healing, settling}
+use Rattle.ov_grow.specs.Phases.{AreFirst, AreToCrash, AreTold, CrashNodes, EndsPhase, Heal, IsAnalysedAt}
+use Rattle.ov_grow.specs.Phases.{ReportCrashes, Settle, crashing, healing, settling}
 use Rattle.ov_grow.specs.Faults.{of_analysis}
 use Rattle.ov_grow.specs.Code.Standing.{Goes, IsFresh, IsNoWay, growth_of}
 use Rattle.ov_grow.specs.declared.fault.GrowFault.{GrowFault}
 use Rattle.ov_grow.specs.declared.fault.GrowFault.TheVariants.{OutOfMemory}
 use Rattle.ov_grow.specs.declared.growing.Growing.{Growing}
 use Rattle.ov_grow.specs.declared.phase_moment_and_deliveries.Phase.{Phase}
-use Rattle.ov_grow.specs.declared.packet_turn_rules.TurnRules.{TurnRules}
+use Rattle.ov_grow.specs.declared.phase_rules.PhaseRules.{PhaseRules}
 use Rattle.ov_grow.proofs.Going.{IsOn, no_way_by, on_nowhere}
 use Rattle.ov_grow.proofs.OneGrowth.{one_act}
 use Rattle.ov_grow.proofs.OnePhase.{crash_follows, crash_rest, ending_rest, heal_follows, heal_rest, report_follows}
@@ -98,24 +99,26 @@ no_way_analysis b t fault did (inr nobody) = inr (λ u (m, (x, does, lives, is, 
     nobody (subst (λ g. SomebodyLives g) (one_act (growth_of b) x (growth_of t) act.Snapshot does did.way) lives))
 
 -- a phase can't end, as there is no analysis
-pub no_way_ending : (rules : TurnRules) (n : ℕ) (b : Growing) (fault : GrowFault)
+pub no_way_ending : (rules : PhaseRules) (n : ℕ) (b : Growing) (fault : GrowFault)
     → IsNoWay (λ s u. (m : ℕ) × IsAnalysedAt m s u) b fault
     → IsNoWay (λ s u. (phase : Phase) × EndsPhase rules n s phase u) b fault
 no_way_ending rules n b fault none =
     no_way_by (λ s u. (m : ℕ) × IsAnalysedAt m s u) (λ s u. (phase : Phase) × EndsPhase rules n s phase u) b b fault
-    (λ u (phase, (t, analysed, broadcasts, count)). (t, (phase.moment, analysed))) none
+    (λ u (phase, (t, ids, analysed, broadcasts, count)). (t, (phase.moment, analysed))) none
 
 -- a phase can't end, as there are no broadcasts
-pub no_way_analysed : (rules : TurnRules) (n m : ℕ) (b t : Growing) (fault : GrowFault)
-    → Goes (λ s u. IsAnalysedAt m s u) b t → IsNoWay (Broadcasts rules n) t fault
+pub no_way_analysed : (rules : PhaseRules) (n m : ℕ) (b t : Growing) (fault : GrowFault)
+    → Goes (λ s u. IsAnalysedAt m s u) b t
+    → IsNoWay (λ s u. (ids : List MsgId) × Broadcasts rules n s ids u) t fault
     → IsNoWay (λ s u. (phase : Phase) × EndsPhase rules n s phase u) b fault
 no_way_analysed rules n m b t fault analysed none =
-    no_way_by (Broadcasts rules n) (λ s u. (phase : Phase) × EndsPhase rules n s phase u) t b fault
+    no_way_by (λ s u. (ids : List MsgId) × Broadcasts rules n s ids u)
+    (λ s u. (phase : Phase) × EndsPhase rules n s phase u) t b fault
     (λ u (phase, ends).
     (u, (ending_rest rules n m (growth_of b) (growth_of t) u phase analysed.way ends).1)) none
 
 -- the end of a phase, under these rules and with so many broadcasts
-ends_by : (rules others : TurnRules) (k n : ℕ) (t : Growing) (fault : GrowFault) → rules ≡ others → k ≡ n
+ends_by : (rules others : PhaseRules) (k n : ℕ) (t : Growing) (fault : GrowFault) → rules ≡ others → k ≡ n
     → IsNoWay (λ s u. (phase : Phase) × EndsPhase rules k s phase u) t fault
     → IsNoWay (λ s u. (phase : Phase) × EndsPhase others n s phase u) t fault
 ends_by rules others k n t fault by many none =
@@ -123,13 +126,13 @@ ends_by rules others k n t fault by many none =
     (subst (λ r. IsNoWay (λ s u. (phase : Phase) × EndsPhase r k s phase u) t fault) by none)
 
 -- the same of rounds
-rounds_by : (rules others : TurnRules) (k n : ℕ) (s u : Growth) → rules ≡ others → k ≡ n → Rounds rules k s u
+rounds_by : (rules others : PhaseRules) (k n : ℕ) (s u : Growth) → rules ≡ others → k ≡ n → Rounds rules k s u
     → Rounds others n s u
 rounds_by rules others k n s u by many rounds =
     subst (λ m. Rounds others m s u) many (subst (λ r. Rounds r k s u) by rounds)
 
 -- the overlay can't settle, as there are no such rounds
-pub no_way_settle : (o : GrowOptions) (rules : TurnRules) (n : ℕ) (b t : Growing) (fault : GrowFault)
+pub no_way_settle : (o : GrowOptions) (rules : PhaseRules) (n : ℕ) (b t : Growing) (fault : GrowFault)
     → rules ≡ settling o → n ≡ o.rounds → Goes (λ s x. Writes s (comment_line (codes "settle")) x) b t
     → IsNoWay (Rounds rules n) t fault → IsNoWay (λ s u. (phase : Phase) × Settle o s phase u) b fault
 no_way_settle o rules n b t fault by many says none =
@@ -139,7 +142,7 @@ no_way_settle o rules n b t fault by many says none =
     (v, rounds_by (settling o) rules o.rounds n (growth_of t) v (sym by) (sym many) rounds)) none
 
 -- the overlay can't settle, as the phase does not end
-pub no_way_settled : (o : GrowOptions) (rules : TurnRules) (n k : ℕ) (b t v : Growing) (fault : GrowFault)
+pub no_way_settled : (o : GrowOptions) (rules : PhaseRules) (n k : ℕ) (b t v : Growing) (fault : GrowFault)
     → rules ≡ settling o → n ≡ o.rounds → k ≡ o.broadcasts
     → Goes (λ s x. Writes s (comment_line (codes "settle")) x) b t → Goes (Rounds rules n) t v
     → IsNoWay (λ s u. (phase : Phase) × EndsPhase rules k s phase u) v fault
@@ -170,14 +173,14 @@ no_way_crash o m nodes those b t v fault same says are none =
     (w, each)) (subst (λ xs. IsNoWay (DoesEach act.Crash xs) v fault) same none)
 
 -- nodes crashed, but the phase does not end
-pub no_way_crashed : (o : GrowOptions) (m : ℕ) (rules : TurnRules) (k : ℕ) (nodes those : List ℕ) (b t v w : Growing)
-    (fault : GrowFault) → rules ≡ settling o → k ≡ o.broadcasts → those ≡ nodes
+pub no_way_crashed : (o : GrowOptions) (m : ℕ) (rules : PhaseRules) (k : ℕ) (nodes those : List ℕ) (b t v w : Growing)
+    (fault : GrowFault) → rules ≡ crashing o → k ≡ o.broadcasts → those ≡ nodes
     → Goes (λ s x. Writes s (comment_line (codes "crash")) x) b t
     → Goes (λ s x. AreToCrash o.crash m s nodes x) t v → Goes (DoesEach act.Crash those) v w
     → IsNoWay (λ s u. (phase : Phase) × EndsPhase rules k s phase u) w fault
     → IsNoWay (λ s u. (phase : Phase) × CrashNodes o m s phase u) b fault
 no_way_crashed o m rules k nodes those b t v w fault by each same says are all none =
-    no_way_by (λ s u. (phase : Phase) × EndsPhase (settling o) o.broadcasts s phase u)
+    no_way_by (λ s u. (phase : Phase) × EndsPhase (crashing o) o.broadcasts s phase u)
     (λ s u. (phase : Phase) × CrashNodes o m s phase u) w b fault
     (λ u (phase, crash). (
       u,
@@ -187,10 +190,10 @@ no_way_crashed o m rules k nodes those b t v w fault by each same says are all n
             phase says.way are.way (subst (λ xs. DoesEach act.Crash xs (growth_of v) (growth_of w)) same all.way) crash,
       ),
     ))
-    (ends_by rules (settling o) k o.broadcasts w fault by each none)
+    (ends_by rules (crashing o) k o.broadcasts w fault by each none)
 
 -- the next crash report can't be given
-pub no_way_report : (rules : TurnRules) (node crashed : ℕ) (b t : Growing) (fault : GrowFault)
+pub no_way_report : (rules : PhaseRules) (node crashed : ℕ) (b t : Growing) (fault : GrowFault)
     → IsOn (ReportCrashes rules) (ReportCrashes rules) b t → AreFirst (growth_of t) node crashed
     → IsNoWay (λ s u. Does s (act.CrashReport node crashed) u) t fault → IsNoWay (ReportCrashes rules) b fault
 no_way_report rules node crashed b t fault so first none =
@@ -199,7 +202,7 @@ no_way_report rules node crashed b t fault so first none =
     let (v, w, did, out, more) = reports_follow rules node crashed (growth_of t) u first reports in (v, did)) none
 
 -- a crash report was given, and packets can't run out
-pub no_way_reported : (rules : TurnRules) (node crashed : ℕ) (b t v : Growing) (fault : GrowFault)
+pub no_way_reported : (rules : PhaseRules) (node crashed : ℕ) (b t v : Growing) (fault : GrowFault)
     → IsOn (ReportCrashes rules) (ReportCrashes rules) b t → AreFirst (growth_of t) node crashed
     → Goes (λ s u. Does s (act.CrashReport node crashed) u) t v → IsNoWay (RunOut rules) v fault
     → IsNoWay (ReportCrashes rules) b fault
@@ -210,7 +213,7 @@ no_way_reported rules node crashed b t v fault so first did none =
     (so.leads u reports) in (w, out)) none
 
 -- a crash report was given, and packets ran out
-pub left_reports : (rules : TurnRules) (node crashed : ℕ) (b t v w : Growing)
+pub left_reports : (rules : PhaseRules) (node crashed : ℕ) (b t v w : Growing)
     → IsOn (ReportCrashes rules) (ReportCrashes rules) b t → AreFirst (growth_of t) node crashed
     → Goes (λ s u. Does s (act.CrashReport node crashed) u) t v → Goes (RunOut rules) v w
     → IsOn (ReportCrashes rules) (ReportCrashes rules) b w
@@ -220,35 +223,41 @@ left_reports rules node crashed b t v w so first did out = record {
       (so.leads u reports);
 }
 
--- the overlay can't heal, as there are no such crash reports
-pub no_way_heal : (o : GrowOptions) (rules : TurnRules) (b t : Growing) (fault : GrowFault) → rules ≡ healing o
-    → Goes (λ s x. Writes s (comment_line (codes "heal")) x) b t → IsNoWay (ReportCrashes rules) t fault
+-- nodes can't be told of crashes, as there are no such crash reports
+pub no_way_told : (detect : Bool) (rules : PhaseRules) (b : Growing) (fault : GrowFault) → detect ≡ false
+    → IsNoWay (ReportCrashes rules) b fault → IsNoWay (AreTold detect rules) b fault
+no_way_told detect rules b fault fails none =
+    subst (λ d. IsNoWay (AreTold d rules) b fault) (sym fails) none
+
+-- the overlay can't heal, as nodes can't be told of crashes
+pub no_way_heal : (o : GrowOptions) (rules : PhaseRules) (b t : Growing) (fault : GrowFault) → rules ≡ healing o
+    → Goes (λ s x. Writes s (comment_line (codes "heal")) x) b t → IsNoWay (AreTold o.detect rules) t fault
     → IsNoWay (λ s u. (phase : Phase) × Heal o s phase u) b fault
 no_way_heal o rules b t fault by says none =
-    no_way_by (ReportCrashes (healing o)) (λ s u. (phase : Phase) × Heal o s phase u) t b fault
+    no_way_by (AreTold o.detect (healing o)) (λ s u. (phase : Phase) × Heal o s phase u) t b fault
     (λ u (phase, heal).
-    let (v, w, reports, rounds, ends) = heal_follows o (growth_of b) (growth_of t) u phase says.way heal in
-    (v, reports)) (subst (λ r. IsNoWay (ReportCrashes r) t fault) by none)
+    let (v, w, told, rounds, ends) = heal_follows o (growth_of b) (growth_of t) u phase says.way heal in
+    (v, told)) (subst (λ r. IsNoWay (AreTold o.detect r) t fault) by none)
 
 -- the overlay can't heal, as there are no such rounds
-pub no_way_mended : (o : GrowOptions) (rules : TurnRules) (n : ℕ) (b t v : Growing) (fault : GrowFault)
+pub no_way_mended : (o : GrowOptions) (rules : PhaseRules) (n : ℕ) (b t v : Growing) (fault : GrowFault)
     → rules ≡ healing o → n ≡ o.heal → Goes (λ s x. Writes s (comment_line (codes "heal")) x) b t
-    → Goes (ReportCrashes rules) t v → IsNoWay (Rounds rules n) v fault
+    → Goes (AreTold o.detect rules) t v → IsNoWay (Rounds rules n) v fault
     → IsNoWay (λ s u. (phase : Phase) × Heal o s phase u) b fault
-no_way_mended o rules n b t v fault by many says reports none =
+no_way_mended o rules n b t v fault by many says told none =
     no_way_by (Rounds rules n) (λ s u. (phase : Phase) × Heal o s phase u) v b fault
     (λ u (phase, heal).
     let (w, rounds, ends) = reported_follows o (growth_of b) (growth_of t) (growth_of v) u phase says.way
-    (subst (λ r. ReportCrashes r (growth_of t) (growth_of v)) by reports.way) heal in
+    (subst (λ r. AreTold o.detect r (growth_of t) (growth_of v)) by told.way) heal in
     (w, rounds_by (healing o) rules o.heal n (growth_of v) w (sym by) (sym many) rounds)) none
 
 -- the overlay can't heal, as the phase does not end
-pub no_way_healed : (o : GrowOptions) (rules : TurnRules) (n k : ℕ) (b t v w : Growing) (fault : GrowFault)
+pub no_way_healed : (o : GrowOptions) (rules : PhaseRules) (n k : ℕ) (b t v w : Growing) (fault : GrowFault)
     → rules ≡ healing o → n ≡ o.heal → k ≡ o.broadcasts
-    → Goes (λ s x. Writes s (comment_line (codes "heal")) x) b t → Goes (ReportCrashes rules) t v
+    → Goes (λ s x. Writes s (comment_line (codes "heal")) x) b t → Goes (AreTold o.detect rules) t v
     → Goes (Rounds rules n) v w → IsNoWay (λ s u. (phase : Phase) × EndsPhase rules k s phase u) w fault
     → IsNoWay (λ s u. (phase : Phase) × Heal o s phase u) b fault
-no_way_healed o rules n k b t v w fault by many each says reports rounds none =
+no_way_healed o rules n k b t v w fault by many each says told rounds none =
     no_way_by (λ s u. (phase : Phase) × EndsPhase (healing o) o.broadcasts s phase u)
     (λ s u. (phase : Phase) × Heal o s phase u) w b fault
     (λ u (phase, heal). (
@@ -256,7 +265,7 @@ no_way_healed o rules n k b t v w fault by many each says reports rounds none =
       (
         phase,
         heal_rest o (growth_of b) (growth_of t) (growth_of v) (growth_of w) u phase
-            says.way (subst (λ r. ReportCrashes r (growth_of t) (growth_of v)) by reports.way)
+            says.way (subst (λ r. AreTold o.detect r (growth_of t) (growth_of v)) by told.way)
             (rounds_by rules (healing o) n o.heal (growth_of v) (growth_of w) by many rounds.way) heal,
       ),
     ))

@@ -20,7 +20,7 @@ use Rattle.ov_grow.specs.Code.Standing.{Fails, Goes, IsNoWay, IsTold, growth_of}
 use Rattle.ov_grow.specs.declared.fault.GrowFault.{GrowFault}
 use Rattle.ov_grow.specs.declared.fault.GrowFault.TheVariants.{OutOfMemory}
 use Rattle.ov_grow.specs.declared.growing.Growing.{Growing}
-use Rattle.ov_grow.specs.declared.packet_turn_rules.TurnRules.{TurnRules}
+use Rattle.ov_grow.specs.declared.phase_rules.PhaseRules.{PhaseRules}
 use Rattle.ov_grow.proofs.Going.{no_way_by, tried}
 use Rattle.ov_grow.proofs.OneGrowth.{delivery_rest, repetition_rest, turn_rest}
 use Rattle.ov_grow.proofs.Turning.{was_there}
@@ -51,7 +51,7 @@ second_way true P Q fails way = absurd cc
 second_way false P Q fails way = way
 
 -- a packet whose turn it is can't be lost
-pub no_way_lost : (rules : TurnRules) (place n : ℕ) (lost : Bool) (b t : Growing) (left : Lcg) (fault : GrowFault)
+pub no_way_lost : (rules : PhaseRules) (place n : ℕ) (lost : Bool) (b t : Growing) (left : Lcg) (fault : GrowFault)
     → Goes (λ s w. IsTurnOf rules.order s place w) b t
     → n ≡ rules.loss → lost ≡ comes_true n t.choices → left ≡ after_chance n t.choices → lost ≡ true
     → IsNoWay (λ s w. Does s (act.Lose place) w) (record t { choices = left }) fault → IsNoWay (Turn rules) b fault
@@ -66,7 +66,7 @@ no_way_lost rules place n lost b t left fault whose same value rest holds none =
     )) none
 
 -- a packet whose turn it is, and that is not lost, can't arrive
-pub no_way_arrives : (rules : TurnRules) (place n : ℕ) (lost : Bool) (b t : Growing) (left : Lcg) (fault : GrowFault)
+pub no_way_arrives : (rules : PhaseRules) (place n : ℕ) (lost : Bool) (b t : Growing) (left : Lcg) (fault : GrowFault)
     → Goes (λ s w. IsTurnOf rules.order s place w) b t
     → n ≡ rules.loss → lost ≡ comes_true n t.choices → left ≡ after_chance n t.choices → lost ≡ false
     → IsNoWay (Arrives rules place) (record t { choices = left }) fault → IsNoWay (Turn rules) b fault
@@ -81,7 +81,7 @@ no_way_arrives rules place n lost b t left fault whose same value rest fails non
     )) none
 
 -- a packet can't be repeated
-pub no_way_repeated : (rules : TurnRules) (place n : ℕ) (again : Bool) (b : Growing) (left : Lcg) (fault : GrowFault)
+pub no_way_repeated : (rules : PhaseRules) (place n : ℕ) (again : Bool) (b : Growing) (left : Lcg) (fault : GrowFault)
     → n ≡ rules.repeat → again ≡ comes_true n b.choices → left ≡ after_chance n b.choices → again ≡ true
     → IsNoWay (λ s w. Does s (act.Repeat place) w) (record b { choices = left }) fault
     → IsNoWay (MayBeRepeated rules place) b fault
@@ -96,7 +96,7 @@ no_way_repeated rules place n again b left fault same value rest holds none =
     )) none
 
 -- a packet can't be delivered
-pub no_way_delivered : (rules : TurnRules) (place : ℕ) (b : Growing) (fault : GrowFault)
+pub no_way_delivered : (rules : PhaseRules) (place : ℕ) (b : Growing) (fault : GrowFault)
     → IsNoWay (λ s u. Does s (act.Deliver place) u) b fault → IsNoWay (IsDelivered rules place) b fault
 no_way_delivered rules place b fault none =
     no_way_by (λ s u. Does s (act.Deliver place) u) (IsDelivered rules place) b b fault
@@ -117,7 +117,7 @@ told_of s t u place None (packet, at, fine) (other, there, inl (failed, did)) =
 told_of s t u place None (packet, at, fine) (other, there, inr (works, same)) = same
 
 -- a packet is delivered, and its sender can't be told
-pub no_way_told : (rules : TurnRules) (place : ℕ) (failed : Option (ℕ × ℕ)) (b t : Growing) (fault : GrowFault)
+pub no_way_told : (rules : PhaseRules) (place : ℕ) (failed : Option (ℕ × ℕ)) (b t : Growing) (fault : GrowFault)
     → rules.tells_crashes ≡ true
     → (place < length b.recording.core.world.net.packets → Fails (growth_of b) place failed)
     → Goes (λ s u. Does s (act.Deliver place) u) b t → IsNoWay (IsTold failed) t fault

@@ -20,7 +20,7 @@ use Rattle.ov_grow.specs.Choices.{IsRandomOrder, one_of, later}
 use Rattle.ov_grow.specs.Growth.{Growth, AsksLast, AreLive, Chooses, Does, Tries, Writes}
 use Rattle.ov_grow.specs.Turns.{Arrives, HasFailed, HasNoPackets, IsDelivered, IsTurnOf, MayBeRepeated, RunOut}
 use Rattle.ov_grow.specs.Turns.{SenderIsTold, Turn, TurnsUpTo}
-use Rattle.ov_grow.specs.declared.packet_turn_rules.TurnRules.{TurnRules}
+use Rattle.ov_grow.specs.declared.phase_rules.PhaseRules.{PhaseRules}
 use Rattle.ov_grow_options.specs.declared.options.Order.{Order}
 use Rattle.ov_grow_options.specs.declared.options.Order.TheVariants.{Random, Oldest}
 
@@ -124,27 +124,27 @@ one_told before s u v place (packet, at, ways) (same, there, also) =
     ⊎ ((¬ HasFailed before p) × (v ≡ s))) (same_Some same packet (sym there ∙ at)) also)
 
 -- what follows a delivery
-pub delivery_rest : (rules : TurnRules) (place : ℕ) (s t u : Growth) → Does s (act.Deliver place) t
+pub delivery_rest : (rules : PhaseRules) (place : ℕ) (s t u : Growth) → Does s (act.Deliver place) t
     → IsDelivered rules place s u → MatchBool rules.tells_crashes (SenderIsTold s place t u) (u ≡ t)
 delivery_rest rules place s t u did (x, also, says) =
     subst (λ y. MatchBool rules.tells_crashes (SenderIsTold s place y u) (u ≡ y))
     (one_act s x t (act.Deliver place) also did) says
 
-pub one_delivery : (rules : TurnRules) (place : ℕ) (s u v : Growth) → IsDelivered rules place s u
+pub one_delivery : (rules : PhaseRules) (place : ℕ) (s u v : Growth) → IsDelivered rules place s u
     → IsDelivered rules place s v → u ≡ v
 one_delivery rules place s u v (t, did, told) other =
     one_way rules.tells_crashes (λ w. SenderIsTold s place t w) (λ w. w ≡ t) u v
     (λ a b. one_told s t u v place a b) (λ a b. a ∙ sym b) told (delivery_rest rules place s t v did other)
 
 -- what follows the chance of a repetition
-pub repetition_rest : (rules : TurnRules) (place : ℕ) (again : Bool) (s t u : Growth) → Tries rules.repeat s again t
+pub repetition_rest : (rules : PhaseRules) (place : ℕ) (again : Bool) (s t u : Growth) → Tries rules.repeat s again t
     → MayBeRepeated rules place s u → MatchBool again (Does t (act.Repeat place) u) (u ≡ t)
 repetition_rest rules place again s t u tries (once, x, tried, also) =
     let same = one_try rules.repeat once again s x t tried tries in
     subst (λ y. MatchBool again (Does y (act.Repeat place) u) (u ≡ y)) same.1
     (subst (λ b. MatchBool b (Does x (act.Repeat place) u) (u ≡ x)) same.0 also)
 
-one_repetition : (rules : TurnRules) (place : ℕ) (s u v : Growth) → MayBeRepeated rules place s u
+one_repetition : (rules : PhaseRules) (place : ℕ) (s u v : Growth) → MayBeRepeated rules place s u
     → MayBeRepeated rules place s v → u ≡ v
 one_repetition rules place s u v (again, t, tries, ways) other =
     one_way again (λ w. Does t (act.Repeat place) w) (λ w. w ≡ t) u v
@@ -152,18 +152,18 @@ one_repetition rules place s u v (again, t, tries, ways) other =
     (repetition_rest rules place again s t v tries other)
 
 -- a packet that may have been repeated is then delivered
-pub arrival_rest : (rules : TurnRules) (place : ℕ) (s t u : Growth) → MayBeRepeated rules place s t
+pub arrival_rest : (rules : PhaseRules) (place : ℕ) (s t u : Growth) → MayBeRepeated rules place s t
     → Arrives rules place s u → IsDelivered rules place t u
 arrival_rest rules place s t u again (x, also, came) =
     subst (λ y. IsDelivered rules place y u) (one_repetition rules place s x t also again) came
 
-one_arrival : (rules : TurnRules) (place : ℕ) (s u v : Growth) → Arrives rules place s u → Arrives rules place s v
+one_arrival : (rules : PhaseRules) (place : ℕ) (s u v : Growth) → Arrives rules place s u → Arrives rules place s v
     → u ≡ v
 one_arrival rules place s u v (t, again, arrived) other =
     one_delivery rules place t u v arrived (arrival_rest rules place s t v again other)
 
 -- what follows the choice of a packet and its chance of loss
-pub turn_rest : (rules : TurnRules) (place : ℕ) (lost : Bool) (s t w u : Growth) → IsTurnOf rules.order s place t
+pub turn_rest : (rules : PhaseRules) (place : ℕ) (lost : Bool) (s t w u : Growth) → IsTurnOf rules.order s place t
     → Tries rules.loss t lost w → Turn rules s u
     → MatchBool lost (Does w (act.Lose place) u) (Arrives rules place w u)
 turn_rest rules place lost s t w u whose tries (spot, gone, x, y, who, tried, also) =
@@ -173,26 +173,26 @@ turn_rest rules place lost s t w u whose tries (spot, gone, x, y, who, tried, al
     (subst (λ g. MatchBool lost (Does g (act.Lose spot) u) (Arrives rules spot g u)) try.1
     (subst (λ b. MatchBool b (Does y (act.Lose spot) u) (Arrives rules spot y u)) try.0 also))
 
-pub one_turn : (rules : TurnRules) (s u v : Growth) → Turn rules s u → Turn rules s v → u ≡ v
+pub one_turn : (rules : PhaseRules) (s u v : Growth) → Turn rules s u → Turn rules s v → u ≡ v
 one_turn rules s u v (place, lost, t, w, whose, tries, ways) other =
     one_way lost (λ g. Does w (act.Lose place) g) (λ g. Arrives rules place w g) u v
     (λ a b. one_act w u v (act.Lose place) a b) (λ a b. one_arrival rules place w u v a b) ways
     (turn_rest rules place lost s t w v whose tries other)
 
 -- if packets are on their way, there is a turn
-pub turns_begin : (rules : TurnRules) (n : ℕ) (s u : Growth) → ¬ HasNoPackets s → TurnsUpTo rules (suc n) s u
+pub turns_begin : (rules : PhaseRules) (n : ℕ) (s u : Growth) → ¬ HasNoPackets s → TurnsUpTo rules (suc n) s u
     → (t : Growth) × Turn rules s t
 turns_begin rules n s u some (inl none) = absurd (some none.0)
 turns_begin rules n s u some (inr (left, t, turn, more)) = (t, turn)
 
 -- what follows a turn
-pub turns_rest : (rules : TurnRules) (n : ℕ) (s t u : Growth) → ¬ HasNoPackets s → Turn rules s t
+pub turns_rest : (rules : PhaseRules) (n : ℕ) (s t u : Growth) → ¬ HasNoPackets s → Turn rules s t
     → TurnsUpTo rules (suc n) s u → TurnsUpTo rules n t u
 turns_rest rules n s t u some turn (inl none) = absurd (some none.0)
 turns_rest rules n s t u some turn (inr (left, x, also, others)) =
     subst (λ g. TurnsUpTo rules n g u) (one_turn rules s x t also turn) others
 
-pub one_turns : (rules : TurnRules) (n : ℕ) (s u v : Growth) → TurnsUpTo rules n s u → TurnsUpTo rules n s v → u ≡ v
+pub one_turns : (rules : PhaseRules) (n : ℕ) (s u v : Growth) → TurnsUpTo rules n s u → TurnsUpTo rules n s v → u ≡ v
 one_turns rules zero s u v a b = a ∙ sym b
 one_turns rules (suc n) s u v (inl a) (inl b) = a.1 ∙ sym b.1
 one_turns rules (suc n) s u v (inl a) (inr b) = absurd (b.0 a.0)
@@ -200,12 +200,12 @@ one_turns rules (suc n) s u v (inr (some, t, turn, more)) other =
     one_turns rules n t u v more (turns_rest rules n s t v some turn other)
 
 -- where no packet is left there is no further turn
-no_more : (rules : TurnRules) (n : ℕ) (s u : Growth) → HasNoPackets s → TurnsUpTo rules n s u → u ≡ s
+no_more : (rules : PhaseRules) (n : ℕ) (s u : Growth) → HasNoPackets s → TurnsUpTo rules n s u → u ≡ s
 no_more rules zero s u none same = same
 no_more rules (suc n) s u none (inl stays) = stays.1
 no_more rules (suc n) s u none (inr more) = absurd (more.0 none)
 
-run_out_once : (rules : TurnRules) (n m : ℕ) (s u v : Growth) → TurnsUpTo rules n s u → HasNoPackets u
+run_out_once : (rules : PhaseRules) (n m : ℕ) (s u v : Growth) → TurnsUpTo rules n s u → HasNoPackets u
     → TurnsUpTo rules m s v → HasNoPackets v → u ≡ v
 run_out_once rules zero m s u v a none b empty = a ∙ sym (no_more rules m s v (subst (λ g. HasNoPackets g) a none) b)
 run_out_once rules (suc n) zero s u v a none b empty =
@@ -214,17 +214,17 @@ run_out_once rules (suc n) (suc m) s u v (inl a) none b empty = a.1 ∙ sym (no_
 run_out_once rules (suc n) (suc m) s u v (inr (some, t, turn, more)) none other empty =
     run_out_once rules n m t u v more none (turns_rest rules m s t v some turn other) empty
 
-pub one_run_out : (rules : TurnRules) (s u v : Growth) → RunOut rules s u → RunOut rules s v → u ≡ v
+pub one_run_out : (rules : PhaseRules) (s u v : Growth) → RunOut rules s u → RunOut rules s v → u ≡ v
 one_run_out rules s u v (n, turns, none) (m, also, empty) = run_out_once rules n m s u v turns none also empty
 
 -- if packets are on their way, they run out by a turn
-pub run_out_begins : (rules : TurnRules) (s u : Growth) → ¬ HasNoPackets s → RunOut rules s u
+pub run_out_begins : (rules : PhaseRules) (s u : Growth) → ¬ HasNoPackets s → RunOut rules s u
     → (t : Growth) × Turn rules s t
 run_out_begins rules s u some (zero, same, none) = absurd (some (subst (λ g. HasNoPackets g) same none))
 run_out_begins rules s u some (suc n, turns, none) = turns_begin rules n s u some turns
 
 -- after a turn they run out too
-pub run_out_rest : (rules : TurnRules) (s t u : Growth) → ¬ HasNoPackets s → Turn rules s t → RunOut rules s u
+pub run_out_rest : (rules : PhaseRules) (s t u : Growth) → ¬ HasNoPackets s → Turn rules s t → RunOut rules s u
     → RunOut rules t u
 run_out_rest rules s t u some turn (zero, same, none) = absurd (some (subst (λ g. HasNoPackets g) same none))
 run_out_rest rules s t u some turn (suc n, turns, none) = (n, turns_rest rules n s t u some turn turns, none)

@@ -1,8 +1,8 @@
 -- Rounds, broadcasts and phases have one outcome each.
-use Rattle.std.proofs.Common.{arith, ◌≤◌, ◌≡◌, ℕ, zero, suc, ◌+◌, ◌-◌, ◌*◌, ◌/◌, Bool, true, false, ◌||◌, List, []}
-use Rattle.std.proofs.Common.{◌∷◌, length, take, drop, Some, None, refl, sym, ap, ap₂, subst, ◌∙◌, inl}
+use Rattle.std.proofs.Common.{arith, ◌<◌, ◌≤◌, ◌≡◌, ℕ, zero, suc, ◌+◌, ◌-◌, ◌*◌, ◌/◌, Bool, true, false, ◌||◌, List, []}
+use Rattle.std.proofs.Common.{◌∷◌, ◌++◌, length, take, drop, Option, Some, None, refl, sym, ap, ap₂, subst, ◌∙◌, inl}
 use Rattle.std.proofs.Common.{inr}
-use Rattle.std.specs.Prelude.{slice_get, codes}
+use Rattle.std.specs.Prelude.{slice_get, codes, MatchBool}
 use Rattle.std.proofs.lemmas.Option.{same_Some}
 use Rattle.ov_ids.specs.declared.id.MsgId.{MsgId}
 use Rattle.ov_cert.specs.declared.cert.Cert.{Cert}
@@ -21,18 +21,18 @@ use Rattle.ov_grow.specs.declared.recordable_event.Act.{Act}
 use Rattle.ov_grow.specs.declared.recordable_event.Act.TheVariants as act
 use Rattle.ov_grow.specs.WrittenLines.{analysis_line, comment_line}
 use Rattle.ov_grow.specs.Choices.{IsRandomOrder}
-use Rattle.ov_grow.specs.Growth.{Growth, AreLive, Chooses, Does, Writes}
+use Rattle.ov_grow.specs.Growth.{Growth, AreLive, Chooses, Does, IsFirstOf, Writes}
 use Rattle.ov_grow.specs.Turns.{RunOut, TurnsUpTo}
 use Rattle.ov_grow.specs.Rounds.{AreLiveInOrder, DoesEach, Round, Rounds}
-use Rattle.ov_grow.specs.Broadcasts.{BroadcastBy, Broadcasts, BroadcastsBegin, Fire, FireAt, FireAtEach, FireTimes}
-use Rattle.ov_grow.specs.Broadcasts.{FiresIfItRuns, TimersFire}
+use Rattle.ov_grow.specs.Broadcasts.{AtOnce, BroadcastBy, Broadcasts, BroadcastsBegin, Fire, FireAt, FireAtEach}
+use Rattle.ov_grow.specs.Broadcasts.{FireTimes, FiresIfItRuns, IsSender, OneByOne, StandsInFor, TimersFire}
 use Rattle.ov_grow.specs.Phases.{AreFirst, AreToCrash, Births, CrashNodes, EndsPhase, Heal, IsAnalysedAt, IsCutAt, Join}
-use Rattle.ov_grow.specs.Phases.{IsCrashedNeighbour, ReportCrashes, ReportTimes, Settle, cut_of}
+use Rattle.ov_grow.specs.Phases.{AreTold, IsCrashedNeighbour, ReportCrashes, ReportTimes, Settle, crashing, cut_of}
 use Rattle.ov_grow.specs.Phases.{deliveries_in, healing, joining, settling}
 use Rattle.ov_grow.specs.Phases.{turns_between}
 use Rattle.ov_grow.specs.Growing.{OneGrowth, beginning}
 use Rattle.ov_grow.specs.declared.phase_moment_and_deliveries.Phase.{Phase}
-use Rattle.ov_grow.specs.declared.packet_turn_rules.TurnRules.{TurnRules}
+use Rattle.ov_grow.specs.declared.phase_rules.PhaseRules.{PhaseRules}
 use Rattle.ov_grow.proofs.OneGrowth.{one_act, one_choice, one_live, one_order, one_run_out, one_turns, one_write}
 
 -- what follows the act for the first of these nodes
@@ -55,7 +55,7 @@ one_live_order s u v order also (live, after, are, orders, is) (those, left, liv
     (one.0, is ∙ (ap (λ c. record s { choices = c }) one.1 ∙ sym same))
 
 -- the nodes that live start their shuffles in the one order
-pub round_shuffles : (rules : TurnRules) (order : List ℕ) (s t u : Growth) → AreLiveInOrder s order t → Round rules s u
+pub round_shuffles : (rules : PhaseRules) (order : List ℕ) (s t u : Growth) → AreLiveInOrder s order t → Round rules s u
     → (v : Growth) × DoesEach act.Shuffle order t v × RunOut rules v u
 round_shuffles rules order s t u lives (also, x, v, those, all, ends) =
     let one = one_live_order s x t also order those lives in (
@@ -65,23 +65,23 @@ round_shuffles rules order s t u lives (also, x, v, those, all, ends) =
     )
 
 -- after the shuffles packets run out
-pub round_rest : (rules : TurnRules) (order : List ℕ) (s t v u : Growth) → AreLiveInOrder s order t
+pub round_rest : (rules : PhaseRules) (order : List ℕ) (s t v u : Growth) → AreLiveInOrder s order t
     → DoesEach act.Shuffle order t v → Round rules s u → RunOut rules v u
 round_rest rules order s t v u lives each round =
     let (w, all, ends) = round_shuffles rules order s t u lives round in
     subst (λ g. RunOut rules g u) (one_each act.Shuffle order t w v all each) ends
 
-pub one_round : (rules : TurnRules) (s u v : Growth) → Round rules s u → Round rules s v → u ≡ v
+pub one_round : (rules : PhaseRules) (s u v : Growth) → Round rules s u → Round rules s v → u ≡ v
 one_round rules s u v (order, t, w, lives, each, out) other =
     one_run_out rules w u v out (round_rest rules order s t w v lives each other)
 
 -- what follows a round
-pub rounds_rest : (rules : TurnRules) (n : ℕ) (s t u : Growth) → Round rules s t → Rounds rules (suc n) s u
+pub rounds_rest : (rules : PhaseRules) (n : ℕ) (s t u : Growth) → Round rules s t → Rounds rules (suc n) s u
     → Rounds rules n t u
 rounds_rest rules n s t u round (x, also, others) =
     subst (λ g. Rounds rules n g u) (one_round rules s x t also round) others
 
-pub one_rounds : (rules : TurnRules) (n : ℕ) (s u v : Growth) → Rounds rules n s u → Rounds rules n s v → u ≡ v
+pub one_rounds : (rules : PhaseRules) (n : ℕ) (s u v : Growth) → Rounds rules n s u → Rounds rules n s v → u ≡ v
 one_rounds rules zero s u v a b = a ∙ sym b
 one_rounds rules (suc n) s u v (t, round, more) other =
     one_rounds rules n t u v more (rounds_rest rules n s t v round other)
@@ -97,32 +97,53 @@ one_broadcast node s u v id also (p, lives, is, did) (q, live, same, does) = (
   one_act s u v (act.Broadcast node) did does,
 )
 
--- the chosen node broadcasts first, and then the others
-pub begin_follows : (nodes : List ℕ) (n place node : ℕ) (ids : List MsgId) (s t u : Growth)
-    → Chooses (length nodes) s place t → slice_get nodes place ≡ Some node → BroadcastsBegin nodes (suc n) s ids u
+-- the smallest that has a property is one
+one_first_of : (P : ℕ → Type 0) (ids : List ℕ) (a b : ℕ) → IsFirstOf P ids a → IsFirstOf P ids b → a ≡ b
+one_first_of P ids a b one other =
+    let below : a ≤ b = one.least b other.has other.holds in
+    let above : b ≤ a = other.least a one.has one.holds in
+    omega (arith, below, above)
+
+one_stand_in : (n : ℕ) (live : List ℕ) (a b : ℕ) → StandsInFor n live a → StandsInFor n live b → a ≡ b
+one_stand_in n live a b (inl one) (inl other) = one_first_of (λ x. n ≤ x) live a b one other
+one_stand_in n live a b (inr (none, one)) (inr (empty, other)) = one_first_of (λ x. 0 ≤ x) live a b one other
+one_stand_in n live a b (inl one) (inr (none, other)) =
+    absurd (let below : a < n = none a one.has in let above : n ≤ a = one.holds in omega (arith, below, above))
+one_stand_in n live a b (inr (none, other)) (inl one) =
+    absurd (let below : b < n = none b one.has in let above : n ≤ b = one.holds in omega (arith, below, above))
+
+pub one_sender : (sender : Option ℕ) (nodes : List ℕ) (node other : ℕ) (s u v : Growth) → IsSender sender nodes s node u
+    → IsSender sender nodes s other v → (node ≡ other) × (u ≡ v)
+one_sender None nodes node other s u v (place, chooses, at) (spot, chose, there) =
+    let choice = one_choice (length nodes) place spot s u v chooses chose in
+    (same_Some node other (sym at ∙ (ap (λ i. slice_get nodes i) choice.0 ∙ there)), choice.1)
+one_sender (Some n) nodes node other s u v (stands, is) (stand, same) =
+    (one_stand_in n nodes node other stands stand, is ∙ sym same)
+
+-- this node broadcasts first, and then the others
+pub begin_follows : (sender : Option ℕ) (nodes : List ℕ) (n node : ℕ) (ids : List MsgId) (s t u : Growth)
+    → IsSender sender nodes s node t → BroadcastsBegin sender nodes (suc n) s ids u
     → (id : MsgId) × (later : List MsgId) × (v : Growth)
-    × BroadcastBy node t id v × (ids ≡ id ∷ later) × BroadcastsBegin nodes n v later u
-begin_follows nodes n place node ids s t u chooses at (spot, other, id, later, x, v, chose, there, by, is, more) =
-    let choice = one_choice (length nodes) spot place s x t chose chooses in
-    let who : other ≡ node = same_Some other node (sym there ∙ (ap (λ i. slice_get nodes i) choice.0 ∙ at)) in
-    (id, later, v, subst (λ a. BroadcastBy a t id v) who (subst (λ g. BroadcastBy other g id v) choice.1 by), is, more)
+    × BroadcastBy node t id v × (ids ≡ id ∷ later) × BroadcastsBegin sender nodes n v later u
+begin_follows sender nodes n node ids s t u whose (other, id, later, x, v, also, by, is, more) =
+    let who = one_sender sender nodes other node s x t also whose in
+    (id, later, v, subst (λ a. BroadcastBy a t id v) who.0 (subst (λ g. BroadcastBy other g id v) who.1 by), is, more)
 
 -- what follows the first of these broadcasts
-pub begin_rest : (nodes : List ℕ) (n place node : ℕ) (id : MsgId) (ids : List MsgId) (s t v u : Growth)
-    → Chooses (length nodes) s place t → slice_get nodes place ≡ Some node → BroadcastBy node t id v
-    → BroadcastsBegin nodes (suc n) s ids u
-    → (later : List MsgId) × (ids ≡ id ∷ later) × BroadcastsBegin nodes n v later u
-begin_rest nodes n place node id ids s t v u chooses at by begin =
-    let (also, later, w, bys, is, more) = begin_follows nodes n place node ids s t u chooses at begin in
+pub begin_rest : (sender : Option ℕ) (nodes : List ℕ) (n node : ℕ) (id : MsgId) (ids : List MsgId) (s t v u : Growth)
+    → IsSender sender nodes s node t → BroadcastBy node t id v → BroadcastsBegin sender nodes (suc n) s ids u
+    → (later : List MsgId) × (ids ≡ id ∷ later) × BroadcastsBegin sender nodes n v later u
+begin_rest sender nodes n node id ids s t v u whose by begin =
+    let (also, later, w, bys, is, more) = begin_follows sender nodes n node ids s t u whose begin in
     let one = one_broadcast node t w v also id bys by in
-    (later, is ∙ ap (λ m. m ∷ later) one.0, subst (λ g. BroadcastsBegin nodes n g later u) one.1 more)
+    (later, is ∙ ap (λ m. m ∷ later) one.0, subst (λ g. BroadcastsBegin sender nodes n g later u) one.1 more)
 
-one_beginning : (nodes : List ℕ) (n : ℕ) (s u v : Growth) (ids also : List MsgId) → BroadcastsBegin nodes n s ids u
-    → BroadcastsBegin nodes n s also v → (ids ≡ also) × (u ≡ v)
-one_beginning nodes zero s u v ids also (none, is) (empty, same) = (none ∙ sym empty, is ∙ sym same)
-one_beginning nodes (suc n) s u v ids also (place, node, id, later, t, w, chooses, at, by, is, more) other =
-    let (rest, same, others) = begin_rest nodes n place node id also s t w v chooses at by other in
-    let last = one_beginning nodes n w u v later rest more others in
+one_beginning : (sender : Option ℕ) (nodes : List ℕ) (n : ℕ) (s u v : Growth) (ids also : List MsgId)
+    → BroadcastsBegin sender nodes n s ids u → BroadcastsBegin sender nodes n s also v → (ids ≡ also) × (u ≡ v)
+one_beginning sender nodes zero s u v ids also (none, is) (empty, same) = (none ∙ sym empty, is ∙ sym same)
+one_beginning sender nodes (suc n) s u v ids also (node, id, later, t, w, whose, by, is, more) other =
+    let (rest, same, others) = begin_rest sender nodes n node id also s t w v whose by other in
+    let last = one_beginning sender nodes n w u v later rest more others in
     (is ∙ (ap (λ xs. id ∷ xs) last.0 ∙ sym same), last.1)
 
 one_timer : (node : ℕ) (id : MsgId) (s u v : Growth) (a b : Bool) → FiresIfItRuns node id s a u
@@ -178,7 +199,7 @@ one_fire ids s u v a b (live, are, each) other =
     one_fire_each live ids s u v a b each (fire_follows ids live s v b are other)
 
 -- after a timer has fired packets run out
-pub fired_follows : (rules : TurnRules) (ids : List MsgId) (s t u : Growth) → Fire ids s true t
+pub fired_follows : (rules : PhaseRules) (ids : List MsgId) (s t u : Growth) → Fire ids s true t
     → TimersFire rules ids s u → (v : Growth) × RunOut rules t v × TimersFire rules ids v u
 fired_follows rules ids s t u fires (zero, none) =
     absurd (let fails = (one_fire ids s t u true false fires none).0 in cc)
@@ -186,13 +207,13 @@ fired_follows rules ids s t u fires (suc n, (x, v, fire, out, more)) =
     (v, subst (λ g. RunOut rules g v) (one_fire ids s x t true true fire fires).1 out, (n, more))
 
 -- what follows when packets have run out
-pub timers_rest : (rules : TurnRules) (ids : List MsgId) (s t v u : Growth) → Fire ids s true t → RunOut rules t v
+pub timers_rest : (rules : PhaseRules) (ids : List MsgId) (s t v u : Growth) → Fire ids s true t → RunOut rules t v
     → TimersFire rules ids s u → TimersFire rules ids v u
 timers_rest rules ids s t v u fires out timers =
     let (w, ends, more) = fired_follows rules ids s t u fires timers in
     subst (λ g. TimersFire rules ids g u) (one_run_out rules t w v ends out) more
 
-one_times : (rules : TurnRules) (ids : List MsgId) (n : ℕ) (s u v : Growth) → FireTimes rules ids n s u
+one_times : (rules : PhaseRules) (ids : List MsgId) (n : ℕ) (s u v : Growth) → FireTimes rules ids n s u
     → TimersFire rules ids s v → u ≡ v
 one_times rules ids zero s u v a (zero, b) = (one_fire ids s u v false false a b).1
 one_times rules ids zero s u v a (suc m, (x, y, fires, out, more)) =
@@ -201,34 +222,65 @@ one_times rules ids (suc n) s u v (t, w, fires, out, more) other =
     one_times rules ids n w u v more (timers_rest rules ids s t w v fires out other)
 
 -- broadcasts begin at these live nodes
-pub broadcasts_follow : (rules : TurnRules) (n : ℕ) (live : List ℕ) (s u : Growth) → AreLive s live
-    → Broadcasts rules n s u
-    → (ids : List MsgId) × (t : Growth) × (v : Growth)
-    × BroadcastsBegin live n s ids t × RunOut rules t v × TimersFire rules ids v u
-broadcasts_follow rules n live s u are (those, ids, t, v, lives, begins, out, fires) =
-    (ids, t, v, subst (λ xs. BroadcastsBegin xs n s ids t) (one_live s those live lives are) begins, out, fires)
+pub broadcasts_follow : (rules : PhaseRules) (n : ℕ) (live : List ℕ) (ids : List MsgId) (s u : Growth) → AreLive s live
+    → AtOnce rules n s ids u
+    → (t : Growth) × (v : Growth)
+    × BroadcastsBegin rules.sender live n s ids t × RunOut rules t v × TimersFire rules ids v u
+broadcasts_follow rules n live ids s u are (those, t, v, lives, begins, out, fires) = (
+  t,
+  v,
+  subst (λ xs. BroadcastsBegin rules.sender xs n s ids t) (one_live s those live lives are) begins,
+  out,
+  fires,
+)
 
 -- when they have begun packets run out
-pub begun_follows : (rules : TurnRules) (n : ℕ) (live : List ℕ) (ids : List MsgId) (s t u : Growth) → AreLive s live
-    → BroadcastsBegin live n s ids t → Broadcasts rules n s u
-    → (v : Growth) × RunOut rules t v × TimersFire rules ids v u
-begun_follows rules n live ids s t u are begin broadcasts =
-    let (also, x, v, begins, out, fires) = broadcasts_follow rules n live s u are broadcasts in
-    let one = one_beginning live n s x t also ids begins begin in
-    (v, subst (λ g. RunOut rules g v) one.1 out, subst (λ ms. TimersFire rules ms v u) one.0 fires)
+pub begun_follows : (rules : PhaseRules) (n : ℕ) (live : List ℕ) (ids also : List MsgId) (s t u : Growth)
+    → AreLive s live → BroadcastsBegin rules.sender live n s ids t → AtOnce rules n s also u
+    → (ids ≡ also) × ((v : Growth) × RunOut rules t v × TimersFire rules ids v u)
+begun_follows rules n live ids also s t u are begin broadcasts =
+    let (x, v, begins, out, fires) = broadcasts_follow rules n live also s u are broadcasts in
+    let one = one_beginning rules.sender live n s x t also ids begins begin in
+    (sym one.0, (v, subst (λ g. RunOut rules g v) one.1 out, subst (λ ms. TimersFire rules ms v u) one.0 fires))
 
 -- when packets have run out timers fire
-pub broadcasts_rest : (rules : TurnRules) (n : ℕ) (live : List ℕ) (ids : List MsgId) (s t v u : Growth)
-    → AreLive s live → BroadcastsBegin live n s ids t → RunOut rules t v → Broadcasts rules n s u
-    → TimersFire rules ids v u
-broadcasts_rest rules n live ids s t v u are begin out broadcasts =
-    let (w, ends, fires) = begun_follows rules n live ids s t u are begin broadcasts in
-    subst (λ g. TimersFire rules ids g u) (one_run_out rules t w v ends out) fires
+pub broadcasts_rest : (rules : PhaseRules) (n : ℕ) (live : List ℕ) (ids also : List MsgId) (s t v u : Growth)
+    → AreLive s live → BroadcastsBegin rules.sender live n s ids t → RunOut rules t v → AtOnce rules n s also u
+    → (ids ≡ also) × TimersFire rules ids v u
+broadcasts_rest rules n live ids also s t v u are begin out broadcasts =
+    let (same, (w, ends, fires)) = begun_follows rules n live ids also s t u are begin broadcasts in
+    (same, subst (λ g. TimersFire rules ids g u) (one_run_out rules t w v ends out) fires)
 
-pub one_broadcasts : (rules : TurnRules) (n : ℕ) (s u v : Growth) → Broadcasts rules n s u → Broadcasts rules n s v
-    → u ≡ v
-one_broadcasts rules n s u v (live, ids, t, w, are, begin, out, (k, times)) other =
-    one_times rules ids k w u v times (broadcasts_rest rules n live ids s t w v are begin out other)
+one_at_once : (rules : PhaseRules) (n : ℕ) (s u v : Growth) (ids also : List MsgId) → AtOnce rules n s ids u
+    → AtOnce rules n s also v → (ids ≡ also) × (u ≡ v)
+one_at_once rules n s u v ids also (live, t, w, are, begin, out, (k, times)) other =
+    let (same, fires) = broadcasts_rest rules n live ids also s t w v are begin out other in
+    (same, one_times rules ids k w u v times fires)
+
+-- what follows the first of broadcasts that are made one by one
+pub one_by_one_rest : (rules : PhaseRules) (n : ℕ) (first ids : List MsgId) (s t u : Growth) → AtOnce rules 1 s first t
+    → OneByOne rules (suc n) s ids u → (later : List MsgId) × (ids ≡ first ++ later) × OneByOne rules n t later u
+one_by_one_rest rules n first ids s t u one (head, later, x, also, is, more) =
+    let same = one_at_once rules 1 s x t head first also one in
+    (later, is ∙ ap (λ xs. xs ++ later) same.0, subst (λ g. OneByOne rules n g later u) same.1 more)
+
+one_one_by_one : (rules : PhaseRules) (n : ℕ) (s u v : Growth) (ids also : List MsgId) → OneByOne rules n s ids u
+    → OneByOne rules n s also v → (ids ≡ also) × (u ≡ v)
+one_one_by_one rules zero s u v ids also (none, is) (empty, same) = (none ∙ sym empty, is ∙ sym same)
+one_one_by_one rules (suc n) s u v ids also (first, later, t, one, is, more) other =
+    let (rest, same, others) = one_by_one_rest rules n first also s t v one other in
+    let last = one_one_by_one rules n t u v later rest more others in
+    (is ∙ (ap (λ xs. first ++ xs) last.0 ∙ sym same), last.1)
+
+one_way_made : (sequential : Bool) (rules : PhaseRules) (n : ℕ) (s u v : Growth) (ids also : List MsgId)
+    → MatchBool sequential (OneByOne rules n s ids u) (AtOnce rules n s ids u)
+    → MatchBool sequential (OneByOne rules n s also v) (AtOnce rules n s also v) → (ids ≡ also) × (u ≡ v)
+one_way_made true rules n s u v ids also a b = one_one_by_one rules n s u v ids also a b
+one_way_made false rules n s u v ids also a b = one_at_once rules n s u v ids also a b
+
+pub one_broadcasts : (rules : PhaseRules) (n : ℕ) (s u v : Growth) (ids also : List MsgId)
+    → Broadcasts rules n s ids u → Broadcasts rules n s also v → (ids ≡ also) × (u ≡ v)
+one_broadcasts rules n s u v ids also a b = one_way_made rules.sequential rules n s u v ids also a b
 
 -- two certificates that agree name one cut
 one_cut_of : (c d : Cert) → AreAlike c d → cut_of c ≡ cut_of d
@@ -267,25 +319,26 @@ same_phase : (p q : Phase) → p.moment ≡ q.moment → p.deliveries ≡ q.deli
 same_phase p q moment deliveries = ap₂ (λ m d. record { moment = m; deliveries = d }) moment deliveries
 
 -- after the analysis there are broadcasts
-pub ending_rest : (rules : TurnRules) (n m : ℕ) (s t u : Growth) (q : Phase) → IsAnalysedAt m s t
-    → EndsPhase rules n s q u → (m ≡ q.moment) × Broadcasts rules n t u
-ending_rest rules n m s t u q analysed (x, also, others, counts) =
+pub ending_rest : (rules : PhaseRules) (n m : ℕ) (s t u : Growth) (q : Phase) → IsAnalysedAt m s t
+    → EndsPhase rules n s q u → (m ≡ q.moment) × ((ids : List MsgId) × Broadcasts rules n t ids u)
+ending_rest rules n m s t u q analysed (x, ids, also, others, counts) =
     let first = one_analysis m q.moment s t x analysed also in
-    (first.0, subst (λ g. Broadcasts rules n g u) (sym first.1) others)
+    (first.0, (ids, subst (λ g. Broadcasts rules n g ids u) (sym first.1) others))
 
-one_ending : (rules : TurnRules) (n : ℕ) (s u v : Growth) (p q : Phase) → EndsPhase rules n s p u
+one_ending : (rules : PhaseRules) (n : ℕ) (s u v : Growth) (p q : Phase) → EndsPhase rules n s p u
     → EndsPhase rules n s q v
     → (p ≡ q) × (u ≡ v)
-one_ending rules n s u v p q (t, analysed, broadcasts, count) other =
-    let rest = ending_rest rules n p.moment s t v q analysed other in
-    let last : u ≡ v = one_broadcasts rules n t u v broadcasts rest.1 in (
-      same_phase p q rest.0 (count ∙ (ap₂ (λ m g. deliveries_in (drop m g.world.journal)) rest.0 last
-          ∙ sym other.3)),
-      last,
+one_ending rules n s u v p q (t, ids, analysed, broadcasts, count) (x, others, also, made, counts) =
+    let first = one_analysis p.moment q.moment s t x analysed also in
+    let last = one_broadcasts rules n t u v ids others broadcasts
+    (subst (λ g. Broadcasts rules n g others v) (sym first.1) made) in (
+      same_phase p q first.0 (count ∙ (ap₂ (λ m g. deliveries_in (drop m g.world.journal)) first.0 last.1
+          ∙ sym counts)),
+      last.1,
     )
 
 -- after the turns before a birth, the node is born with the chosen contact, and then the next ones are
-pub birth_follows : (rules : TurnRules) (pace id n place : ℕ) (s t v u : Growth) → TurnsUpTo rules pace s t
+pub birth_follows : (rules : PhaseRules) (pace id n place : ℕ) (s t v u : Growth) → TurnsUpTo rules pace s t
     → Chooses (id - 1) t place v → Births rules pace id (suc n) s u
     → (w : Growth) × Does v (act.Boot id (Some (1 + place))) w × Births rules pace (id + 1) n w u
 birth_follows rules pace id n place s t v u turns chooses (spot, x, y, w, also, chose, does, others) =
@@ -298,14 +351,14 @@ birth_follows rules pace id n place s t v u turns chooses (spot, x, y, w, also, 
     )
 
 -- what follows a birth
-pub births_rest : (rules : TurnRules) (pace id n place : ℕ) (s t v w u : Growth) → TurnsUpTo rules pace s t
+pub births_rest : (rules : PhaseRules) (pace id n place : ℕ) (s t v w u : Growth) → TurnsUpTo rules pace s t
     → Chooses (id - 1) t place v → Does v (act.Boot id (Some (1 + place))) w → Births rules pace id (suc n) s u
     → Births rules pace (id + 1) n w u
 births_rest rules pace id n place s t v w u turns chooses did births =
     let (x, also, others) = birth_follows rules pace id n place s t v u turns chooses births in
     subst (λ g. Births rules pace (id + 1) n g u) (one_act v x w (act.Boot id (Some (1 + place))) also did) others
 
-one_birth : (rules : TurnRules) (pace id n : ℕ) (s u v : Growth) → Births rules pace id n s u
+one_birth : (rules : PhaseRules) (pace id n : ℕ) (s u v : Growth) → Births rules pace id n s u
     → Births rules pace id n s v
     → u ≡ v
 one_birth rules pace id zero s u v a b = a ∙ sym b
@@ -371,7 +424,7 @@ one_settling o s u v p q (t, w, says, rounds, ends) other =
 -- when it is known which nodes are to crash, each of them does
 pub crash_follows : (o : GrowOptions) (m : ℕ) (nodes : List ℕ) (s t v u : Growth) (q : Phase)
     → Writes s (comment_line (codes "crash")) t → AreToCrash o.crash m t nodes v → CrashNodes o m s q u
-    → (w : Growth) × DoesEach act.Crash nodes v w × EndsPhase (settling o) o.broadcasts w q u
+    → (w : Growth) × DoesEach act.Crash nodes v w × EndsPhase (crashing o) o.broadcasts w q u
 crash_follows o m nodes s t v u q says are (those, x, y, w, said, also, each, ends) =
     let first = one_write s x t (comment_line (codes "crash")) said says in
     let one = one_to_crash o.crash m t y v those nodes (subst (λ g. AreToCrash o.crash m g those y) first also) are in
@@ -380,15 +433,15 @@ crash_follows o m nodes s t v u q says are (those, x, y, w, said, also, each, en
 -- after the crashes the phase ends
 pub crash_rest : (o : GrowOptions) (m : ℕ) (nodes : List ℕ) (s t v w u : Growth) (q : Phase)
     → Writes s (comment_line (codes "crash")) t → AreToCrash o.crash m t nodes v → DoesEach act.Crash nodes v w
-    → CrashNodes o m s q u → EndsPhase (settling o) o.broadcasts w q u
+    → CrashNodes o m s q u → EndsPhase (crashing o) o.broadcasts w q u
 crash_rest o m nodes s t v w u q says are each crash =
     let (x, all, ends) = crash_follows o m nodes s t v u q says are crash in
-    subst (λ g. EndsPhase (settling o) o.broadcasts g q u) (one_each act.Crash nodes v x w all each) ends
+    subst (λ g. EndsPhase (crashing o) o.broadcasts g q u) (one_each act.Crash nodes v x w all each) ends
 
 pub one_crash : (o : GrowOptions) (m : ℕ) (s u v : Growth) (p q : Phase) → CrashNodes o m s p u → CrashNodes o m s q v
     → (p ≡ q) × (u ≡ v)
 one_crash o m s u v p q (nodes, t, w, z, says, are, each, ends) other =
-    one_ending (settling o) o.broadcasts z u v p q ends (crash_rest o m nodes s t w z v q says are each other)
+    one_ending (crashing o) o.broadcasts z u v p q ends (crash_rest o m nodes s t w z v q says are each other)
 
 -- whom the next report is for, and of whom
 one_first : (s : Growth) (node crashed other gone : ℕ) → AreFirst s node crashed → AreFirst s other gone
@@ -402,7 +455,7 @@ one_first s node crashed other gone a b =
     (same, omega (arith, low, high))
 
 -- the next report is the one for this node, and then packets run out
-pub reports_follow : (rules : TurnRules) (node crashed : ℕ) (s u : Growth) → AreFirst s node crashed
+pub reports_follow : (rules : PhaseRules) (node crashed : ℕ) (s u : Growth) → AreFirst s node crashed
     → ReportCrashes rules s u
     → (t : Growth) × (v : Growth)
     × Does s (act.CrashReport node crashed) t × RunOut rules t v × ReportCrashes rules v u
@@ -418,7 +471,7 @@ reports_follow rules node crashed s u first (suc n, (other, gone, t, v, is, did,
     )
 
 -- after the report packets run out
-pub report_follows : (rules : TurnRules) (node crashed : ℕ) (s t u : Growth) → AreFirst s node crashed
+pub report_follows : (rules : PhaseRules) (node crashed : ℕ) (s t u : Growth) → AreFirst s node crashed
     → Does s (act.CrashReport node crashed) t → ReportCrashes rules s u
     → (v : Growth) × RunOut rules t v × ReportCrashes rules v u
 report_follows rules node crashed s t u first did reports =
@@ -426,43 +479,48 @@ report_follows rules node crashed s t u first did reports =
     (v, subst (λ g. RunOut rules g v) (one_act s x t (act.CrashReport node crashed) does did) out, more)
 
 -- what follows when packets have run out
-pub reports_rest : (rules : TurnRules) (node crashed : ℕ) (s t v u : Growth) → AreFirst s node crashed
+pub reports_rest : (rules : PhaseRules) (node crashed : ℕ) (s t v u : Growth) → AreFirst s node crashed
     → Does s (act.CrashReport node crashed) t → RunOut rules t v → ReportCrashes rules s u → ReportCrashes rules v u
 reports_rest rules node crashed s t v u first did out reports =
     let (w, ends, more) = report_follows rules node crashed s t u first did reports in
     subst (λ g. ReportCrashes rules g u) (one_run_out rules t w v ends out) more
 
-one_reports : (rules : TurnRules) (n : ℕ) (s u v : Growth) → ReportTimes rules n s u → ReportCrashes rules s v → u ≡ v
+one_reports : (rules : PhaseRules) (n : ℕ) (s u v : Growth) → ReportTimes rules n s u → ReportCrashes rules s v → u ≡ v
 one_reports rules zero s u v a (zero, b) = a.1 ∙ sym b.1
 one_reports rules zero s u v a (suc m, (node, crashed, x, y, first, did, out, more)) =
     absurd (a.0 node crashed first.has)
 one_reports rules (suc n) s u v (node, crashed, t, w, first, did, out, more) other =
     one_reports rules n w u v more (reports_rest rules node crashed s t w v first did out other)
 
--- after the comment there are crash reports
+one_told_all : (detect : Bool) (rules : PhaseRules) (s u v : Growth) → AreTold detect rules s u
+    → AreTold detect rules s v → u ≡ v
+one_told_all true rules s u v same also = same ∙ sym also
+one_told_all false rules s u v (n, reports) other = one_reports rules n s u v reports other
+
+-- after the comment nodes are told of crashes
 pub heal_follows : (o : GrowOptions) (s t u : Growth) (q : Phase) → Writes s (comment_line (codes "heal")) t
     → Heal o s q u
     → (v : Growth) × (w : Growth)
-    × ReportCrashes (healing o) t v × Rounds (healing o) o.heal v w × EndsPhase (healing o) o.broadcasts w q u
-heal_follows o s t u q says (x, v, w, said, reports, rounds, ends) =
+    × AreTold o.detect (healing o) t v × Rounds (healing o) o.heal v w × EndsPhase (healing o) o.broadcasts w q u
+heal_follows o s t u q says (x, v, w, said, told, rounds, ends) =
     let first = one_write s x t (comment_line (codes "heal")) said says in
-    (v, w, subst (λ g. ReportCrashes (healing o) g v) first reports, rounds, ends)
+    (v, w, subst (λ g. AreTold o.detect (healing o) g v) first told, rounds, ends)
 
--- after the crash reports there are rounds
+-- after that there are rounds
 pub reported_follows : (o : GrowOptions) (s t v u : Growth) (q : Phase) → Writes s (comment_line (codes "heal")) t
-    → ReportCrashes (healing o) t v → Heal o s q u
+    → AreTold o.detect (healing o) t v → Heal o s q u
     → (w : Growth) × Rounds (healing o) o.heal v w × EndsPhase (healing o) o.broadcasts w q u
-reported_follows o s t v u q says (n, reports) heal =
+reported_follows o s t v u q says told heal =
     let (x, w, also, rounds, ends) = heal_follows o s t u q says heal in
-    let one : v ≡ x = one_reports (healing o) n t v x reports also in
+    let one : v ≡ x = one_told_all o.detect (healing o) t v x told also in
     (w, subst (λ g. Rounds (healing o) o.heal g w) (sym one) rounds, ends)
 
 -- after the rounds the phase ends
 pub heal_rest : (o : GrowOptions) (s t v w u : Growth) (q : Phase) → Writes s (comment_line (codes "heal")) t
-    → ReportCrashes (healing o) t v → Rounds (healing o) o.heal v w → Heal o s q u
+    → AreTold o.detect (healing o) t v → Rounds (healing o) o.heal v w → Heal o s q u
     → EndsPhase (healing o) o.broadcasts w q u
-heal_rest o s t v w u q says reports rounds heal =
-    let (x, also, ends) = reported_follows o s t v u q says reports heal in
+heal_rest o s t v w u q says told rounds heal =
+    let (x, also, ends) = reported_follows o s t v u q says told heal in
     subst (λ g. EndsPhase (healing o) o.broadcasts g q u) (one_rounds (healing o) o.heal v x w also rounds) ends
 
 pub one_healing : (o : GrowOptions) (s u v : Growth) (p q : Phase) → Heal o s p u → Heal o s q v → (p ≡ q) × (u ≡ v)

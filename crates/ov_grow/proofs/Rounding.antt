@@ -4,7 +4,7 @@ use Rattle.std.proofs.Common.{subst, arith, drop-cons, ◌∙◌, ap}
 use Rattle.ov_grow.specs.declared.recordable_event.Act.{Act}
 use Rattle.ov_grow.specs.Growth.{Growth, Does}
 use Rattle.ov_grow.specs.Rounds.{DoesEach, Round, Rounds}
-use Rattle.ov_grow.specs.declared.packet_turn_rules.TurnRules.{TurnRules}
+use Rattle.ov_grow.specs.declared.phase_rules.PhaseRules.{PhaseRules}
 
 -- the act of the next of these nodes is done
 pub each_more : (what : ℕ → Act) (nodes : List ℕ) (i node : ℕ) (s t u : Growth) → i < length nodes
@@ -35,17 +35,17 @@ each_begins what nodes i node s u within is each =
     let (t, did, more) = each_next what nodes i node s u within is each in (t, did)
 
 -- a round more
-pub rounds_more : (rules : TurnRules) (n m : ℕ) (s t u : Growth) → n ≡ suc m → Round rules s t → Rounds rules m t u
+pub rounds_more : (rules : PhaseRules) (n m : ℕ) (s t u : Growth) → n ≡ suc m → Round rules s t → Rounds rules m t u
     → Rounds rules n s u
 rounds_more rules n m s t u one round rounds = subst (λ k. Rounds rules k s u) (sym one) (t, round, rounds)
 
 -- rounds begin with a round
-pub rounds_begin : (rules : TurnRules) (n m : ℕ) (s u : Growth) → n ≡ suc m → Rounds rules n s u
+pub rounds_begin : (rules : PhaseRules) (n m : ℕ) (s u : Growth) → n ≡ suc m → Rounds rules n s u
     → (t : Growth) × Round rules s t
 rounds_begin rules n m s u one rounds =
     let (t, round, more) = subst (λ k. Rounds rules k s u) one rounds in (t, round)
 
-pub rounds_end : (rules : TurnRules) (n : ℕ) (s : Growth) → n ≡ 0 → Rounds rules n s s
+pub rounds_end : (rules : PhaseRules) (n : ℕ) (s : Growth) → n ≡ 0 → Rounds rules n s s
 rounds_end rules n s none = subst (λ k. Rounds rules k s s) (sym none) refl
 
 -- nothing is left of a list past its end

@@ -7,7 +7,7 @@ use Rattle.ov_grow.specs.declared.recordable_event.Act.TheVariants as act
 use Rattle.ov_grow.specs.Growth.{Growth, Does}
 use Rattle.ov_grow.specs.Turns.{IsDelivered, SenderIsTold}
 use Rattle.ov_grow.specs.Code.Standing.{Fails, IsTold}
-use Rattle.ov_grow.specs.declared.packet_turn_rules.TurnRules.{TurnRules}
+use Rattle.ov_grow.specs.declared.phase_rules.PhaseRules.{PhaseRules}
 use Rattle.ov_grow.proofs.Turning.{was_there}
 
 -- the sender of a packet that was delivered is told of what failed
@@ -25,7 +25,7 @@ sender_told s t u place (Some (sender, receiver)) (packet, at, fails, from, to) 
 sender_told s t u place None (packet, at, fine) told = (packet, at, inr (fine, told))
 
 -- a packet that was delivered was on its way
-pub delivered_and_told : (rules : TurnRules) (place : ℕ) (s t u : Growth) (failed : Option (ℕ × ℕ))
+pub delivered_and_told : (rules : PhaseRules) (place : ℕ) (s t u : Growth) (failed : Option (ℕ × ℕ))
     → rules.tells_crashes ≡ true
     → (place < length s.world.net.packets → Fails s place failed)
     → Does s (act.Deliver place) t → IsTold failed t u → IsDelivered rules place s u

@@ -15,7 +15,7 @@ use Rattle.ov_grow_options.specs.declared.options.Order.TheVariants.{Random, Old
 use Rattle.ov_grow.specs.Growth.{Growth, Does, Tries}
 use Rattle.ov_grow.specs.Turns.{Arrives, HasNoPackets, IsDelivered, IsTurnOf, MayBeRepeated, RunOut}
 use Rattle.ov_grow.specs.Turns.{SenderIsTold, Turn, TurnsUpTo}
-use Rattle.ov_grow.specs.declared.packet_turn_rules.TurnRules.{TurnRules}
+use Rattle.ov_grow.specs.declared.phase_rules.PhaseRules.{PhaseRules}
 
 -- how many entries the journal has
 abbrev pub entries : Growth → ℕ
@@ -62,18 +62,18 @@ told_or_not : (b s u : Growth) (place : ℕ) (tells : Bool) → MatchBool tells 
 told_or_not b s u place true told = told_as_long b s u place told
 told_or_not b s u place false same = inl same
 
-delivered_longer : (rules : TurnRules) (place : ℕ) (s u : Growth) → IsDelivered rules place s u → Longer s u
+delivered_longer : (rules : PhaseRules) (place : ℕ) (s u : Growth) → IsDelivered rules place s u → Longer s u
 delivered_longer rules place s u (t, did, told) =
     longer_by s t u (does_longer s t (act.Deliver place) did) (told_or_not s t u place rules.tells_crashes told)
 
-repeated_longer : (rules : TurnRules) (place : ℕ) (s u w : Growth) → MayBeRepeated rules place s u → Longer u w
+repeated_longer : (rules : PhaseRules) (place : ℕ) (s u w : Growth) → MayBeRepeated rules place s u → Longer u w
     → Longer s w
 repeated_longer rules place s u w (true, t, tries, did) more =
     longer_from s t w (ap (λ g. g.world) tries.1) (longer_trans t u w (does_longer t u (act.Repeat place) did) more)
 repeated_longer rules place s u w (false, t, tries, same) more =
     longer_from s t w (ap (λ g. g.world) tries.1) (subst (λ g. Longer g w) same more)
 
-lost_or_not : (rules : TurnRules) (place : ℕ) (s u : Growth) (lost : Bool)
+lost_or_not : (rules : PhaseRules) (place : ℕ) (s u : Growth) (lost : Bool)
     → MatchBool lost (Does s (act.Lose place) u) (Arrives rules place s u) → Longer s u
 lost_or_not rules place s u true did = does_longer s u (act.Lose place) did
 lost_or_not rules place s u false (t, again, arrived) =
@@ -84,22 +84,22 @@ pub whose_same : (order : Order) (place : ℕ) (s t : Growth) → IsTurnOf order
 whose_same Random place s t whose = ap (λ g. g.world) whose.1
 whose_same Oldest place s t whose = ap (λ g. g.world) whose.1
 
-pub turn_longer : (rules : TurnRules) (s u : Growth) → Turn rules s u → Longer s u
+pub turn_longer : (rules : PhaseRules) (s u : Growth) → Turn rules s u → Longer s u
 turn_longer rules s u (place, lost, t, v, whose, tries, rest) =
     longer_from s v u (ap (λ g. g.world) tries.1 ∙ whose_same rules.order place s t whose) (lost_or_not rules place
     v u lost rest)
 
-pub turns_as_long : (rules : TurnRules) (n : ℕ) (s u : Growth) → TurnsUpTo rules n s u → AsLong s u
+pub turns_as_long : (rules : PhaseRules) (n : ℕ) (s u : Growth) → TurnsUpTo rules n s u → AsLong s u
 turns_as_long rules zero s u same = inl same
 turns_as_long rules (suc n) s u (inl none) = inl none.1
 turns_as_long rules (suc n) s u (inr (some, t, turn, more)) =
     inr (longer_by s t u (turn_longer rules s t turn) (turns_as_long rules n t u more))
 
-pub run_out_as_long : (rules : TurnRules) (s u : Growth) → RunOut rules s u → AsLong s u
+pub run_out_as_long : (rules : PhaseRules) (s u : Growth) → RunOut rules s u → AsLong s u
 run_out_as_long rules s u (n, turns, none) = turns_as_long rules n s u turns
 
 -- a packet is lost in its turn
-pub turn_lost : (rules : TurnRules) (place : ℕ) (lost : Bool) (s t v u : Growth) → lost ≡ true
+pub turn_lost : (rules : PhaseRules) (place : ℕ) (lost : Bool) (s t v u : Growth) → lost ≡ true
     → IsTurnOf rules.order s place t → Tries rules.loss t lost v → Does v (act.Lose place) u → Turn rules s u
 turn_lost rules place lost s t v u holds whose tries did = (
   place,
@@ -112,7 +112,7 @@ turn_lost rules place lost s t v u holds whose tries did = (
 )
 
 -- a packet is not lost in its turn
-pub turn_arrives : (rules : TurnRules) (place : ℕ) (lost : Bool) (s t v u : Growth) → lost ≡ false
+pub turn_arrives : (rules : PhaseRules) (place : ℕ) (lost : Bool) (s t v u : Growth) → lost ≡ false
     → IsTurnOf rules.order s place t → Tries rules.loss t lost v → Arrives rules place v u → Turn rules s u
 turn_arrives rules place lost s t v u fails whose tries arrives = (
   place,
@@ -125,19 +125,19 @@ turn_arrives rules place lost s t v u fails whose tries arrives = (
 )
 
 -- a packet is repeated
-pub repeated : (rules : TurnRules) (place : ℕ) (again : Bool) (s t u : Growth) → again ≡ true
+pub repeated : (rules : PhaseRules) (place : ℕ) (again : Bool) (s t u : Growth) → again ≡ true
     → Tries rules.repeat s again t → Does t (act.Repeat place) u → MayBeRepeated rules place s u
 repeated rules place again s t u holds tries did =
     (again, t, tries, subst (λ l. MatchBool l (Does t (act.Repeat place) u) (u ≡ t)) (sym holds) did)
 
 -- a packet is not repeated
-pub not_repeated : (rules : TurnRules) (place : ℕ) (again : Bool) (s t : Growth) → again ≡ false
+pub not_repeated : (rules : PhaseRules) (place : ℕ) (again : Bool) (s t : Growth) → again ≡ false
     → Tries rules.repeat s again t → MayBeRepeated rules place s t
 not_repeated rules place again s t fails tries =
     (again, t, tries, subst (λ l. MatchBool l (Does t (act.Repeat place) t) (t ≡ t)) (sym fails) refl)
 
 -- a packet is delivered, and nobody is told
-pub delivered : (rules : TurnRules) (place : ℕ) (s u : Growth) → rules.tells_crashes ≡ false
+pub delivered : (rules : PhaseRules) (place : ℕ) (s u : Growth) → rules.tells_crashes ≡ false
     → Does s (act.Deliver place) u → IsDelivered rules place s u
 delivered rules place s u fails did =
     (u, did, subst (λ l. MatchBool l (SenderIsTold s place u u) (u ≡ u)) (sym fails) refl)
@@ -154,22 +154,22 @@ was_there s t place did =
     let there = did.step.step.2 in slice_get_within s.world.net.packets place there.0 there.1
 
 -- one turn more
-pub run_out_more : (rules : TurnRules) (s t u : Growth) → ¬ HasNoPackets s → Turn rules s t → RunOut rules t u
+pub run_out_more : (rules : PhaseRules) (s t u : Growth) → ¬ HasNoPackets s → Turn rules s t → RunOut rules t u
     → RunOut rules s u
 run_out_more rules s t u some turn (n, turns, none) = (suc n, inr (some, t, turn, turns), none)
 
-pub run_out_none : (rules : TurnRules) (s : Growth) → HasNoPackets s → RunOut rules s s
+pub run_out_none : (rules : PhaseRules) (s : Growth) → HasNoPackets s → RunOut rules s s
 run_out_none rules s none = (0, refl, none)
 
-pub turns_more : (rules : TurnRules) (n m : ℕ) (s t u : Growth) → n ≡ suc m → ¬ HasNoPackets s → Turn rules s t
+pub turns_more : (rules : PhaseRules) (n m : ℕ) (s t u : Growth) → n ≡ suc m → ¬ HasNoPackets s → Turn rules s t
     → TurnsUpTo rules m t u → TurnsUpTo rules n s u
 turns_more rules n m s t u one some turn turns =
     subst (λ k. TurnsUpTo rules k s u) (sym one) (inr (some, t, turn, turns))
 
-pub turns_none : (rules : TurnRules) (n m : ℕ) (s : Growth) → n ≡ suc m → HasNoPackets s → TurnsUpTo rules n s s
+pub turns_none : (rules : PhaseRules) (n m : ℕ) (s : Growth) → n ≡ suc m → HasNoPackets s → TurnsUpTo rules n s s
 turns_none rules n m s one none = subst (λ k. TurnsUpTo rules k s s) (sym one) (inl (none, refl))
 
-pub turns_end : (rules : TurnRules) (n : ℕ) (s : Growth) → n ≡ 0 → TurnsUpTo rules n s s
+pub turns_end : (rules : PhaseRules) (n : ℕ) (s : Growth) → n ≡ 0 → TurnsUpTo rules n s s
 turns_end rules n s none = subst (λ k. TurnsUpTo rules k s s) (sym none) refl
 
 -- a list with items has some

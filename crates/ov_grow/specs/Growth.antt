@@ -1,5 +1,5 @@
 -- Where growing stands, and the single steps of it: s is before, and u after. Chosen here.
-use Rattle.std.specs.Prelude.{◌≡◌, ℕ, Bool, List, [], ◌∷◌, ◌++◌, length}
+use Rattle.std.specs.Prelude.{◌≡◌, ◌≤◌, ℕ, Bool, List, [], ◌∷◌, ◌++◌, length}
 use Rattle.rand_pcg.specs.Lcg.{Lcg}
 use Rattle.ov_ids.specs.Members.{Has, Ascends}
 use Rattle.ov_peer.specs.PeerState.{PeerState}
@@ -65,3 +65,9 @@ pub record AreLive (s : Growth) (ids : List ℕ) : Type 0 where
   pub ascend : Ascends ids
   pub live : (a : ℕ) → Has ids a → IsLive s a
   pub each : (a : ℕ) → IsLive s a → Has ids a
+
+-- of these ids this is the smallest that has a property
+pub record IsFirstOf (P : ℕ → Type 0) (ids : List ℕ) (first : ℕ) : Type 0 where
+  pub has : Has ids first
+  pub holds : P first
+  pub least : (a : ℕ) → Has ids a → P a → first ≤ a

@@ -1,7 +1,8 @@
 -- The phases of growing. s is before, and u after. Chosen here.
 use Rattle.std.specs.Prelude.{◌≡◌, ℕ, zero, suc, ◌+◌, ◌-◌, ◌*◌, ◌/◌, ◌≤◌, List, [], length, take, drop}
-use Rattle.std.specs.Prelude.{Option, Some, None, codes, count_by, is_some, true, false}
+use Rattle.std.specs.Prelude.{Option, Some, None, codes, count_by, is_some, Bool, true, false, MatchBool}
 use Rattle.ov_ids.specs.Members.{Has}
+use Rattle.ov_ids.specs.declared.id.MsgId.{MsgId}
 use Rattle.ov_graph.specs.Links.{LinkGraph}
 use Rattle.ov_peer.specs.PeerState.{PeerState}
 use Rattle.ov_cert.specs.declared.cert.Cert.{Cert}
@@ -20,7 +21,7 @@ use Rattle.ov_grow.specs.Turns.{TurnsUpTo, RunOut}
 use Rattle.ov_grow.specs.Rounds.{AreLiveInOrder, DoesEach, Rounds}
 use Rattle.ov_grow.specs.Broadcasts.{Broadcasts}
 use Rattle.ov_grow.specs.declared.phase_moment_and_deliveries.Phase.{Phase}
-use Rattle.ov_grow.specs.declared.packet_turn_rules.TurnRules.{TurnRules}
+use Rattle.ov_grow.specs.declared.phase_rules.PhaseRules.{PhaseRules}
 
 -- how many of these entries tell that a node delivered a message
 abbrev pub deliveries_in : List Entry → ℕ
@@ -37,24 +38,39 @@ IsAnalysedAt moment s u =
 
 -- a phase ends: a snapshot is taken and analysed, and there are so many broadcasts. The deliveries of the phase are
 -- those after the snapshot
-abbrev pub EndsPhase : TurnRules → ℕ → Growth → Phase → Growth → Type 0
+abbrev pub EndsPhase : PhaseRules → ℕ → Growth → Phase → Growth → Type 0
 EndsPhase rules broadcasts s phase u =
     (t : Growth)
     × IsAnalysedAt phase.moment s t
-    × Broadcasts rules broadcasts t u
+    × ((ids : List MsgId) × Broadcasts rules broadcasts t ids u)
     × (phase.deliveries ≡ deliveries_in (drop phase.moment u.world.journal))
 
--- what becomes of packets while nodes join
-abbrev pub joining : GrowOptions → TurnRules
-joining o = record { loss = o.loss_join; repeat = o.repeat; order = o.order; tells_crashes = false }
+-- the rules of a phase with this chance of loss, in which senders are told if a connection fails, or are not
+abbrev pub rules_of : GrowOptions → ℕ → Bool → PhaseRules
+rules_of o loss tells_crashes = record {
+  loss = loss;
+  repeat = o.repeat;
+  order = o.order;
+  tells_crashes = tells_crashes;
+  sequential = o.sequential;
+  sender = o.sender;
+}
 
--- what becomes of packets while the overlay settles, and after crashes
-abbrev pub settling : GrowOptions → TurnRules
-settling o = record { loss = o.loss; repeat = o.repeat; order = o.order; tells_crashes = false }
+-- the rules while nodes join
+abbrev pub joining : GrowOptions → PhaseRules
+joining o = rules_of o o.loss_join false
 
--- what becomes of packets while the overlay heals: senders are told if a connection fails
-abbrev pub healing : GrowOptions → TurnRules
-healing o = record { loss = o.loss; repeat = o.repeat; order = o.order; tells_crashes = true }
+-- the rules while the overlay settles
+abbrev pub settling : GrowOptions → PhaseRules
+settling o = rules_of o o.loss false
+
+-- the rules from the crashes on: senders are told if nodes learn of crashes by sending
+abbrev pub crashing : GrowOptions → PhaseRules
+crashing o = rules_of o o.loss o.detect
+
+-- the rules while the overlay heals: senders are told
+abbrev pub healing : GrowOptions → PhaseRules
+healing o = rules_of o o.loss true
 
 -- how many turns there are between two births, at most
 abbrev pub turns_between : Option ℕ → ℕ
@@ -63,7 +79,7 @@ turns_between (Some pace) = pace
 
 -- so many nodes are born, the first of them with this id. There are turns before each birth, and its contact is one of
 -- the nodes before it
-abbrev pub Births : TurnRules → ℕ → ℕ → ℕ → Growth → Growth → Type 0
+abbrev pub Births : PhaseRules → ℕ → ℕ → ℕ → Growth → Growth → Type 0
 Births rules pace id zero s u = u ≡ s
 Births rules pace id (suc n) s u =
     (place : ℕ) × (t : Growth) × (v : Growth) × (w : Growth)
@@ -116,7 +132,7 @@ CrashNodes o settled s phase u =
     × Writes s (comment_line (codes "crash")) t
     × AreToCrash o.crash settled t nodes v
     × DoesEach act.Crash nodes v w
-    × EndsPhase (settling o) o.broadcasts w phase u
+    × EndsPhase (crashing o) o.broadcasts w phase u
 
 -- the node a crashed, and is in the active view of this live node
 abbrev pub IsCrashedNeighbour : Growth → ℕ → ℕ → Type 0
@@ -135,7 +151,7 @@ HasNone s = (a b : ℕ) → ¬ IsCrashedNeighbour s a b
 
 -- so many crash reports, one after the other, and then no live node has a crashed node in its active view: the first
 -- live node that has one gets the report of the first such, and then packets run out
-abbrev pub ReportTimes : TurnRules → ℕ → Growth → Growth → Type 0
+abbrev pub ReportTimes : PhaseRules → ℕ → Growth → Growth → Type 0
 ReportTimes rules zero s u = HasNone s × (u ≡ s)
 ReportTimes rules (suc n) s u =
     (node : ℕ) × (crashed : ℕ) × (t : Growth) × (v : Growth)
@@ -145,14 +161,18 @@ ReportTimes rules (suc n) s u =
     × ReportTimes rules n v u
 
 -- crash reports, again and again, until no live node has a crashed node in its active view
-abbrev pub ReportCrashes : TurnRules → Growth → Growth → Type 0
+abbrev pub ReportCrashes : PhaseRules → Growth → Growth → Type 0
 ReportCrashes rules s u = (n : ℕ) × ReportTimes rules n s u
+
+-- nodes are told of crashes before the overlay heals, unless they learn of them only by sending
+abbrev pub AreTold : Bool → PhaseRules → Growth → Growth → Type 0
+AreTold detect rules s u = MatchBool detect (u ≡ s) (ReportCrashes rules s u)
 
 -- the overlay heals
 abbrev pub Heal : GrowOptions → Growth → Phase → Growth → Type 0
 Heal o s phase u =
     (t : Growth) × (v : Growth) × (w : Growth)
     × Writes s (comment_line (codes "heal")) t
-    × ReportCrashes (healing o) t v
+    × AreTold o.detect (healing o) t v
     × Rounds (healing o) o.heal v w
     × EndsPhase (healing o) o.broadcasts w phase u

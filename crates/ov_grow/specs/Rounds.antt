@@ -6,7 +6,7 @@ use Rattle.ov_grow.specs.declared.recordable_event.Act.TheVariants as act
 use Rattle.ov_grow.specs.Choices.{IsRandomOrder}
 use Rattle.ov_grow.specs.Growth.{Growth, Does, AreLive}
 use Rattle.ov_grow.specs.Turns.{RunOut}
-use Rattle.ov_grow.specs.declared.packet_turn_rules.TurnRules.{TurnRules}
+use Rattle.ov_grow.specs.declared.phase_rules.PhaseRules.{PhaseRules}
 
 -- an act is done for each of these nodes, in this order
 abbrev pub DoesEach : (ℕ → Act) → List ℕ → Growth → Growth → Type 0
@@ -20,12 +20,12 @@ AreLiveInOrder s order u =
     × AreLive s live × IsRandomOrder live order s.choices after × (u ≡ record s { choices = after })
 
 -- a round: every node that lives now starts a shuffle, in a random order of them, and then packets run out
-abbrev pub Round : TurnRules → Growth → Growth → Type 0
+abbrev pub Round : PhaseRules → Growth → Growth → Type 0
 Round rules s u =
     (order : List ℕ) × (t : Growth) × (v : Growth)
     × AreLiveInOrder s order t × DoesEach act.Shuffle order t v × RunOut rules v u
 
 -- so many rounds
-abbrev pub Rounds : TurnRules → ℕ → Growth → Growth → Type 0
+abbrev pub Rounds : PhaseRules → ℕ → Growth → Growth → Type 0
 Rounds rules zero s u = u ≡ s
 Rounds rules (suc n) s u = (t : Growth) × Round rules s t × Rounds rules n t u

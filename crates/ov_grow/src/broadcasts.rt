@@ -1,50 +1,121 @@
-ghost use Rattle.std.specs.Prelude.{◌≡◌, ◌<◌, ◌↔◌, Bool, List, length, OnOk, IfErr, IfOk, IsTrue};
+ghost use Rattle.std.specs.Prelude.{◌≡◌, ◌<◌, ◌≤◌, ◌↔◌, Bool, List, None, length, OnOk, IfErr, IfOk, IsTrue};
+ghost use Rattle.ov_ids.specs.Members.{Ascends, Has};
 ghost use Rattle.ov_net.specs.Net.{LivesAs};
 ghost use Rattle.ov_peer.specs.PeerState.{PeerState};
-ghost use Rattle.ov_grow.specs.Broadcasts.{BroadcastBy, Broadcasts, BroadcastsBegin, Fire, FireAt, FireAtEach};
-ghost use Rattle.ov_grow.specs.Broadcasts.{FiresIfItRuns, TimerRuns, TimersFire};
+ghost use Rattle.ov_grow.specs.Broadcasts.{AtOnce, BroadcastBy, Broadcasts, BroadcastsBegin, Fire, FireAt};
+ghost use Rattle.ov_grow.specs.Broadcasts.{FireAtEach, FiresIfItRuns, IsSender, OneByOne, StandsInFor, TimerRuns};
+ghost use Rattle.ov_grow.specs.Broadcasts.{TimersFire};
 ghost use Rattle.ov_grow.specs.Faults.{IsFull};
 ghost use Rattle.ov_grow.specs.Growth.{IsLive, SomebodyLives};
 ghost use Rattle.ov_grow.specs.Code.Standing.{AllLive, Goes, IsNoWay, MayMake, growth_of};
 
 use crate::fault::GrowFault;
 use crate::growing::Growing;
-use crate::packet_turn_rules::TurnRules;
+use crate::phase_rules::PhaseRules;
 use crate::recordable_event::Act;
 use ov_ids::{MsgId, NodeId};
 
 impl Growing {
-    /// So many broadcasts, until no packet is on its way and no timer of their messages runs. Some node must live.
-    pub(crate) fn broadcasts(&mut self, count: u32, rules: &TurnRules) -> Result<(), GrowFault>
+    /// So many broadcasts, one by one or at once, until no packet is on its way and no timer of their messages runs. The
+    /// messages are returned in order. Some node must live.
+    pub(crate) fn broadcasts(
+        &mut self,
+        count: u32,
+        rules: &PhaseRules,
+    ) -> Result<Vec<MsgId>, GrowFault>
         requires live { SomebodyLives (growth_of self.old) }
         requires made { MayMake count (growth_of self.old) }
-        ensures goes { OnOk result (Goes (Broadcasts rules.now count) self.old self.new) }
-        ensures refused { IfErr result (IsNoWay (Broadcasts rules.now count) self.old) }
+        ensures goes { IfOk result (λ ids. Goes (λ s u. Broadcasts rules.now count s ids.items u) self.old self.new) }
+        ensures refused { IfErr result
+            (IsNoWay (λ s u. (ids : List MsgId) × Broadcasts rules.now count s ids u) self.old) }
         ensures full { IfErr result IsFull }
     {
-        let live = self.live()?;
-        let messages = self.begin_broadcasts(&live, count)?;
-        self.run_out(rules)?;
-        self.fire_timers(&messages, rules)
+        if rules.sequential {
+            return self.one_by_one(count, rules);
+        }
+        self.at_once(count, rules)
     }
 
-    /// So many times one of these nodes broadcasts. The messages are returned in order. All of the nodes must live.
-    fn begin_broadcasts(&mut self, nodes: &[NodeId], count: u32) -> Result<Vec<MsgId>, GrowFault>
-        requires some { 0 < length nodes.now }
-        requires live { AllLive nodes.now (growth_of self.old) }
+    /// So many broadcasts one by one. The messages are returned in order. Some node must live.
+    fn one_by_one(&mut self, count: u32, rules: &PhaseRules) -> Result<Vec<MsgId>, GrowFault>
+        requires live { SomebodyLives (growth_of self.old) }
         requires made { MayMake count (growth_of self.old) }
-        ensures goes { IfOk result
-            (λ ids. Goes (λ s u. BroadcastsBegin nodes.now count s ids.items u) self.old self.new) }
+        ensures goes { IfOk result (λ ids. Goes (λ s u. OneByOne rules.now count s ids.items u) self.old self.new) }
         ensures refused { IfErr result
-            (IsNoWay (λ s u. (ids : List MsgId) × BroadcastsBegin nodes.now count s ids u) self.old) }
+            (IsNoWay (λ s u. (ids : List MsgId) × OneByOne rules.now count s ids u) self.old) }
         ensures full { IfErr result IsFull }
     {
         let mut messages = Vec::with_capacity(self.alloc, count as usize)?;
         for _broadcast in 0..count {
-            let place = self.choices.one_of(nodes.len());
-            messages.push(self.broadcast(nodes[place])?)?;
+            let one = self.at_once(1, rules)?;
+            messages.extend_from_slice(&one)?;
         }
         Ok(messages)
+    }
+
+    /// So many broadcasts at once. The messages are returned in order. Some node must live.
+    fn at_once(&mut self, count: u32, rules: &PhaseRules) -> Result<Vec<MsgId>, GrowFault>
+        requires live { SomebodyLives (growth_of self.old) }
+        requires made { MayMake count (growth_of self.old) }
+        ensures goes { IfOk result (λ ids. Goes (λ s u. AtOnce rules.now count s ids.items u) self.old self.new) }
+        ensures refused { IfErr result
+            (IsNoWay (λ s u. (ids : List MsgId) × AtOnce rules.now count s ids u) self.old) }
+        ensures full { IfErr result IsFull }
+    {
+        let live = self.live()?;
+        let messages = self.begin_broadcasts(&live, count, rules.sender)?;
+        self.run_out(rules)?;
+        self.fire_timers(&messages, rules)?;
+        Ok(messages)
+    }
+
+    /// So many times one of these nodes broadcasts. The messages are returned in order. All of the nodes must live, and
+    /// their ids must ascend.
+    fn begin_broadcasts(
+        &mut self,
+        nodes: &[NodeId],
+        count: u32,
+        sender: Option<NodeId>,
+    ) -> Result<Vec<MsgId>, GrowFault>
+        requires some { 0 < length nodes.now }
+        requires ascend { Ascends nodes.now }
+        requires live { AllLive nodes.now (growth_of self.old) }
+        requires made { MayMake count (growth_of self.old) }
+        ensures goes { IfOk result
+            (λ ids. Goes (λ s u. BroadcastsBegin sender nodes.now count s ids.items u) self.old self.new) }
+        ensures refused { IfErr result
+            (IsNoWay (λ s u. (ids : List MsgId) × BroadcastsBegin sender nodes.now count s ids u) self.old) }
+        ensures full { IfErr result IsFull }
+    {
+        let mut messages = Vec::with_capacity(self.alloc, count as usize)?;
+        for _broadcast in 0..count {
+            let node = self.next_sender(nodes, sender);
+            messages.push(self.broadcast(node)?)?;
+        }
+        Ok(messages)
+    }
+
+    /// Who of these live nodes makes the next broadcast. There must be one, and their ids must ascend.
+    fn next_sender(&mut self, nodes: &[NodeId], sender: Option<NodeId>) -> NodeId
+        requires some { 0 < length nodes.now }
+        requires ascend { Ascends nodes.now }
+        ensures goes { Goes (λ s u. IsSender sender nodes.now s result u) self.old self.new }
+        ensures among { Has nodes.now result }
+    {
+        match sender {
+            Some(sender) => stand_in(nodes, sender),
+            None => self.chosen_of(nodes),
+        }
+    }
+
+    /// One of these nodes, of which there must be one.
+    fn chosen_of(&mut self, nodes: &[NodeId]) -> NodeId
+        requires { 0 < length nodes.now }
+        ensures goes { Goes (λ s u. IsSender None nodes.now s result u) self.old self.new }
+        ensures among { Has nodes.now result }
+    {
+        let place = self.choices.one_of(nodes.len());
+        nodes[place]
     }
 
     /// A node that lives broadcasts. The id of the message is returned.
@@ -71,7 +142,7 @@ impl Growing {
     }
 
     /// Timers of these messages fire, again and again, until none runs.
-    fn fire_timers(&mut self, messages: &[MsgId], rules: &TurnRules) -> Result<(), GrowFault>
+    fn fire_timers(&mut self, messages: &[MsgId], rules: &PhaseRules) -> Result<(), GrowFault>
         ensures goes { OnOk result (Goes (TimersFire rules.now messages.now) self.old self.new) }
         ensures refused { IfErr result (IsNoWay (TimersFire rules.now messages.now) self.old) }
         ensures full { IfErr result IsFull }
@@ -145,4 +216,26 @@ impl Growing {
             None => false,
         }
     }
+}
+
+/// Of these nodes, whose ids ascend, this one, or else the one with the next larger id, or, if there is none, the one
+/// with the smallest id. There must be a node.
+fn stand_in(nodes: &[NodeId], sender: NodeId) -> NodeId
+    requires some { 0 < length nodes.now }
+    requires ascend { Ascends nodes.now }
+    ensures { StandsInFor sender nodes.now result }
+{
+    for node in nodes {
+        if is_from(*node, sender) {
+            return *node;
+        }
+    }
+    nodes[0]
+}
+
+/// Whether a node's id is at least that of another.
+fn is_from(node: NodeId, other: NodeId) -> bool
+    ensures { IsTrue result ↔ (other ≤ node) }
+{
+    node.number() >= other.number()
 }

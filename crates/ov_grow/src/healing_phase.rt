@@ -5,14 +5,14 @@ ghost use Rattle.ov_net.specs.Journal.{changes_of};
 ghost use Rattle.ov_net.specs.Net.{IsGone};
 ghost use Rattle.ov_grow_options.specs.Limits.{most_rounds};
 ghost use Rattle.ov_grow.specs.Faults.{IsFull};
-ghost use Rattle.ov_grow.specs.Growth.{AreLive, SomebodyLives};
-ghost use Rattle.ov_grow.specs.Phases.{AreFirst, HasNone, Heal, IsCrashedNeighbour, ReportCrashes};
-ghost use Rattle.ov_grow.specs.Code.Standing.{Goes, HasCrashed, HaveMade, HaveNone, IsAnswered, IsFirstOf, IsNoWay};
+ghost use Rattle.ov_grow.specs.Growth.{AreLive, IsFirstOf, SomebodyLives};
+ghost use Rattle.ov_grow.specs.Phases.{AreFirst, AreTold, HasNone, Heal, IsCrashedNeighbour, ReportCrashes};
+ghost use Rattle.ov_grow.specs.Code.Standing.{Goes, HasCrashed, HaveMade, HaveNone, IsAnswered, IsNoWay};
 ghost use Rattle.ov_grow.specs.Code.Standing.{TakeNoCrashed, TakesNoCrashed, growth_of};
 
 use crate::fault::GrowFault;
 use crate::growing::Growing;
-use crate::packet_turn_rules::TurnRules;
+use crate::phase_rules::PhaseRules;
 use crate::phase_moment_and_deliveries::Phase;
 use crate::recordable_event::Act;
 use ov_grow_options::GrowOptions;
@@ -40,16 +40,28 @@ impl Growing {
         ensures refused { IfErr result (IsNoWay (λ s u. (phase : Phase) × Heal options.now s phase u) self.old) }
         ensures full { IfErr result IsFull }
     {
-        let rules = TurnRules::healing(options);
+        let rules = PhaseRules::healing(options);
         self.comment("heal")?;
-        self.report_crashes(&rules)?;
+        self.tell_crashes(options.detect, &rules)?;
         self.rounds(options.heal.count(), &rules)?;
         self.end_phase(options.broadcasts.count(), &rules)
     }
 
+    /// Nodes are told of crashes, unless they learn of them only by sending.
+    fn tell_crashes(&mut self, detect: bool, rules: &PhaseRules) -> Result<(), GrowFault>
+        ensures goes { OnOk result (Goes (AreTold detect rules.now) self.old self.new) }
+        ensures refused { IfErr result (IsNoWay (AreTold detect rules.now) self.old) }
+        ensures full { IfErr result IsFull }
+    {
+        if detect {
+            return Ok(());
+        }
+        self.report_crashes(rules)
+    }
+
     /// Crash reports, one after the other, until no live node has a crashed node in its active view. After a report and
     /// its packets the search goes on where it was, unless the journal says that a node took in a crashed one.
-    fn report_crashes(&mut self, rules: &TurnRules) -> Result<(), GrowFault>
+    fn report_crashes(&mut self, rules: &PhaseRules) -> Result<(), GrowFault>
         ensures goes { OnOk result (Goes (ReportCrashes rules.now) self.old self.new) }
         ensures refused { IfErr result (IsNoWay (ReportCrashes rules.now) self.old) }
         ensures full { IfErr result IsFull }

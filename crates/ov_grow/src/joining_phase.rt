@@ -7,7 +7,7 @@ ghost use Rattle.ov_grow.specs.Code.Standing.{AreBorn, Goes, IsNoWay, growth_of}
 
 use crate::fault::GrowFault;
 use crate::growing::Growing;
-use crate::packet_turn_rules::TurnRules;
+use crate::phase_rules::PhaseRules;
 use crate::recordable_event::Act;
 use ov_grow_options::{GrowOptions, Pace};
 use ov_ids::NodeId;
@@ -23,7 +23,7 @@ impl Growing {
         ensures refused { IfErr result (IsNoWay (Join options.now) self.old) }
         ensures full { IfErr result IsFull }
     {
-        let rules = TurnRules::joining(options);
+        let rules = PhaseRules::joining(options);
         self.comment("join")?;
         self.act(Act::Boot(NodeId::new(1), None))?;
         self.births(options.nodes.count(), turns_between(options.pace), &rules)?;
@@ -31,7 +31,7 @@ impl Growing {
     }
 
     /// The nodes from 2 on are born, and there are turns before each birth. Only node 1 may be born before.
-    fn births(&mut self, nodes: u32, pace: u32, rules: &TurnRules) -> Result<(), GrowFault>
+    fn births(&mut self, nodes: u32, pace: u32, rules: &PhaseRules) -> Result<(), GrowFault>
         requires few { MayBeGrown nodes }
         requires born { AreBorn 1 (growth_of self.old) }
         ensures goes { OnOk result (Goes (Births rules.now pace 2 (nodes - 1)) self.old self.new) }

@@ -12,7 +12,7 @@ mod line_writing;
 mod options_determine_growth;
 mod overlay_batch_growing;
 mod overlay_growing;
-mod packet_turn_rules;
+mod phase_rules;
 mod packet_turns;
 mod phase_ending;
 mod phase_measurements;

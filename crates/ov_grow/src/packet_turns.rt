@@ -6,7 +6,7 @@ ghost use Rattle.ov_grow.specs.Code.Standing.{Fails, Goes, IsNoWay, IsTold, MayB
 
 use crate::fault::GrowFault;
 use crate::growing::Growing;
-use crate::packet_turn_rules::TurnRules;
+use crate::phase_rules::PhaseRules;
 use crate::recordable_event::Act;
 use ov_grow_options::Order;
 use ov_ids::{NodeId, OutOfMemory};
@@ -16,7 +16,7 @@ use std::alloc::Global;
 impl Growing {
     /// A turn of a packet. It is refused only if the journal is full (16), too few places for packets are free (15), or
     /// memory ran out (99).
-    pub(crate) fn turn(&mut self, rules: &TurnRules) -> Result<(), GrowFault>
+    pub(crate) fn turn(&mut self, rules: &PhaseRules) -> Result<(), GrowFault>
         requires { ¬ HasNoPackets (growth_of self.old) }
         ensures goes { OnOk result (Goes (Turn rules.now) self.old self.new) }
         ensures refused { IfErr result (IsNoWay (Turn rules.now) self.old) }
@@ -45,7 +45,7 @@ impl Growing {
     }
 
     /// Delivers a packet that is not lost. It may be repeated first.
-    fn arrive(&mut self, place: u32, rules: &TurnRules) -> Result<(), GrowFault>
+    fn arrive(&mut self, place: u32, rules: &PhaseRules) -> Result<(), GrowFault>
         requires { place < length self.old.recording.core.world.net.packets }
         ensures goes { OnOk result (Goes (Arrives rules.now place) self.old self.new) }
         ensures refused { IfErr result (IsNoWay (Arrives rules.now place) self.old) }
@@ -56,7 +56,7 @@ impl Growing {
     }
 
     /// Repeats a packet with the chance of a repetition.
-    fn may_repeat(&mut self, place: u32, rules: &TurnRules) -> Result<(), GrowFault>
+    fn may_repeat(&mut self, place: u32, rules: &PhaseRules) -> Result<(), GrowFault>
         requires { place < length self.old.recording.core.world.net.packets }
         ensures goes { OnOk result (Goes (MayBeRepeated rules.now place) self.old self.new) }
         ensures refused { IfErr result (IsNoWay (MayBeRepeated rules.now place) self.old) }
@@ -69,7 +69,7 @@ impl Growing {
     }
 
     /// Delivers a packet. Its sender may be told that this failed.
-    fn deliver(&mut self, place: u32, rules: &TurnRules) -> Result<(), GrowFault>
+    fn deliver(&mut self, place: u32, rules: &PhaseRules) -> Result<(), GrowFault>
         requires { place < length self.old.recording.core.world.net.packets }
         ensures goes { OnOk result (Goes (IsDelivered rules.now place) self.old self.new) }
         ensures refused { IfErr result (IsNoWay (IsDelivered rules.now place) self.old) }
@@ -117,7 +117,7 @@ impl Growing {
     }
 
     /// Packets run out.
-    pub(crate) fn run_out(&mut self, rules: &TurnRules) -> Result<(), GrowFault>
+    pub(crate) fn run_out(&mut self, rules: &PhaseRules) -> Result<(), GrowFault>
         ensures goes { OnOk result (Goes (RunOut rules.now) self.old self.new) }
         ensures refused { IfErr result (IsNoWay (RunOut rules.now) self.old) }
         ensures full { IfErr result IsFull }
@@ -129,7 +129,7 @@ impl Growing {
     }
 
     /// So many turns, or fewer if no packet is left.
-    pub(crate) fn turns(&mut self, most: u32, rules: &TurnRules) -> Result<(), GrowFault>
+    pub(crate) fn turns(&mut self, most: u32, rules: &PhaseRules) -> Result<(), GrowFault>
         ensures goes { OnOk result (Goes (TurnsUpTo rules.now most) self.old self.new) }
         ensures refused { IfErr result (IsNoWay (TurnsUpTo rules.now most) self.old) }
         ensures full { IfErr result IsFull }

@@ -10,7 +10,7 @@ ghost use Rattle.ov_grow.specs.declared.fault.GrowFault.TheVariants.{OutOfMemory
 
 use crate::fault::GrowFault;
 use crate::growing::Growing;
-use crate::packet_turn_rules::TurnRules;
+use crate::phase_rules::PhaseRules;
 use crate::phase_moment_and_deliveries::Phase;
 use crate::recordable_event::Act;
 
@@ -19,7 +19,7 @@ impl Growing {
     pub(crate) fn end_phase(
         &mut self,
         broadcasts: u32,
-        rules: &TurnRules,
+        rules: &PhaseRules,
     ) -> Result<Phase, GrowFault>
         requires live { SomebodyLives (growth_of self.old) }
         requires made { MayMake broadcasts (growth_of self.old) }

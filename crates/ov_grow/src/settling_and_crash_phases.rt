@@ -9,7 +9,7 @@ ghost use Rattle.ov_grow.specs.Code.Standing.{Goes, HaveMade, IsAnswered, IsNoWa
 
 use crate::fault::GrowFault;
 use crate::growing::Growing;
-use crate::packet_turn_rules::TurnRules;
+use crate::phase_rules::PhaseRules;
 use crate::phase_moment_and_deliveries::Phase;
 use crate::recordable_event::Act;
 use ov_cert::Cert;
@@ -29,7 +29,7 @@ impl Growing {
         ensures refused { IfErr result (IsNoWay (λ s u. (phase : Phase) × Settle options.now s phase u) self.old) }
         ensures full { IfErr result IsFull }
     {
-        let rules = TurnRules::settling(options);
+        let rules = PhaseRules::settling(options);
         self.comment("settle")?;
         self.rounds(options.rounds.count(), &rules)?;
         self.end_phase(options.broadcasts.count(), &rules)
@@ -50,7 +50,7 @@ impl Growing {
             (IsNoWay (λ s u. (phase : Phase) × CrashNodes options.now settled s phase u) self.old) }
         ensures full { IfErr result IsFull }
     {
-        let rules = TurnRules::settling(options);
+        let rules = PhaseRules::crashing(options);
         self.comment("crash")?;
         let nodes = self.to_crash(options.crash, settled)?;
         self.crash_each(&nodes)?;

@@ -6,13 +6,13 @@ ghost use Rattle.ov_grow.specs.Code.Standing.{AllLive, Goes, IsNoWay, growth_of}
 
 use crate::fault::GrowFault;
 use crate::growing::Growing;
-use crate::packet_turn_rules::TurnRules;
+use crate::phase_rules::PhaseRules;
 use crate::recordable_event::Act;
 use ov_ids::{NodeId, OutOfMemory};
 
 impl Growing {
     /// So many rounds of shuffles.
-    pub(crate) fn rounds(&mut self, count: u32, rules: &TurnRules) -> Result<(), GrowFault>
+    pub(crate) fn rounds(&mut self, count: u32, rules: &PhaseRules) -> Result<(), GrowFault>
         ensures goes { OnOk result (Goes (Rounds rules.now count) self.old self.new) }
         ensures refused { IfErr result (IsNoWay (Rounds rules.now count) self.old) }
         ensures full { IfErr result IsFull }
@@ -24,7 +24,7 @@ impl Growing {
     }
 
     /// A round of shuffles.
-    fn round(&mut self, rules: &TurnRules) -> Result<(), GrowFault>
+    fn round(&mut self, rules: &PhaseRules) -> Result<(), GrowFault>
         ensures goes { OnOk result (Goes (Round rules.now) self.old self.new) }
         ensures refused { IfErr result (IsNoWay (Round rules.now) self.old) }
         ensures full { IfErr result IsFull }

@@ -31,8 +31,17 @@ pub(crate) fn options_of_row(rt: &HostRuntime, row: &str) -> Result<GrowOptions,
     files.push(String::from_str(rt.alloc(), file)?)?;
     let rows = rows_of_files(rt, &files)?;
     match rows.get(number.wrapping_sub(1)) {
-        Some(row) => Ok(row.options),
+        Some(found) if has_its_sender(&found.options) => Ok(found.options),
+        Some(_) => Err(no_row(rt, row, "its sender is none of its nodes")),
         None => Err(no_row(rt, row, "the file has no such row; they are counted from 1")),
+    }
+}
+
+/// Whether the sender, if there is one, is one of the nodes. Rows are read without asking for that.
+fn has_its_sender(options: &GrowOptions) -> bool {
+    match options.sender {
+        Some(node) => node.number() <= options.nodes.count(),
+        None => true,
     }
 }
 

@@ -7,7 +7,7 @@ use crate::sweep_progress::RunProgress;
 use ov_arguments::{Printed, SweepRequest};
 use ov_grow::{RowTaker, SweepFault};
 use ov_io::Sink;
-use ov_sweep_rows::{Row, header_text, row_text};
+use ov_sweep_rows::{Row, RowForm, header_text, row_text};
 
 /// Prints the rows of a sweep as they come, unless a summary or an answer is asked for, and keeps those that are needed
 /// at the end.
@@ -18,6 +18,15 @@ pub(crate) struct RowPrinter<'a> {
     kept: Vec<Row>,
     progress: RunProgress<'a>,
     done: u64,
+}
+
+/// Which columns the rows of what is grown have.
+fn form_asked(request: &SweepRequest) -> RowForm {
+    if request.asks_further() {
+        RowForm::Further
+    } else {
+        RowForm::Plain
+    }
 }
 
 /// Whether the rows are needed at the end, for a summary, an answer or a picture.
@@ -49,7 +58,7 @@ impl<'a> RowPrinter<'a> {
         if self.request.printed != Printed::Rows {
             return Ok(());
         }
-        let text = header_text(self.rt.alloc())?;
+        let text = header_text(self.rt.alloc(), form_asked(self.request))?;
         Ok(Sink::new(self.rt.stdout()).write_all(&text)?)
     }
 
@@ -60,7 +69,7 @@ impl<'a> RowPrinter<'a> {
         if self.request.printed != Printed::Rows {
             return Ok(());
         }
-        write_rows(self.rt, rows)
+        write_rows(self.rt, form_asked(self.request), rows)
     }
 
     /// Keeps rows, if a summary, an answer or a picture needs them.
@@ -115,12 +124,12 @@ impl<'a> RowTaker for RowPrinter<'a> {
     }
 }
 
-/// Writes rows to standard output, one after the other.
-pub(crate) fn write_rows(rt: &HostRuntime, rows: &[Row]) -> Result<(), SweepFault>
+/// Writes rows of this form to standard output, one after the other.
+pub(crate) fn write_rows(rt: &HostRuntime, form: RowForm, rows: &[Row]) -> Result<(), SweepFault>
     ensures { IfErr result IsOfNoRun }
 {
     for row in rows {
-        let text = row_text(rt.alloc(), row)?;
+        let text = row_text(rt.alloc(), form, row)?;
         Sink::new(rt.stdout()).write_all(&text)?;
     }
     Ok(())

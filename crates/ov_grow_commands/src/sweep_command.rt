@@ -10,7 +10,7 @@ use crate::sweep_report::{print_report, tell_repeated, tell_too_few};
 use ov_arguments::{Printed, SweepRequest};
 use ov_grow::{RefusedRun, SweepFault, sweep};
 use ov_io::Sink;
-use ov_sweep_rows::{Row, header_text};
+use ov_sweep_rows::{Row, RowForm, header_text};
 use std::fs::File;
 use std::thread::Threads;
 
@@ -75,11 +75,12 @@ fn read_and_print(
     Ok(rows)
 }
 
-/// Prints the header, and these rows.
+/// Prints the header, and these rows, with the columns that all of them have.
 fn print_rows(rt: &HostRuntime, rows: &[Row]) -> Result<(), GrowthFault> {
-    let header = header_text(rt.alloc())?;
+    let form = RowForm::of_rows(rows);
+    let header = header_text(rt.alloc(), form)?;
     Sink::new(rt.stdout()).write_all(&header)?;
-    match write_rows(rt, rows) {
+    match write_rows(rt, form, rows) {
         Ok(()) => Ok(()),
         Err(SweepFault::OutOfMemory) => Err(GrowthFault::OutOfMemory),
         Err(_) => Err(GrowthFault::Write),

@@ -1,5 +1,5 @@
 -- The command that grows an overlay with given options.
-use Rattle.std.specs.Prelude.{ℕ, List, [], ◌++◌, Option, Some, None, codes, decimal, ◌==◌, if◌then◌else◌}
+use Rattle.std.specs.Prelude.{ℕ, Bool, List, [], ◌++◌, Option, Some, None, codes, decimal, ◌==◌, if◌then◌else◌}
 use Rattle.ov_ids.specs.ParamsState.{ParamsState}
 use Rattle.ov_ids.specs.RefillNames.{refill_name}
 use Rattle.ov_ids.specs.declared.refill_rule.Refill.{Refill}
@@ -77,6 +77,23 @@ phases_text o =
     number_text (codes "heal") 2 o.heal ++
     number_text (codes "broadcasts") 0 o.broadcasts))
 
+-- an option that takes nothing: it is said if it is asked for
+abbrev pub flag_text : List ℕ → Bool → List ℕ
+flag_text name asked = if asked then codes " --" ++ name else []
+
+-- the option that gives the node that makes each broadcast
+abbrev pub sender_text : Option ℕ → List ℕ
+sender_text None = []
+sender_text (Some node) = codes " --sender " ++ decimal node
+
+-- the further options: how broadcasts are made, and how nodes learn of crashes
+abbrev pub further_text : GrowOptions → List ℕ
+further_text o =
+    flag_text (codes "sequential") o.sequential ++ (
+    sender_text o.sender ++
+    flag_text (codes "detect") o.detect)
+
 -- the command: each option that is not at its default, in the order of their table
 abbrev pub command_line : GrowOptions → List ℕ
-command_line o = codes "overlay grow" ++ (beginning_text o ++ (packets_text o ++ phases_text o))
+command_line o =
+    codes "overlay grow" ++ (beginning_text o ++ (packets_text o ++ (phases_text o ++ further_text o)))

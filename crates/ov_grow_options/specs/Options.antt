@@ -1,5 +1,5 @@
 -- The options of growing at their defaults.
-use Rattle.std.specs.Prelude.{None}
+use Rattle.std.specs.Prelude.{None, false}
 use Rattle.ov_ids.specs.ParamsState.{params_of}
 use Rattle.ov_grow_options.specs.declared.options.GrowOptions.{GrowOptions}
 use Rattle.ov_grow_options.specs.declared.options.Order.TheVariants.{Random}
@@ -20,4 +20,7 @@ default_options = record {
   crash = ShareOfNodes 0;
   heal = 2;
   broadcasts = 0;
+  sequential = false;
+  sender = None;
+  detect = false;
 }

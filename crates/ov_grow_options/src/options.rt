@@ -2,7 +2,7 @@ ghost use Rattle.std.specs.Prelude.{◌≡◌};
 ghost use Rattle.ov_grow_options.specs.Options.{default_options};
 
 use crate::{Chance, Count, NodeCount, Pace, Share};
-use ov_ids::Params;
+use ov_ids::{NodeId, Params};
 
 /// Whose turn is next.
 #[derive(Clone, Copy, Debug, PartialEq, Eq)]
@@ -49,6 +49,12 @@ pub struct GrowOptions {
     pub heal: Count,
     /// Broadcasts after each of the three snapshots.
     pub broadcasts: Count,
+    /// Whether broadcasts are made one by one.
+    pub sequential: bool,
+    /// The node that makes each broadcast; without it one of the live nodes is chosen for each.
+    pub sender: Option<NodeId>,
+    /// Whether nodes learn of crashes only by sending.
+    pub detect: bool,
 }
 
 impl Default for GrowOptions {
@@ -69,6 +75,9 @@ impl Default for GrowOptions {
             crash: Crash::Share(Share::ZERO),
             heal: Count::HEAL,
             broadcasts: Count::ZERO,
+            sequential: false,
+            sender: None,
+            detect: false,
         }
     }
 }

@@ -1,7 +1,7 @@
 ghost use Rattle.std.specs.Prelude.{◌≡◌};
 
 use crate::{Crash, GrowOptions, Order, Pace};
-use ov_ids::{Params, Refill};
+use ov_ids::{NodeId, Params, Refill};
 use std::fmt::{Display, Formatter, Result, Write};
 
 /// An option that takes a number, or nothing if it has its default.
@@ -218,6 +218,67 @@ impl Display for PhasesText {
     }
 }
 
+/// An option that takes nothing, or no text if it is not asked for.
+#[derive(Drop)]
+struct FlagText {
+    name: &'static str,
+    asked: bool,
+}
+
+impl Display for FlagText {
+    ghost use Rattle.std.specs.Prelude.{Some};
+    ghost use Rattle.ov_grow_options.specs.CommandLine.{flag_text};
+
+    ghost output = { λ t. Some (flag_text t.name.now t.asked) };
+
+    fn fmt<W: Write>(&self, f: &mut Formatter<W>) -> Result {
+        if !self.asked {
+            return Ok(());
+        }
+        let name = self.name;
+        write!(f, " --{name}")
+    }
+}
+
+/// The option that gives the node that makes each broadcast.
+#[derive(Drop)]
+struct SenderText(Option<NodeId>);
+
+impl Display for SenderText {
+    ghost use Rattle.std.specs.Prelude.{Some};
+    ghost use Rattle.ov_grow_options.specs.CommandLine.{sender_text};
+
+    ghost output = { λ t. Some (sender_text t.0) };
+
+    fn fmt<W: Write>(&self, f: &mut Formatter<W>) -> Result {
+        match self.0 {
+            None => Ok(()),
+            Some(node) => {
+                let number = node.number();
+                write!(f, " --sender {number}")
+            }
+        }
+    }
+}
+
+/// The further options: how broadcasts are made, and how nodes learn of crashes.
+#[derive(Drop)]
+struct FurtherText(GrowOptions);
+
+impl Display for FurtherText {
+    ghost use Rattle.std.specs.Prelude.{Some};
+    ghost use Rattle.ov_grow_options.specs.CommandLine.{further_text};
+
+    ghost output = { λ t. Some (further_text t.0) };
+
+    fn fmt<W: Write>(&self, f: &mut Formatter<W>) -> Result {
+        let sequential = flag_text("sequential", self.0.sequential);
+        let sender = SenderText(self.0.sender);
+        let detect = flag_text("detect", self.0.detect);
+        write!(f, "{sequential}{sender}{detect}")
+    }
+}
+
 /// The command that grows an overlay with these options: `overlay grow`, and each option that is not at its default.
 impl Display for GrowOptions {
     ghost use Rattle.std.specs.Prelude.{Some};
@@ -229,7 +290,8 @@ impl Display for GrowOptions {
         let beginning = BeginningText(*self);
         let packets = PacketsText(*self);
         let phases = PhasesText(*self);
-        write!(f, "overlay grow{beginning}{packets}{phases}")
+        let further = FurtherText(*self);
+        write!(f, "overlay grow{beginning}{packets}{phases}{further}")
     }
 }
 
@@ -244,4 +306,12 @@ fn number_text(name: &'static str, usual: u64, number: u64) -> NumberText
         usual,
         number,
     }
+}
+
+/// The option of this name that takes nothing, if it is asked for.
+fn flag_text(name: &'static str, asked: bool) -> FlagText
+    ensures name { result.name.now ≡ name.now }
+    ensures asked { result.asked ≡ asked }
+{
+    FlagText { name, asked }
 }

@@ -1,5 +1,5 @@
 -- Why a text of rows is refused.
-use Rattle.std.proofs.Common.{Bor, ◌≡◌, ℕ, List, [], ◌∷◌, ◌++◌, Option, Some, None, Ok}
+use Rattle.std.proofs.Common.{Bor, ◌≡◌, ℕ, List, [], ◌∷◌, ◌++◌, length, Option, Some, None, Ok}
 use Rattle.std.proofs.Common.{true, false, refl, sym, ap, ◌∙◌}
 use Rattle.std.specs.Prelude.{Err, IfErr, Result, unwrap_or}
 use Rattle.std.specs.Result.{IsErrAnd}
@@ -14,6 +14,7 @@ use Rattle.csv.specs.declared.parser.State.TheVariants as st
 use Rattle.csv.specs.declared.reader.Reader.{Reader}
 use Rattle.csv.proofs.ReadFacts.{reached-more}
 use Rattle.ov_sweep_rows.specs.declared.row.Row.{Row}
+use Rattle.ov_sweep_rows.specs.declared.row_form.RowForm.{RowForm}
 use Rattle.ov_sweep_rows.specs.declared.row_fault.RowFault.{RowFault}
 use Rattle.ov_sweep_rows.specs.declared.row_fault.RowFault.TheVariants.{Header, FieldCount, Field, OutOfMemory}
 use Rattle.ov_sweep_rows.specs.Columns.{columns}
@@ -43,11 +44,11 @@ took_next cfg s0 a b xs y records fields (Some z) reads reached =
     (z, took_some cfg s0 a b xs y z records fields (next_record cfg a [] [] y) refl reads reached)
 
 -- a record comes after rows
-comes_next : (text : List ℕ) (a b : Reader (Bor (List ℕ))) (left : ℕ) (rows : List Row) (fields : List (List ℕ))
-    → Reads text a left rows → TookRecord text_left a b fields → ComesAfterRows text fields
-comes_next text a b left rows fields reads took =
+comes_next : (form : RowForm) (text : List ℕ) (a b : Reader (Bor (List ℕ))) (left : ℕ) (rows : List Row) (fields : List (List ℕ))
+    → Reads form text a left rows → TookRecord text_left a b fields → ComesAfterRows text form fields
+comes_next form text a b left rows fields reads took =
     let next = took_next default_config st.StartRecord a.state b.state (strip_bom text) reads.stands.rest
-    (columns ∷ reads.records) fields _ (rw (reads.stands.set, reads.stands.source) at took) reads.stands.reached in
+    (columns form ∷ reads.records) fields _ (rw (reads.stands.set, reads.stands.source) at took) reads.stands.reached in
     record {
       records = reads.records;
       rows = rows;
@@ -58,30 +59,33 @@ comes_next text a b left rows fields reads took =
     }
 
 -- it can't be read
-pub next_unread : (text : List ℕ) (a b : Reader (Bor (List ℕ))) (left : ℕ) (rows : List Row) (why : ErrorKind)
-    (fault : RowFault) → Reads text a left rows → ExplainsRead text_left a b false why → IsFaultOf why fault
+pub next_unread : (form : RowForm) (text : List ℕ) (a b : Reader (Bor (List ℕ))) (left : ℕ) (rows : List Row) (why : ErrorKind)
+    (fault : RowFault) → Reads form text a left rows → ExplainsRead text_left a b false why → IsFaultOf why fault
     → IsRowRefusal text fault
-next_unread text a b left rows (kind.UnequalLengths pos expected len) fault reads explains is =
+next_unread form text a b left rows (kind.UnequalLengths pos expected len) fault reads explains is =
     let (flexible, expects, other, fields, took, long) = explains in
-    let same : 37 ≡ expected = ap (λ (o : Option ℕ). unwrap_or o 37) (sym reads.lengths ∙ expects) in
+    let n = length (columns form) in
+    let same : n ≡ expected = ap (λ (o : Option ℕ). unwrap_or o n) (sym reads.lengths ∙ expects) in
     rw is.1 (
+      form,
       fields,
-      comes_next text a b left rows fields reads took,
+      comes_next form text a b left rows fields reads took,
       long,
-      λ all. other (sym same ∙ sym all),
+      sym same,
+      λ all. other (sym all),
     )
-next_unread text a b left rows (kind.Io e) fault reads explains is = rw is tt
-next_unread text a b left rows (kind.Utf8 pos err) fault reads explains is = rw is tt
-next_unread text a b left rows kind.OutOfMemory fault reads explains is = rw is tt
-next_unread text a b left rows (kind.Serialize told) fault reads explains is = rw is tt
-next_unread text a b left rows (kind.Deserialize pos err) fault reads explains is = rw is tt
+next_unread form text a b left rows (kind.Io e) fault reads explains is = rw is tt
+next_unread form text a b left rows (kind.Utf8 pos err) fault reads explains is = rw is tt
+next_unread form text a b left rows kind.OutOfMemory fault reads explains is = rw is tt
+next_unread form text a b left rows (kind.Serialize told) fault reads explains is = rw is tt
+next_unread form text a b left rows (kind.Deserialize pos err) fault reads explains is = rw is tt
 
 -- it says no row
-pub next_untaken : (text : List ℕ) (a b : Reader (Bor (List ℕ))) (left next : ℕ) (rows : List Row) (row : Fields)
-    (fault : RowFault) → Reads text a left rows → RowStep text_left a b next (Some (Ok row))
-    → IsTakeFault (fields_of row) fault → IsRowRefusal text fault
-next_untaken text a b left next rows row Header reads step untaken = absurd untaken
-next_untaken text a b left next rows row (FieldCount line number) reads step untaken = absurd untaken
-next_untaken text a b left next rows row (Field line field) reads step untaken =
-    (fields_of row, comes_next text a b left rows (fields_of row) reads step.0.0, untaken.0, untaken.1)
-next_untaken text a b left next rows row OutOfMemory reads step untaken = tt
+pub next_untaken : (form : RowForm) (text : List ℕ) (a b : Reader (Bor (List ℕ))) (left next : ℕ) (rows : List Row) (row : Fields)
+    (fault : RowFault) → Reads form text a left rows → RowStep text_left a b next (Some (Ok row))
+    → IsTakeFault form (fields_of row) fault → IsRowRefusal text fault
+next_untaken form text a b left next rows row Header reads step untaken = absurd untaken
+next_untaken form text a b left next rows row (FieldCount line number needed) reads step untaken = absurd untaken
+next_untaken form text a b left next rows row (Field line field) reads step untaken =
+    (form, fields_of row, comes_next form text a b left rows (fields_of row) reads step.0.0, untaken.0, untaken.1)
+next_untaken form text a b left next rows row OutOfMemory reads step untaken = tt

@@ -1,5 +1,5 @@
 -- What the fields of a row say: which value stands in which column.
-use Rattle.std.specs.Prelude.{◌≡◌, ℕ, ◌+◌, List, [], codes, Option, Some, None, IfSome}
+use Rattle.std.specs.Prelude.{◌≡◌, ℕ, ◌+◌, Bool, true, false, List, [], codes, Option, Some, None, IfSome}
 use Rattle.std.specs.Prelude.{slice_get}
 use Rattle.ov_ids.specs.ParamsState.{ParamsState}
 use Rattle.ov_ids.specs.RefillNames.{refill_name}
@@ -13,6 +13,8 @@ use Rattle.ov_grow_options.specs.declared.options.Order.TheVariants.{Random, Old
 use Rattle.ov_sweep_rows.specs.declared.delivered_share.DeliveredShare.{DeliveredShare}
 use Rattle.ov_sweep_rows.specs.declared.row.PhaseRow.{PhaseRow}
 use Rattle.ov_sweep_rows.specs.declared.row.Row.{Row}
+use Rattle.ov_sweep_rows.specs.declared.row_form.RowForm.{RowForm}
+use Rattle.ov_sweep_rows.specs.declared.row_form.RowForm.TheVariants.{Plain, Further}
 use Rattle.ov_sweep_rows.specs.RowTexts.{Spells, SpellsParts}
 
 -- the text, or none
@@ -42,6 +44,16 @@ SpellsPace text (Some turns) = Spells text turns
 abbrev pub SpellsCrash : List ℕ → Crash → Type 0
 SpellsCrash text (Share share) = Spells text share
 SpellsCrash text Cut = text ≡ codes "cut"
+
+-- whether an option that takes nothing is asked for
+abbrev pub SpellsFlag : List ℕ → Bool → Type 0
+SpellsFlag text false = text ≡ codes "0"
+SpellsFlag text true = text ≡ codes "1"
+
+-- the node that makes each broadcast; nothing if it was not given
+abbrev pub SpellsSender : List ℕ → Option ℕ → Type 0
+SpellsSender text None = text ≡ []
+SpellsSender text (Some node) = Spells text node
 
 -- the delivered share; nothing without broadcasts
 abbrev pub SpellsDelivered : List ℕ → Option DeliveredShare → Type 0
@@ -78,6 +90,17 @@ pub record SayOptions (fields : List (List ℕ)) (options : GrowOptions) : Type 
   pub told : Spells (text_at fields 17) options.broadcasts
   pub seeded : Spells (text_at fields 18) options.seed
 
+-- the three fields behind those of a plain row say these further options
+pub record SayFurther (fields : List (List ℕ)) (sequential : Bool) (sender : Option ℕ) (detect : Bool) : Type 0 where
+  pub alone : SpellsFlag (text_at fields 37) sequential
+  pub maker : SpellsSender (text_at fields 38) sender
+  pub learns : SpellsFlag (text_at fields 39) detect
+
+-- what rows of a form say of the further options: a plain row has no columns for them, as none is asked for
+abbrev pub SayFurtherBy : RowForm → List (List ℕ) → Bool → Option ℕ → Bool → Type 0
+SayFurtherBy Plain fields sequential sender detect = (sequential ≡ false) × (sender ≡ None) × (detect ≡ false)
+SayFurtherBy form fields sequential sender detect = SayFurther fields sequential sender detect
+
 -- the six fields from a place on say what a run came to after a phase
 pub record SayPhase (fields : List (List ℕ)) (first : ℕ) (phase : PhaseRow) : Type 0 where
   pub living : Spells (text_at fields first) phase.nodes
@@ -87,9 +110,10 @@ pub record SayPhase (fields : List (List ℕ)) (first : ℕ) (phase : PhaseRow) 
   pub moment : Spells (text_at fields (first + 4)) phase.entries
   pub share : SpellsDelivered (text_at fields (first + 5)) phase.delivered
 
--- the fields say this row: its options, and what it came to after each of its phases
-pub record SayRow (fields : List (List ℕ)) (row : Row) : Type 0 where
+-- the fields of a row of this form say this row: its options, and what it came to after each of its phases
+pub record SayRow (form : RowForm) (fields : List (List ℕ)) (row : Row) : Type 0 where
   pub setting : SayOptions fields row.options
+  pub other_options : SayFurtherBy form fields row.options.sequential row.options.sender row.options.detect
   pub settled : IfSome (slice_get row.phases 0) (SayPhase fields 19)
   pub crashed : IfSome (slice_get row.phases 1) (SayPhase fields 25)
   pub healed : IfSome (slice_get row.phases 2) (SayPhase fields 31)

@@ -11,6 +11,7 @@ use Rattle.ov_ids.specs.RefillNames.{refill_name}
 use Rattle.ov_ids.specs.declared.refill_rule.Refill.{Refill}
 use Rattle.ov_grow_options.specs.Limits.{MayBeGrown, most_of_hundred, most_rounds, most_share, most_turns}
 use Rattle.ov_sweep_rows.specs.declared.row.Row.{Row}
+use Rattle.ov_sweep_rows.specs.declared.row_form.RowForm.{RowForm}
 use Rattle.ov_sweep_rows.specs.declared.row_fault.FieldForm.{FieldForm}
 use Rattle.ov_sweep_rows.specs.declared.row_fault.FieldForm.TheVariants as form
 use Rattle.ov_sweep_rows.specs.declared.row_fault.RowFault.{RowFault}
@@ -46,34 +47,39 @@ LacksForm fields place form.Crash =
 LacksForm fields place form.Seed = SpellsNone (text_at fields place) (λ n. ⊤)
 LacksForm fields place form.Number = SpellsNone (text_at fields place) (λ n. n < 2 ^ 32)
 LacksForm fields place form.Delivered = text_at fields place ≢ []
+LacksForm fields place form.Flag = (text_at fields place ≢ codes "0") × (text_at fields place ≢ codes "1")
+LacksForm fields place form.Sender =
+    (text_at fields place ≢ []) × SpellsNone (text_at fields place) MayBeGrown
 
 -- the fault is that of a record of these fields: what stands in the column that it names is not of the form that it
 -- names
 abbrev pub IsFieldFault : List (List ℕ) → RowFault → Type 0
 IsFieldFault fields (Field line field) = LacksForm fields field.place field.takes
 IsFieldFault fields Header = ⊥
-IsFieldFault fields (FieldCount line number) = ⊥
+IsFieldFault fields (FieldCount line number needed) = ⊥
 IsFieldFault fields OutOfMemory = ⊥
 
--- a text begins with the header and records that say rows, or are the header once more; a record of these fields comes
--- next
-pub record ComesAfterRows (text : List ℕ) (fields : List (List ℕ)) : Type 0 where
+-- a text begins with the header of this form and records that say rows, or are the header once more; a record of these
+-- fields comes next
+pub record ComesAfterRows (text : List ℕ) (rows_have : RowForm) (fields : List (List ℕ)) : Type 0 where
   pub records : List (List (List ℕ))
   pub rows : List Row
   pub state : State
   pub rest : List ℕ
   pub are_first :
-      Reached default_config st.StartRecord (strip_bom text) (columns ∷ (records ++ (fields ∷ []))) state rest
-  pub are_said : SayRows (filter is_no_header records) rows
+      Reached default_config st.StartRecord (strip_bom text) (columns rows_have ∷ (records ++ (fields ∷ []))) state
+      rest
+  pub are_said : SayRows rows_have (filter (is_no_header rows_have) records) rows
 
--- why a text is refused: its first record is not the header; or the first record behind it that is neither a row nor
--- the header once more has this number of fields, and there are not so many columns; or what stands in its column that
+-- why a text is refused: its first record is the header of no form; or the first record behind it that is neither a row nor
+-- the header once more has this number of fields, and so many are needed, one for each column; or what stands in its column that
 -- the fault names is not of the form that the fault names; or an allocation was refused
 abbrev pub IsRowRefusal : List ℕ → RowFault → Type 0
-IsRowRefusal text Header = first_record text ≢ Some columns
-IsRowRefusal text (FieldCount line number) =
-    (fields : List (List ℕ)) × ComesAfterRows text fields × (length fields ≡ number) × (number ≢ length columns)
+IsRowRefusal text Header = (rows_have : RowForm) → first_record text ≢ Some (columns rows_have)
+IsRowRefusal text (FieldCount line number needed) =
+    (rows_have : RowForm) × (fields : List (List ℕ)) × ComesAfterRows text rows_have fields
+    × (length fields ≡ number) × (needed ≡ length (columns rows_have)) × (number ≢ needed)
 IsRowRefusal text (Field line field) =
-    (fields : List (List ℕ)) × ComesAfterRows text fields × (fields ≢ columns)
-    × LacksForm fields field.place field.takes
+    (rows_have : RowForm) × (fields : List (List ℕ)) × ComesAfterRows text rows_have fields
+    × (fields ≢ columns rows_have) × LacksForm fields field.place field.takes
 IsRowRefusal text OutOfMemory = ⊤

@@ -14,6 +14,6 @@ place_of Heal = 2
 -- the fault's number: that of a line that can't be read, or that of a refused allocation
 abbrev pub number_of : RowFault → ℕ
 number_of Header = 70
-number_of (FieldCount line fields) = 70
+number_of (FieldCount line fields needed) = 70
 number_of (Field line field) = 70
 number_of OutOfMemory = 99

@@ -1,11 +1,11 @@
 use crate::{DeliveredShare, PhaseRow};
 use ov_grow_options::{Crash, GrowOptions, Order, Pace};
-use ov_ids::Refill;
+use ov_ids::{NodeId, Refill};
 use std::fmt::{Display, Formatter, Result, Write};
 
-/// The columns of a row: 18 for the setting, which is all options but the seed, in the order of their table; the seed;
-/// and six for each phase.
-pub(crate) const COLUMNS: [&str; 37] = [
+/// The columns of a row, as far as it has them: 18 for the setting, which is all options but the seed and the further
+/// ones, in the order of their table; the seed; six for each phase; and three for the further options.
+pub(crate) const ALL_COLUMNS: [&str; 40] = [
     "nodes",
     "active",
     "passive",
@@ -43,6 +43,9 @@ pub(crate) const COLUMNS: [&str; 37] = [
     "heal_links",
     "heal_entries",
     "heal_delivered",
+    "sequential",
+    "sender",
+    "detect",
 ];
 
 /// What stands in one column of a row.
@@ -94,6 +97,15 @@ pub(crate) fn setting_cells(options: &GrowOptions) -> [Cell; 18] {
     ]
 }
 
+/// The cells of the further options, in the order of their columns.
+pub(crate) fn further_cells(options: &GrowOptions) -> [Cell; 3] {
+    [
+        flag_cell(options.sequential),
+        sender_cell(options.sender),
+        flag_cell(options.detect),
+    ]
+}
+
 /// The cells of a phase, in the order of their columns.
 pub(crate) fn phase_cells(phase: &PhaseRow) -> [Cell; 6] {
     [
@@ -136,6 +148,17 @@ fn crash_cell(crash: Crash) -> Cell {
     match crash {
         Crash::Share(share) => number(share.of_hundred()),
         Crash::Cut => Cell::Word("cut"),
+    }
+}
+
+fn flag_cell(asked: bool) -> Cell {
+    number(u32::from(asked))
+}
+
+fn sender_cell(sender: Option<NodeId>) -> Cell {
+    match sender {
+        None => Cell::Empty,
+        Some(node) => number(node.number()),
     }
 }
 

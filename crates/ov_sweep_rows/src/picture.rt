@@ -120,7 +120,7 @@ fn push_columns_name(
 
 /// Appends the name of an option, with its unit if it has one.
 fn push_unit(text: &mut String, option: &SettingName) -> Result<(), AllocError> {
-    let SettingName { name, unit } = *option;
+    let SettingName { name, unit, .. } = *option;
     if unit.is_empty() {
         write!(text, "{name}")
     } else {

@@ -31,6 +31,12 @@ pub struct Row {
 impl Row {
     ghost use Rattle.ov_sweep_rows.specs.Rows.{place_of};
 
+    /// Whether a further option was asked for.
+    pub(crate) fn asks_further(&self) -> bool {
+        let options = self.options;
+        options.sequential || options.sender.is_some() || options.detect
+    }
+
     /// What the run came to after a phase.
     pub fn after(&self, phase: Phase) -> &PhaseRow
         ensures { slice_get self.now.phases (place_of phase) ≡ Some result.now }

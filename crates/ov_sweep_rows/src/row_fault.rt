@@ -1,7 +1,7 @@
 ghost use Rattle.std.specs.Prelude.{◌≡◌};
 ghost use Rattle.ov_sweep_rows.specs.Rows.{number_of};
 
-use crate::columns::COLUMNS;
+use crate::columns::ALL_COLUMNS;
 use csv::{Error as CsvError, ErrorKind};
 use std::alloc::{AllocError, AllocFailed};
 use std::fmt::{Display, Formatter, Result, Write};
@@ -14,11 +14,18 @@ pub enum RowFault {
     #[error("line 1 must be the header of the rows, nodes,active,passive and so on, with refill behind ttl")]
     Header,
     /// The row at this line has so many fields, and not one for each column (70).
-    #[error("line {line}: the row has {fields} fields and must have 37")]
-    FieldCount { line: u64, fields: u64 },
+    #[error("line {line}: the row has {fields} fields and must have {columns}")]
+    FieldCount {
+        line: u64,
+        fields: u64,
+        columns: u64,
+    },
     /// A field of the row at this line is not what its column takes (70).
     #[error("line {line}: {field}")]
-    Field { line: u64, field: FieldFault },
+    Field {
+        line: u64,
+        field: FieldFault,
+    },
     /// An allocation was refused (99).
     #[error("out of memory")]
     OutOfMemory,
@@ -72,6 +79,10 @@ pub enum FieldForm {
     Number,
     /// A delivered share, or nothing.
     Delivered,
+    /// Whether an option is asked for.
+    Flag,
+    /// A node that makes broadcasts, or nothing.
+    Sender,
 }
 
 impl Display for FieldForm {
@@ -89,13 +100,15 @@ impl Display for FieldForm {
             FieldForm::Seed => "a number below 2 to the power of 64",
             FieldForm::Number => "a number below 2 to the power of 32",
             FieldForm::Delivered => "a number with four decimal digits, or empty",
+            FieldForm::Flag => "0 or 1",
+            FieldForm::Sender => "a number from 1 to 256, or empty",
         })
     }
 }
 
 impl Display for FieldFault {
     fn fmt<W: Write>(&self, f: &mut Formatter<W>) -> Result {
-        let name = COLUMNS.get(self.place).copied().unwrap_or("a column");
+        let name = ALL_COLUMNS.get(self.place).copied().unwrap_or("a column");
         let takes = self.takes;
         write!(f, "{name} must be {takes}")
     }
@@ -128,9 +141,14 @@ impl From<CsvError> for RowFault {
 
     fn from(error: CsvError) -> RowFault {
         match error.kind() {
-            ErrorKind::UnequalLengths { pos, len, .. } => RowFault::FieldCount {
+            ErrorKind::UnequalLengths {
+                pos,
+                expected_len,
+                len,
+            } => RowFault::FieldCount {
                 line: pos.map_or(0, |at| at.line),
                 fields: *len,
+                columns: *expected_len,
             },
             _ => RowFault::OutOfMemory,
         }

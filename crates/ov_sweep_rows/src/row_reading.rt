@@ -1,4 +1,5 @@
-ghost use Rattle.std.specs.Prelude.{◌≡◌, ◌<◌, ◌↔◌, ◌++◌, ◌∷◌, [], IfErr, IfOk, IsTrue, OnOk, Some, map};
+ghost use Rattle.std.specs.Prelude.{◌≡◌, ◌≢◌, ◌<◌, ◌↔◌, ◌++◌, ◌∷◌, [], IfErr, IfNone, IfOk, IfSome, IsTrue, OnOk};
+ghost use Rattle.std.specs.Prelude.{Some, map};
 ghost use Rattle.csv.specs.Records.{field_at, fields_of};
 ghost use Rattle.ov_sweep_rows.specs.Columns.{columns};
 ghost use Rattle.ov_sweep_rows.specs.Reading.{AreRowsOf};
@@ -6,15 +7,17 @@ ghost use Rattle.ov_sweep_rows.specs.Refusals.{IsFieldFault, IsRowRefusal};
 ghost use Rattle.ov_sweep_rows.specs.Code.Taking.{IsTakeFault, WasTaken};
 ghost use Rattle.ov_sweep_rows.specs.declared.row_fault.RowFault.TheVariants.{OutOfMemory};
 ghost use Rattle.ov_sweep_rows.specs.RowTexts.{Spells};
-ghost use Rattle.ov_sweep_rows.specs.Fields.{text_at, SayNumbers, SayOptions, SayParams, SayPhase, SayRow};
-ghost use Rattle.ov_sweep_rows.specs.Fields.{SpellsCrash, SpellsDelivered, SpellsOrder, SpellsPace, SpellsRefill};
+ghost use Rattle.ov_sweep_rows.specs.Fields.{text_at, SayFurtherBy, SayNumbers, SayOptions};
+ghost use Rattle.ov_sweep_rows.specs.Fields.{SayParams, SayPhase, SayRow, SpellsCrash, SpellsDelivered, SpellsFlag};
+ghost use Rattle.ov_sweep_rows.specs.Fields.{SpellsOrder, SpellsPace, SpellsRefill, SpellsSender};
+ghost use Rattle.ov_sweep_rows.specs.declared.row_form.RowForm.{RowForm};
 
-use crate::columns::COLUMNS;
+use crate::columns::ALL_COLUMNS;
 use crate::csv_field_reading::{RowFields, short_number};
-use crate::{DeliveredShare, FieldForm, PhaseRow, Row, RowFault};
+use crate::{DeliveredShare, FieldForm, PhaseRow, Row, RowFault, RowForm};
 use csv::{ByteRecord, ReaderBuilder};
 use ov_grow_options::{Chance, Count, Crash, GrowOptions, NodeCount, Order, Pace, Share};
-use ov_ids::{Params, Refill};
+use ov_ids::{NodeId, Params, Refill};
 use ov_lines::read_number;
 use std::alloc::Global;
 
@@ -25,11 +28,11 @@ const CRASH: usize = 25;
 
 const HEAL: usize = 31;
 
-/// Reads the rows of a text: the header, and one row a line, as `header_text` and `row_text` write them. A header that
-/// stands between rows is skipped, so that files of rows may be put together. A row that is not of this form is refused
-/// with its line, counted from 1.
+/// Reads the rows of a text: a header, and one row of its form a line, as `header_text` and `row_text` write them. The
+/// same header between rows is skipped, so that files of rows may be put together. A row that is not of this form is
+/// refused with its line, counted from 1.
 ///
-/// `Header` (70): the text does not begin with the header. `FieldCount`, `Field` (70): the first row that is not of the
+/// `Header` (70): the text does not begin with a header. `FieldCount`, `Field` (70): the first row that is not of the
 /// form.
 /// `OutOfMemory` (99): an allocation was refused.
 ///
@@ -46,25 +49,39 @@ pub fn read_rows(alloc: Global, text: &[u8]) -> Result<Vec<Row>, RowFault>
     let Some(first) = records.next() else {
         return Err(RowFault::Header);
     };
-    if !is_header(&first?) {
+    let Some(form) = form_of(&first?) else {
         return Err(RowFault::Header);
-    }
+    };
     let mut rows = Vec::new(alloc);
     for record in records {
-        take_record(&mut rows, &record?)?;
+        take_record(&mut rows, form, &record?)?;
     }
     Ok(rows)
 }
 
-/// Adds the row that a record says. The header says none.
-fn take_record(rows: &mut Vec<Row>, fields: &ByteRecord) -> Result<(), RowFault>
-    ensures taken { OnOk result (WasTaken (fields_of fields.now) rows.old.items rows.new.items) }
-    ensures fault { IfErr result (IsTakeFault (fields_of fields.now)) }
+/// The form of which a record is the header.
+fn form_of(fields: &ByteRecord) -> Option<RowForm>
+    ensures some { IfSome result (λ form. fields_of fields.now ≡ columns form) }
+    ensures none { IfNone result ((form : RowForm) → fields_of fields.now ≢ columns form) }
 {
-    if is_header(fields) {
+    if is_header(fields, RowForm::Plain) {
+        return Some(RowForm::Plain);
+    }
+    if is_header(fields, RowForm::Further) {
+        return Some(RowForm::Further);
+    }
+    None
+}
+
+/// Adds the row of this form that a record says. The header says none.
+fn take_record(rows: &mut Vec<Row>, form: RowForm, fields: &ByteRecord) -> Result<(), RowFault>
+    ensures taken { OnOk result (WasTaken form (fields_of fields.now) rows.old.items rows.new.items) }
+    ensures fault { IfErr result (IsTakeFault form (fields_of fields.now)) }
+{
+    if is_header(fields, form) {
         return Ok(());
     }
-    match row_of(fields) {
+    match row_of(fields, form) {
         Ok(row) => push_row(rows, row),
         Err(fault) => Err(fault),
     }
@@ -79,11 +96,14 @@ fn push_row(rows: &mut Vec<Row>, row: Row) -> Result<(), RowFault>
     Ok(())
 }
 
-/// Whether a record is the header.
-fn is_header(fields: &ByteRecord) -> bool
-    ensures { IsTrue result ↔ (fields_of fields.now ≡ columns) }
+/// Whether a record is the header of rows of this form.
+fn is_header(fields: &ByteRecord, form: RowForm) -> bool
+    ensures { IsTrue result ↔ (fields_of fields.now ≡ columns form) }
 {
-    are_named(fields, &COLUMNS)
+    match form {
+        RowForm::Plain => are_named(fields, &ALL_COLUMNS[..37]),
+        RowForm::Further => are_named(fields, &ALL_COLUMNS),
+    }
 }
 
 /// Whether the fields of a record are these names.
@@ -111,14 +131,14 @@ fn is_named(fields: &ByteRecord, place: usize, name: &str) -> bool
     }
 }
 
-/// The row that a record says.
-fn row_of(record: &ByteRecord) -> Result<Row, RowFault>
+/// The row of this form that a record says.
+fn row_of(record: &ByteRecord, form: RowForm) -> Result<Row, RowFault>
     ensures fault { IfErr result (IsFieldFault (fields_of «record».now)) }
-    ensures row { IfOk result (SayRow (fields_of «record».now)) }
+    ensures row { IfOk result (SayRow form (fields_of «record».now)) }
 {
     let line = record.position().map_or(0, |at| at.line);
     let fields = RowFields { record, line };
-    let options = read_options(&fields)?;
+    let options = read_options(&fields, form)?;
     let settle = read_phase(&fields, SETTLE)?;
     let crash = read_phase(&fields, CRASH)?;
     let heal = read_phase(&fields, HEAL)?;
@@ -128,10 +148,13 @@ fn row_of(record: &ByteRecord) -> Result<Row, RowFault>
     })
 }
 
-fn read_options(fields: &RowFields<'_>) -> Result<GrowOptions, RowFault>
+fn read_options(fields: &RowFields<'_>, form: RowForm) -> Result<GrowOptions, RowFault>
     ensures fault { IfErr result (IsFieldFault (fields_of fields.now.record.now)) }
     ensures value { IfOk result (SayOptions (fields_of fields.now.record.now)) }
+    ensures further { IfOk result
+        (λ o. SayFurtherBy form (fields_of fields.now.record.now) o.sequential o.sender o.detect) }
 {
+    let further = read_further(fields, form)?;
     let nodes = nodes_at(fields, 0)?;
     let params = read_params(fields)?;
     let loss_join = chance_at(fields, 9)?;
@@ -157,7 +180,72 @@ fn read_options(fields: &RowFields<'_>) -> Result<GrowOptions, RowFault>
         crash,
         heal,
         broadcasts,
+        sequential: further.sequential,
+        sender: further.sender,
+        detect: further.detect,
     })
+}
+
+/// The further options of a row.
+#[derive(Clone, Copy)]
+struct FurtherOptions {
+    sequential: bool,
+    sender: Option<NodeId>,
+    detect: bool,
+}
+
+/// The further options that a row of this form says; a plain row asks for none of them.
+fn read_further(fields: &RowFields<'_>, form: RowForm) -> Result<FurtherOptions, RowFault>
+    ensures fault { IfErr result (IsFieldFault (fields_of fields.now.record.now)) }
+    ensures value { IfOk result
+        (λ o. SayFurtherBy form (fields_of fields.now.record.now) o.sequential o.sender o.detect) }
+{
+    if form == RowForm::Plain {
+        return Ok(FurtherOptions {
+            sequential: false,
+            sender: None,
+            detect: false,
+        });
+    }
+    let sequential = flag_at(fields, 37)?;
+    let sender = sender_at(fields, 38)?;
+    let detect = flag_at(fields, 39)?;
+    Ok(FurtherOptions {
+        sequential,
+        sender,
+        detect,
+    })
+}
+
+fn flag_at(fields: &RowFields<'_>, place: usize) -> Result<bool, RowFault>
+    ensures fault { IfErr result (IsFieldFault (fields_of fields.now.record.now)) }
+    ensures value { IfOk result (SpellsFlag (text_at (fields_of fields.now.record.now) place)) }
+{
+    let text = fields.text(place);
+    if text == b"0".as_slice() {
+        return Ok(false);
+    }
+    if text == b"1".as_slice() {
+        return Ok(true);
+    }
+    Err(fields.fault(place, FieldForm::Flag))
+}
+
+fn sender_at(fields: &RowFields<'_>, place: usize) -> Result<Option<NodeId>, RowFault>
+    ensures fault { IfErr result (IsFieldFault (fields_of fields.now.record.now)) }
+    ensures value { IfOk result (SpellsSender (text_at (fields_of fields.now.record.now) place)) }
+{
+    let text = fields.text(place);
+    if text.is_empty() {
+        return Ok(None);
+    }
+    match short_number(text) {
+        None => Err(fields.fault(place, FieldForm::Sender)),
+        Some(number) => match NodeCount::new(number) {
+            Some(node) => Ok(Some(NodeId::new(node.count()))),
+            None => Err(fields.fault(place, FieldForm::Sender)),
+        },
+    }
 }
 
 fn nodes_at(fields: &RowFields<'_>, place: usize) -> Result<NodeCount, RowFault>

@@ -1,27 +1,30 @@
-use crate::Row;
-use crate::columns::{COLUMNS, Cell, phase_cells, setting_cells};
+use crate::columns::{ALL_COLUMNS, Cell, further_cells, phase_cells, setting_cells};
+use crate::{Row, RowForm};
 use csv::{Error as CsvError, Writer, WriterBuilder};
 use ov_ids::OutOfMemory;
 use std::alloc::Global;
 
-/// The header of the rows: the names of their columns, with one comma between two, and a line feed. OutOfMemory (99) if
-/// an allocation is refused.
-pub fn header_text(alloc: Global) -> Result<Vec<u8>, OutOfMemory> {
+/// The header of rows of this form: the names of their columns, with one comma between two, and a line feed. OutOfMemory
+/// (99) if an allocation is refused.
+pub fn header_text(alloc: Global, form: RowForm) -> Result<Vec<u8>, OutOfMemory> {
     let mut writer = WriterBuilder::new().from_writer(Vec::new(alloc));
-    for name in &COLUMNS {
+    for name in ALL_COLUMNS.iter().take(form.column_count()) {
         write_text(&mut writer, name)?;
     }
     text_of(writer)
 }
 
-/// A row: its cells in the order of the columns, with one comma between two, and a line feed. OutOfMemory (99) if an
-/// allocation is refused.
-pub fn row_text(alloc: Global, row: &Row) -> Result<Vec<u8>, OutOfMemory> {
+/// A row of this form: its cells in the order of the columns, with one comma between two, and a line feed. OutOfMemory
+/// (99) if an allocation is refused.
+pub fn row_text(alloc: Global, form: RowForm, row: &Row) -> Result<Vec<u8>, OutOfMemory> {
     let mut writer = WriterBuilder::new().from_writer(Vec::new(alloc));
     write_cells(alloc, &mut writer, &setting_cells(&row.options))?;
     write_cells(alloc, &mut writer, &[Cell::Number(row.options.seed)])?;
     for phase in &row.phases {
         write_cells(alloc, &mut writer, &phase_cells(phase))?;
+    }
+    if form == RowForm::Further {
+        write_cells(alloc, &mut writer, &further_cells(&row.options))?;
     }
     text_of(writer)
 }

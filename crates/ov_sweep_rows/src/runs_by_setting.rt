@@ -1,5 +1,5 @@
 use crate::Row;
-use crate::columns::{Cell, setting_cells};
+use crate::columns::{Cell, further_cells, setting_cells};
 use crate::setting_names::{SETTING_NAMES, SettingName};
 use indexmap::IndexSet;
 use ov_grow_options::GrowOptions;
@@ -14,7 +14,7 @@ const LINE: usize = 160;
 #[derive(Drop)]
 pub struct Setting<'a> {
     /// What each column of a setting says.
-    pub(crate) cells: [Cell; 18],
+    pub(crate) cells: [Cell; 21],
     /// The runs.
     pub(crate) runs: Vec<&'a Row>,
 }
@@ -25,7 +25,7 @@ pub fn settings_of(alloc: Global, rows: &[Row]) -> Result<Vec<Setting<'_>>, OutO
     let mut keys = IndexSet::new(alloc);
     let mut settings: Vec<Setting<'_>> = Vec::new(alloc);
     for row in rows {
-        let cells = setting_cells(&row.options);
+        let cells = all_cells(&row.options);
         let (place, is_new) = keys.insert_full(key_of(alloc, &cells)?)?;
         if is_new {
             settings.push(Setting {
@@ -38,6 +38,21 @@ pub fn settings_of(alloc: Global, rows: &[Row]) -> Result<Vec<Setting<'_>>, OutO
         }
     }
     Ok(settings)
+}
+
+/// The cells of all options of a setting: those of its columns, and then those of the further options.
+fn all_cells(options: &GrowOptions) -> [Cell; 21] {
+    let mut cells = [Cell::Empty; 21];
+    for (place, cell) in setting_cells(options)
+        .iter()
+        .chain(&further_cells(options))
+        .enumerate()
+    {
+        if let Some(free) = cells.get_mut(place) {
+            *free = *cell;
+        }
+    }
+    cells
 }
 
 /// A text that says a setting.
@@ -94,18 +109,23 @@ pub(crate) fn common_command(
     let Some(first) = settings.first() else {
         return Ok(text);
     };
-    let usual = setting_cells(&GrowOptions::default());
-    for (place, SettingName { name, .. }) in SETTING_NAMES.iter().enumerate() {
+    let usual = all_cells(&GrowOptions::default());
+    for (place, SettingName { name, takes, .. }) in SETTING_NAMES.iter().enumerate() {
         let cell = cell_at(&first.cells, place);
-        if !differing.contains(&place) && cell != cell_at(&usual, place) {
-            write!(text, " --{name} {cell}")?;
+        if differing.contains(&place) || cell == cell_at(&usual, place) {
+            continue;
+        }
+        write!(text, " --{name}")?;
+        if *takes {
+            write!(text, " {cell}")?;
         }
     }
     Ok(text)
 }
 
 /// The command of the sweep with the values of the options in which settings differ too, in the order in which they
-/// come. The text is that of `common_command` if it would not fit a line.
+/// come. The text is that of `common_command` if it would not fit a line, or if one of these options takes no value: then
+/// no sweep has all settings.
 pub(crate) fn swept_command(
     alloc: Global,
     settings: &[Setting<'_>],
@@ -114,7 +134,16 @@ pub(crate) fn swept_command(
     let common = common_command(alloc, settings, differing)?;
     let mut text = common.clone()?;
     for place in differing {
-        let name = SETTING_NAMES.get(*place).map_or("", |option| option.name);
+        let Some(
+            SettingName {
+                name,
+                takes: true,
+                ..
+            },
+        ) = SETTING_NAMES.get(*place)
+        else {
+            return Ok(common);
+        };
         let values = values_at(alloc, settings, *place)?;
         write!(text, " --{name} {values}")?;
     }

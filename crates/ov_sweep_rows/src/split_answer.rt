@@ -220,11 +220,11 @@ fn runs_in_order(
 }
 
 /// The cells of the setting at a place in this order.
-fn cells_of(settings: &[Setting<'_>], order: &[usize], place: usize) -> [Cell; 18] {
+fn cells_of(settings: &[Setting<'_>], order: &[usize], place: usize) -> [Cell; 21] {
     let at = order.get(place).copied().unwrap_or(0);
     match settings.get(at) {
         Some(setting) => setting.cells,
-        None => [Cell::Empty; 18],
+        None => [Cell::Empty; 21],
     }
 }
 

@@ -124,12 +124,6 @@ TakesNoCrashed w other = ⊤
 abbrev pub TakeNoCrashed : Net → List Change → Type 0
 TakeNoCrashed w changes = (c : Change) → Has changes c → TakesNoCrashed w c
 
--- of these ids, which ascend, this is the first that has a property
-pub record IsFirstOf (P : ℕ → Type 0) (ids : List ℕ) (first : ℕ) : Type 0 where
-  pub has : Has ids first
-  pub holds : P first
-  pub least : (a : ℕ) → Has ids a → P a → first ≤ a
-
 -- none of these ids has a property
 abbrev pub HaveNone : (ℕ → Type 0) → List ℕ → Type 0
 HaveNone P ids = (a : ℕ) → Has ids a → ¬ P a

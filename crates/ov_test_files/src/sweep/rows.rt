@@ -1,6 +1,6 @@
 //! Rows of a sweep, written out by hand.
 use ov_grow_options::{Chance, Count, Crash, GrowOptions, NodeCount, Order, Pace, Share};
-use ov_ids::{Params, Refill};
+use ov_ids::{NodeId, Params, Refill};
 use ov_sweep_rows::{DeliveredShare, PhaseRow, Row, RowFault, read_rows};
 use std::alloc::{AllocError, Global};
 use std::test::Fail;
@@ -56,6 +56,9 @@ fn first_options() -> Option<GrowOptions> {
         crash: Crash::Cut,
         heal: Count::new(13)?,
         broadcasts: Count::new(10)?,
+        sequential: false,
+        sender: None,
+        detect: false,
     })
 }
 
@@ -104,6 +107,57 @@ fn rows_are_read(rt: HostRuntime) -> Result<(), Fail> {
     let expected = [first_row(options), second_row()];
     let text = text(rt.alloc())?;
     assert!(rt; has_rows(rt.alloc(), text.as_str(), &expected));
+    Ok(())
+}
+
+/// What stands behind the header and behind each row, if a further option is asked for.
+const FURTHER: [&str; 3] = [",sequential,sender,detect\n", ",1,17,0\n", ",0,,1\n"];
+
+/// The header and both rows, with the columns of the further options.
+fn wider_text(alloc: Global) -> Result<String, AllocError> {
+    let mut text = String::new(alloc);
+    let [first, second] = ROWS;
+    for (line, more) in [HEADER, first, second].iter().zip(&FURTHER) {
+        text.push_str(line.strip_suffix("\n").unwrap_or(line))?;
+        text.push_str(more)?;
+    }
+    Ok(text)
+}
+
+#[test]
+fn further_options_are_read(rt: HostRuntime) -> Result<(), Fail> {
+    let mut options = first_options().ok_or("options out of their limits")?;
+    options.sequential = true;
+    options.sender = Some(NodeId::new(17));
+    let mut second = second_row();
+    second.options.detect = true;
+    let expected = [first_row(options), second];
+    let text = wider_text(rt.alloc())?;
+    assert!(rt; has_rows(rt.alloc(), text.as_str(), &expected));
+    Ok(())
+}
+
+/// What stands in place of a part of these rows, and why they are refused then.
+static FURTHER_CHANGED: [(&str, &str, &str); 4] = [
+    (",1,17,0", ",2,17,0", "line 2: sequential must be 0 or 1"),
+    (
+        ",1,17,0",
+        ",1,257,0",
+        "line 2: sender must be a number from 1 to 256, or empty",
+    ),
+    (",0,,1", ",0,,", "line 3: detect must be 0 or 1"),
+    (",0,,1", "", "line 3: the row has 37 fields and must have 40"),
+];
+
+#[test]
+fn other_further_options_are_refused(rt: HostRuntime) -> Result<(), Fail> {
+    let text = wider_text(rt.alloc())?;
+    for (from, to, reason) in &FURTHER_CHANGED {
+        assert!(rt;
+            is_refused_with(rt.alloc(), text.as_str(), from, to, reason),
+            "{reason}"
+        );
+    }
     Ok(())
 }
 

@@ -10,8 +10,8 @@ use Rattle.ov_grow.proofs.growing.Growing.begin_broadcasts.Given as goal
 abbrev pub invariant-loop-broadcast : goal.invariant-loop-broadcast
 invariant-loop-broadcast l =
     ((rest : List MsgId) (u : Growing)
-    → Goes (λ s v. BroadcastsBegin l.nodes (l.count - l._broadcast) s rest v) l.self u
-    → Goes (λ s v. BroadcastsBegin l.nodes l.count s (l.messages.items ++ rest) v) l.initial.self u)
-    × AreLeft l.nodes l.count (l.count - l._broadcast) l.initial.self l.self
+    → Goes (λ s v. BroadcastsBegin l.sender l.nodes (l.count - l._broadcast) s rest v) l.self u
+    → Goes (λ s v. BroadcastsBegin l.sender l.nodes l.count s (l.messages.items ++ rest) v) l.initial.self u)
+    × AreLeft (BroadcastsBegin l.sender l.nodes) l.count (l.count - l._broadcast) l.initial.self l.self
     × AllLive l.nodes (growth_of l.self)
     × HasRoom l.count l._broadcast (growth_of l.self)

@@ -45,19 +45,19 @@ returns-in_err-crash_each-clause-refused c =
 
 pub returns-clause-goes : goal.returns-clause-goes
 returns-clause-goes c = IfOk-weaker c.end_phase.result
-    (λ phase. Goes (λ s u. EndsPhase c.settling-rules.result c.count.result s phase u) c.crash_each.new.self
+    (λ phase. Goes (λ s u. EndsPhase c.crashing-rules.result c.count.result s phase u) c.crash_each.new.self
     c.end_phase.new.self)
     (λ phase. Goes (λ s u. CrashNodes c.args.options.now c.args.settled s phase u) c.args.self.now c.end_phase.new.self)
-    (λ phase ends. crash_goes c.args.options.now c.args.settled c.settling-rules.result c.count.result
+    (λ phase ends. crash_goes c.args.options.now c.args.settled c.crashing-rules.result c.count.result
     c.in_ok-nodes.nodes.items c.deref.result.now phase c.args.self.now c.comment.new.self c.to_crash.new.self
-    c.crash_each.new.self c.end_phase.new.self c.settling-rules.ensures c.count.ensures.value c.deref.ensures.value
+    c.crash_each.new.self c.end_phase.new.self c.crashing-rules.ensures c.count.ensures.value c.deref.ensures.value
     c.in_ok-comment.ensures.goes c.in_ok-nodes.ensures.goes c.in_ok-crash_each.ensures.goes ends)
     c.end_phase.ensures.ends
 
 pub returns-clause-refused : goal.returns-clause-refused
 returns-clause-refused c = IfErr-weaker _ _ _ (λ fault none. no_way_crashed c.args.options.now c.args.settled
-    c.settling-rules.result c.count.result c.in_ok-nodes.nodes.items c.deref.result.now c.args.self.now
-    c.comment.new.self c.to_crash.new.self c.crash_each.new.self fault c.settling-rules.ensures c.count.ensures.value
+    c.crashing-rules.result c.count.result c.in_ok-nodes.nodes.items c.deref.result.now c.args.self.now
+    c.comment.new.self c.to_crash.new.self c.crash_each.new.self fault c.crashing-rules.ensures c.count.ensures.value
     c.deref.ensures.value c.in_ok-comment.ensures.goes c.in_ok-nodes.ensures.goes c.in_ok-crash_each.ensures.goes none)
     c.end_phase.ensures.refused
 
@@ -110,10 +110,10 @@ returns-in_err-nodes-clause-full c =
 
 pub returns-clause-live : goal.returns-clause-live
 returns-clause-live c = IfOk-weaker c.end_phase.result
-    (λ phase. Goes (λ s u. EndsPhase c.settling-rules.result c.count.result s phase u) c.crash_each.new.self
+    (λ phase. Goes (λ s u. EndsPhase c.crashing-rules.result c.count.result s phase u) c.crash_each.new.self
     c.end_phase.new.self)
     (λ phase. SomebodyLives (growth_of c.end_phase.new.self))
-    (λ phase ends. ending_live c.settling-rules.result c.count.result (growth_of c.crash_each.new.self)
+    (λ phase ends. ending_live c.crashing-rules.result c.count.result (growth_of c.crash_each.new.self)
     (growth_of c.end_phase.new.self) phase ends.way)
     c.end_phase.ensures.ends
 
@@ -133,9 +133,9 @@ returns-clause-made c =
     let u = growth_of c.end_phase.new.self in
     let few : most_rounds + c.count.result ≤ most_rounds + most_rounds = omega (arith, c.count.ensures.limit) in
     IfOk-weaker c.end_phase.result
-    (λ phase. Goes (λ s u. EndsPhase c.settling-rules.result c.count.result s phase u) c.crash_each.new.self
+    (λ phase. Goes (λ s u. EndsPhase c.crashing-rules.result c.count.result s phase u) c.crash_each.new.self
     c.end_phase.new.self)
     (λ phase. HaveMade (most_rounds + most_rounds) u)
     (λ phase ends. have_more (most_rounds + c.count.result) (most_rounds + most_rounds) u few
-    ((ending_made c.settling-rules.result c.count.result w u phase ends.way).made most_rounds after))
+    ((ending_made c.crashing-rules.result c.count.result w u phase ends.way).made most_rounds after))
     c.end_phase.ensures.ends

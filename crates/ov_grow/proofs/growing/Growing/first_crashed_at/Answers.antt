@@ -2,7 +2,8 @@ use Rattle.std.proofs.Common.{subst}
 use Rattle.ov_ids.specs.Members.{Has}
 use Rattle.ov_net.specs.Net.{IsGone, LivesAs}
 use Rattle.ov_grow.specs.Phases.{IsCrashedNeighbour}
-use Rattle.ov_grow.specs.Code.Standing.{IsFirstOf, growth_of}
+use Rattle.ov_grow.specs.Growth.{IsFirstOf}
+use Rattle.ov_grow.specs.Code.Standing.{growth_of}
 use Rattle.ov_grow.proofs.Living.{some_weaker}
 use Rattle.ov_grow.proofs.growing.Growing.first_crashed_at.Goals as goal
 
