@@ -144,14 +144,14 @@ analysed_keeps m s u (t, did, lives, is, writes) =
 -- the end of a phase
 pub ending_made : (rules : PhaseRules) (n : ℕ) (s u : Growth) (phase : Phase) → EndsPhase rules n s phase u
     → MakesMost n s u
-ending_made rules n s u phase (t, ids, analysed, broadcasts, count) =
+ending_made rules n s u phase (t, analysed, (ids, broadcasts), count) =
     makes_then 0 n n s t u (omega arith) (makes_none s t (analysed_keeps phase.moment s t analysed))
     (broadcasts_made rules n t u ids broadcasts)
 
 -- some node lives at the end of a phase
 pub ending_live : (rules : PhaseRules) (n : ℕ) (s u : Growth) (phase : Phase) → EndsPhase rules n s phase u
     → SomebodyLives u
-ending_live rules n s u phase (t, ids, (v, did, (a, lives), is, writes), broadcasts, count) =
+ending_live rules n s u phase (t, (v, did, (a, lives), is, writes), (ids, broadcasts), count) =
     let same : t.world ≡ v.world = ap (λ g. g.world) writes in (
       a,
       (broadcasts_made rules n t u ids broadcasts).live a

@@ -5,8 +5,9 @@ use Rattle.ov_ids.specs.declared.id.MsgId.{MsgId}
 use Rattle.ov_grow.specs.declared.recordable_event.Act.TheVariants as act
 use Rattle.ov_grow.specs.Growth.{Growth, AreLive, Does}
 use Rattle.ov_grow.specs.Turns.{RunOut}
-use Rattle.ov_grow.specs.Broadcasts.{AtOnce, BroadcastBy, BroadcastsBegin, Fire, FireAt, FireAtEach, FiresIfItRuns}
-use Rattle.ov_grow.specs.Broadcasts.{IsSender, OneByOne, TimerRuns, TimersFire}
+use Rattle.std.specs.Prelude.{MatchBool}
+use Rattle.ov_grow.specs.Broadcasts.{AtOnce, BroadcastBy, Broadcasts, BroadcastsBegin, Fire, FireAt, FireAtEach}
+use Rattle.ov_grow.specs.Broadcasts.{FiresIfItRuns, IsSender, OneByOne, TimerRuns, TimersFire}
 use Rattle.ov_grow.specs.Code.Standing.{Goes, IsNoWay, growth_of}
 use Rattle.ov_grow.specs.declared.fault.GrowFault.{GrowFault}
 use Rattle.ov_grow.specs.declared.growing.Growing.{Growing}
@@ -242,3 +243,35 @@ left_one rules count n m first b t v so one head ids u made =
     let (later, is, rest) = one_by_one_rest rules m first others (growth_of t) (growth_of v) u head.way
     (first_of_them rules n m others (growth_of t) u one more) in
     (later, rest)
+
+-- broadcasts can't be made one by one, as the rules say
+pub no_way_by_turns : (rules : PhaseRules) (n : ℕ) (b : Growing) (fault : GrowFault) → rules.sequential ≡ true
+    → IsNoWay (λ s u. (ids : List MsgId) × OneByOne rules n s ids u) b fault
+    → IsNoWay (λ s u. (ids : List MsgId) × Broadcasts rules n s ids u) b fault
+no_way_by_turns rules n b fault holds none =
+    no_way_by (λ s u. (ids : List MsgId) × OneByOne rules n s ids u)
+    (λ s u. (ids : List MsgId) × Broadcasts rules n s ids u) b b fault
+    (λ u (ids, made). (
+      u,
+      (
+        ids,
+        subst (λ q. MatchBool q (OneByOne rules n (growth_of b) ids u)
+            (AtOnce rules n (growth_of b) ids u)) holds made,
+      ),
+    )) none
+
+-- broadcasts can't be made at once, as the rules say
+pub no_way_together : (rules : PhaseRules) (n : ℕ) (b : Growing) (fault : GrowFault) → rules.sequential ≡ false
+    → IsNoWay (λ s u. (ids : List MsgId) × AtOnce rules n s ids u) b fault
+    → IsNoWay (λ s u. (ids : List MsgId) × Broadcasts rules n s ids u) b fault
+no_way_together rules n b fault fails none =
+    no_way_by (λ s u. (ids : List MsgId) × AtOnce rules n s ids u)
+    (λ s u. (ids : List MsgId) × Broadcasts rules n s ids u) b b fault
+    (λ u (ids, made). (
+      u,
+      (
+        ids,
+        subst (λ q. MatchBool q (OneByOne rules n (growth_of b) ids u)
+            (AtOnce rules n (growth_of b) ids u)) fails made,
+      ),
+    )) none

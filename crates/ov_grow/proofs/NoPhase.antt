@@ -104,7 +104,7 @@ pub no_way_ending : (rules : PhaseRules) (n : ℕ) (b : Growing) (fault : GrowFa
     → IsNoWay (λ s u. (phase : Phase) × EndsPhase rules n s phase u) b fault
 no_way_ending rules n b fault none =
     no_way_by (λ s u. (m : ℕ) × IsAnalysedAt m s u) (λ s u. (phase : Phase) × EndsPhase rules n s phase u) b b fault
-    (λ u (phase, (t, ids, analysed, broadcasts, count)). (t, (phase.moment, analysed))) none
+    (λ u (phase, (t, analysed, broadcasts, count)). (t, (phase.moment, analysed))) none
 
 -- a phase can't end, as there are no broadcasts
 pub no_way_analysed : (rules : PhaseRules) (n m : ℕ) (b t : Growing) (fault : GrowFault)

@@ -321,14 +321,14 @@ same_phase p q moment deliveries = ap₂ (λ m d. record { moment = m; deliverie
 -- after the analysis there are broadcasts
 pub ending_rest : (rules : PhaseRules) (n m : ℕ) (s t u : Growth) (q : Phase) → IsAnalysedAt m s t
     → EndsPhase rules n s q u → (m ≡ q.moment) × ((ids : List MsgId) × Broadcasts rules n t ids u)
-ending_rest rules n m s t u q analysed (x, ids, also, others, counts) =
+ending_rest rules n m s t u q analysed (x, also, (ids, others), counts) =
     let first = one_analysis m q.moment s t x analysed also in
     (first.0, (ids, subst (λ g. Broadcasts rules n g ids u) (sym first.1) others))
 
 one_ending : (rules : PhaseRules) (n : ℕ) (s u v : Growth) (p q : Phase) → EndsPhase rules n s p u
     → EndsPhase rules n s q v
     → (p ≡ q) × (u ≡ v)
-one_ending rules n s u v p q (t, ids, analysed, broadcasts, count) (x, others, also, made, counts) =
+one_ending rules n s u v p q (t, analysed, (ids, broadcasts), count) (x, also, (others, made), counts) =
     let first = one_analysis p.moment q.moment s t x analysed also in
     let last = one_broadcasts rules n t u v ids others broadcasts
     (subst (λ g. Broadcasts rules n g others v) (sym first.1) made) in (

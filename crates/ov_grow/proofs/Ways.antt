@@ -147,6 +147,24 @@ one_goes rules n m first later b t u one head more = record {
   kept = kept_trans b.recording.core t.recording.core u.recording.core head.kept more.kept;
 }
 
+-- broadcasts are made one by one, as the rules say
+pub by_turns_goes : (rules : PhaseRules) (n : ℕ) (ids : List MsgId) (b u : Growing) → rules.sequential ≡ true
+    → Goes (λ s w. OneByOne rules n s ids w) b u → Goes (λ s w. Broadcasts rules n s ids w) b u
+by_turns_goes rules n ids b u holds made = record {
+  way = subst (λ q. MatchBool q (OneByOne rules n (growth_of b) ids (growth_of u))
+      (AtOnce rules n (growth_of b) ids (growth_of u))) (sym holds) made.way;
+  kept = made.kept;
+}
+
+-- broadcasts are made at once, as the rules say
+pub together_goes : (rules : PhaseRules) (n : ℕ) (ids : List MsgId) (b u : Growing) → rules.sequential ≡ false
+    → Goes (λ s w. AtOnce rules n s ids w) b u → Goes (λ s w. Broadcasts rules n s ids w) b u
+together_goes rules n ids b u fails made = record {
+  way = subst (λ q. MatchBool q (OneByOne rules n (growth_of b) ids (growth_of u))
+      (AtOnce rules n (growth_of b) ids (growth_of u))) (sym fails) made.way;
+  kept = made.kept;
+}
+
 begin_as_long : (sender : Option ℕ) (nodes : List ℕ) (n : ℕ) (s u : Growth) (ids : List MsgId)
     → BroadcastsBegin sender nodes n s ids u → AsLong s u
 begin_as_long sender nodes zero s u ids (none, same) = inl same
@@ -195,7 +213,7 @@ pub ends_goes : (rules : PhaseRules) (n m d : ℕ) (ids : List MsgId) (b t u : G
     → d ≡ deliveries_in (drop m u.recording.core.world.journal)
     → Goes (λ s w. EndsPhase rules n s (record { moment = m; deliveries = d }) w) b u
 ends_goes rules n m d ids b t u analysed broadcasts count = record {
-  way = (growth_of t, ids, analysed.way, broadcasts.way, count);
+  way = (growth_of t, analysed.way, (ids, broadcasts.way), count);
   kept = kept_trans b.recording.core t.recording.core u.recording.core analysed.kept broadcasts.kept;
 }
 

@@ -12,8 +12,8 @@ ghost use Rattle.ov_grow.specs.Code.Standing.{TakeNoCrashed, TakesNoCrashed, gro
 
 use crate::fault::GrowFault;
 use crate::growing::Growing;
-use crate::phase_rules::PhaseRules;
 use crate::phase_moment_and_deliveries::Phase;
+use crate::phase_rules::PhaseRules;
 use crate::recordable_event::Act;
 use ov_grow_options::GrowOptions;
 use ov_ids::NodeId;

@@ -10,8 +10,8 @@ ghost use Rattle.ov_grow.specs.declared.fault.GrowFault.TheVariants.{OutOfMemory
 
 use crate::fault::GrowFault;
 use crate::growing::Growing;
-use crate::phase_rules::PhaseRules;
 use crate::phase_moment_and_deliveries::Phase;
+use crate::phase_rules::PhaseRules;
 use crate::recordable_event::Act;
 
 impl Growing {

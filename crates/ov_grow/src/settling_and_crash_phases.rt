@@ -9,8 +9,8 @@ ghost use Rattle.ov_grow.specs.Code.Standing.{Goes, HaveMade, IsAnswered, IsNoWa
 
 use crate::fault::GrowFault;
 use crate::growing::Growing;
-use crate::phase_rules::PhaseRules;
 use crate::phase_moment_and_deliveries::Phase;
+use crate::phase_rules::PhaseRules;
 use crate::recordable_event::Act;
 use ov_cert::Cert;
 use ov_grow_options::{Crash, GrowOptions, Share};

@@ -146,7 +146,11 @@ static FURTHER_CHANGED: [(&str, &str, &str); 4] = [
         "line 2: sender must be a number from 1 to 256, or empty",
     ),
     (",0,,1", ",0,,", "line 3: detect must be 0 or 1"),
-    (",0,,1", "", "line 3: the row has 37 fields and must have 40"),
+    (
+        ",0,,1",
+        "",
+        "line 3: the row has 37 fields and must have 40",
+    ),
 ];
 
 #[test]

@@ -18,6 +18,6 @@ loop-node-preserved c =
 pub returns : goal.returns
 returns c =
     let past : length c.args.nodes.now ≤ c.loop-node.node-index = omega arith in
-    stands_last c.args.sender c.args.nodes.now c.index-nodes.result
+    stands_last c.args.sender c.args.nodes.now c.index-nodes-0.result
     (none_all (λ a. c.args.sender ≤ a) c.args.nodes.now c.loop-node.node-index past c.loop-node.invariant)
-    c.requires.some c.requires.ascend c.index-nodes.is
+    c.requires.some c.requires.ascend c.index-nodes-0.is
