@@ -6,7 +6,7 @@ import subprocess
 import sys
 import tempfile
 
-from command_line import BadArguments, read_arguments
+from command_line import BadArguments, is_file, read_arguments
 import second_opinion
 from growing_words import Open, answer_grow, answer_sweep
 from named_answers import answer_named
@@ -166,7 +166,11 @@ def asked_of_empty(request):
 def asked_of_analysis(options, data):
     """What `analyse` should print with these options."""
     answer = answer_named if "names" in options else answer_analyse
-    return answer(data, options.get("group"), "certificate" in options)
+    group, gone = options.get("group"), options.get("without")
+    if any(isinstance(it, bytes) and is_file(it) for it in (group, gone)):
+        # there is no such file
+        return Answer([], "refused 71", 1)
+    return answer(data, group, "certificate" in options, gone, options.get("at-least"))
 
 
 def asked(words, data):
