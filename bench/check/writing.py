@@ -10,8 +10,8 @@ of NOW over that of PROGRAM.
 
 With --check the certificate, the last line that is printed, is judged by PROGRAM, an executable of overlay-check, as
 often, and with --second, if it has no more than so many BYTES, once by tools/check.py: seconds and MB of both are
-columns too. It ends with an error if two runs on one graph do not print the same bytes, or if a checker does not print
-the line of the report with `holds` in place of `report`.
+columns too. It ends with an error if two runs on one graph do not print the same certificate, byte by byte, or if a
+checker does not print the line of the report with `holds` in place of `report`.
 """
 
 import argparse
@@ -43,13 +43,25 @@ def run(words, output):
     return took, used.ru_utime + used.ru_stime, used.ru_maxrss * 1024 / 1e6
 
 
-def digest(file):
-    """The bytes of a file: how many there are, and their checksum."""
+def lines_before(file):
+    """The lines of a file before its certificate, which is left to be read."""
     file.seek(0)
-    found = hashlib.sha256()
+    before = []
+    while not (line := file.readline(1 << 10)).startswith(b"{"):
+        if not line:
+            sys.exit(f"no certificate is printed, but {b''.join(before)[:200]!r}")
+        before.append(line)
+    file.seek(-len(line), os.SEEK_CUR)
+    return before
+
+
+def digest(file):
+    """The bytes of the certificate in a file: how many there are, and their checksum."""
+    lines_before(file)
+    begun, found = file.tell(), hashlib.sha256()
     while block := file.read(BLOCK):
         found.update(block)
-    return file.tell(), found.hexdigest()
+    return file.tell() - begun, found.hexdigest()
 
 
 def measured(programs, graph, workers, printed):
@@ -75,17 +87,13 @@ def least(runs):
     return min(took), min(used), max(peak)
 
 
-def copy_last_line(file, to):
-    """Copies the last line of a file, without its line feed. The lines before it."""
-    file.seek(0)
-    before = []
-    while not (line := file.readline(BLOCK)).startswith(b"{"):
-        before.append(line.decode())
-    to.write(line)
+def copy_certificate(file, to):
+    """Copies the certificate in a file. The line before it."""
+    (report,) = lines_before(file)
     while block := file.read(BLOCK):
         to.write(block)
     to.flush()
-    return before
+    return report.decode()
 
 
 def judged(command, certificate, asked, times):
@@ -108,7 +116,7 @@ def cells_of_checkers(graph, size, given):
         return []
     with tempfile.TemporaryFile() as output, tempfile.NamedTemporaryFile() as certificate:
         run([given.now, "analyse", "--certificate", "--workers", "4", graph], output)
-        (report,) = copy_last_line(output, certificate)
+        report = copy_certificate(output, certificate)
         output.truncate(0)
         asked = report.replace("report", "holds", 1)
         cells = judged([given.check], certificate.name, asked, RUNS)

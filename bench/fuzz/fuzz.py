@@ -85,7 +85,7 @@ def used_below(process):
 def wait_for(run, seconds):
     """Waits until afl-fuzz ends, and ends it after so many seconds of processor time, if this is a number."""
     while seconds is not None and run.poll() is None and used_below(run.pid) < seconds:
-        time.sleep(1)
+        time.sleep(5)
     if seconds is not None and run.poll() is None:
         run.send_signal(signal.SIGINT)
     return run.wait()
