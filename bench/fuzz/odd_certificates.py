@@ -5,8 +5,8 @@ deep, long, odd and cut certificate files, and prints a Markdown table.
 Each text is made by the rules below from the worked certificates of docs/FORMATS.md, always the same, and judged by
 tools/check.py and by each PROGRAM, an executable of overlay-check: the printed line with its number, and the status,
 must be the same. A text on which they differ is named, and copied to FOLDER. The table has for each kind how many texts
-there were, and what was answered. The status is 1 if one differs. Without KIND all kinds are judged; it takes a quarter
-of an hour of a processor for each PROGRAM.
+there were, and what was answered. The status is 1 if one differs. Without KIND all kinds are judged; it takes some five
+minutes of a processor for each PROGRAM.
 """
 
 import argparse
