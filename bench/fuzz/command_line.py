@@ -8,6 +8,9 @@ alone. That `--` alone is bare `overlay` was taken from the program, when the pa
 from growing_words import BadArguments, is_value, read_grow, read_sweep
 from scenario_lines import MOST_WORKERS, Unreadable, ids, number
 
+# k is below the number of nodes, of which there are 1,024 at most.
+MOST_K = 1023
+
 # What reads the words of the commands that grow overlays.
 GROWING = {"grow": read_grow, "sweep": read_sweep}
 
@@ -16,6 +19,14 @@ def workers(word):
     """A number from 1 to 64."""
     found = number(word)
     if not 1 <= found <= MOST_WORKERS:
+        raise Unreadable
+    return found
+
+
+def least(word):
+    """A number that k may be."""
+    found = number(word)
+    if found > MOST_K:
         raise Unreadable
     return found
 
@@ -38,8 +49,8 @@ def so_many_ids(count):
 # The options of each command, and what reads the value of those that have one.
 OPTIONS = {
     "run": {"explain": None, "progress": None, "strict": None},
-    "analyse": {"group": text, "workers": workers, "certificate": None, "names": None, "explain": None,
-                "progress": None},
+    "analyse": {"group": text, "without": text, "at-least": least, "workers": workers, "certificate": None,
+                "names": None, "explain": None, "progress": None},
     "import": {"views": None, "edges": None, "dot": None, "either": None, "entries": None},
     "picture": {"names": text, "pair": so_many_ids(2), "fan": so_many_ids(1), "dot": None},
     "graph": {},
@@ -76,11 +87,16 @@ def option(request, word, rest):
         raise BadArguments from None
 
 
+def is_file(text):
+    """Whether the text of a list names the file that has it."""
+    return text.startswith(b"@")
+
+
 def judge_together(request):
     """Refuses options that don't go together, and a group that is to have ids and has none."""
     if len(ONE_OF.get(request.command, set()) & request.options.keys()) > 1:
         raise BadArguments
-    if "group" in request.options and "names" not in request.options:
+    if "group" in request.options and "names" not in request.options and not is_file(request.options["group"]):
         try:
             request.options["group"] = ids(request.options["group"])
         except Unreadable:

@@ -2,8 +2,9 @@
 """compare_random.py PROGRAM [NUMBER [SEED]]: holds a program `overlay` against the second opinion.
 
 The examples' scenarios and graph files are compared first, then files that reach the limits of a world and of a graph,
-and then so many random scenarios of each of two kinds, and so many random graph files without and with names (300
-without a number). An input on which the two differ is kept in `out/found`, and named. The status is 1 then.
+and then so many random scenarios of each of two kinds, and so many random graph files (300 without a number): without
+and with names, and each of them a second time without some nodes and with a least number. An input on which the two
+differ is kept in `out/found`, and named. The status is 1 then.
 """
 
 import pathlib
@@ -31,37 +32,43 @@ def differs(program, words, data, answer):
 
 
 def inputs(number, seed):
-    """Each input's name, its command, its bytes and its group."""
+    """Each input's name, its command, its bytes, and what the command is asked besides: a group, a list of nodes that
+    are gone, and a least number, each or None."""
     for path in sorted(EXAMPLES.rglob("*.scenario")):
-        yield path.name, "run", path.read_bytes(), None
+        yield path.name, "run", path.read_bytes()
     for path in sorted(EXAMPLES.rglob("*.graph")):
-        yield path.name, "analyse", path.read_bytes(), None
+        yield path.name, "analyse", path.read_bytes()
     for name, command, data in random_inputs.limits():
-        yield f"limit-of-{name}", command, data, None
+        yield f"limit-of-{name}", command, data
     for at in range(number):
         source = random.Random(f"{seed} {at}")
-        yield f"random-{seed}-{at}.scenario", "run", random_inputs.scenario(source), None
-        yield f"guided-{seed}-{at}.scenario", "run", random_inputs.guided(source, source.choice(REFILLS)), None
-        yield f"random-{seed}-{at}.graph", "analyse", *random_inputs.graph(source)
-        yield f"named-{seed}-{at}.graph", "names", *random_inputs.named_graph(source)
+        yield f"random-{seed}-{at}.scenario", "run", random_inputs.scenario(source)
+        yield f"guided-{seed}-{at}.scenario", "run", random_inputs.guided(source, source.choice(REFILLS))
+        plain, named = random_inputs.graph(source), random_inputs.named_graph(source)
+        yield f"random-{seed}-{at}.graph", "analyse", *plain
+        yield f"named-{seed}-{at}.graph", "names", *named
+        yield f"without-{seed}-{at}.graph", "analyse", *plain, *random_inputs.loss(source, plain[0])
+        yield f"named-without-{seed}-{at}.graph", "names", *named, *random_inputs.loss(source, named[0])
 
 
-def asked(command, data, group):
+def asked(command, data, group=None, gone=None, least=None):
     """The arguments of a program, and the answer that is asked for them."""
     if command == "run":
         return ["run"], second_opinion.answer_run(data)
+    options = [] if gone is None else [b"--without=" + gone]
+    options += [] if least is None else [f"--at-least={least}"]
     if command == "names":
-        chosen = [b"--group=" + group] if group else []
-        return ["analyse", "--names", "--certificate", *chosen], answer_named(data, group, True)
-    chosen = ["--group", ",".join(map(str, group))] if group else []
-    return ["analyse", "--certificate", *chosen], second_opinion.answer_analyse(data, group, True)
+        options += [b"--group=" + group] if group else []
+        return ["analyse", "--names", "--certificate", *options], answer_named(data, group, True, gone, least)
+    options += ["--group", ",".join(map(str, group))] if group else []
+    return ["analyse", "--certificate", *options], second_opinion.answer_analyse(data, group, True, gone, least)
 
 
 def main(program, number="300", seed="1"):
     count, found = 0, 0
-    for name, command, data, group in inputs(int(number), seed):
+    for name, command, data, *options in inputs(int(number), seed):
         count += 1
-        words, answer = asked(command, data, group)
+        words, answer = asked(command, data, *options)
         why = differs(program, words, data, answer)
         if why:
             found += 1

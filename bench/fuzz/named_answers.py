@@ -3,23 +3,11 @@
 import re
 
 from connectivity import Analysis, Graph
-from scenario_lines import Refused, Unreadable, number, read_graph, split_lines
-from second_opinion import Answer, Certificate
+from node_lists import group_of, id_of, without, words_of
+from scenario_lines import Refused, read_graph, split_lines
+from second_opinion import Answer, Certificate, graded, left_of
 
 COMMENT = re.compile(rb" *# +([0-9]+) (.+)", re.DOTALL)
-
-
-def id_of(word):
-    """The id that a word spells, or None."""
-    try:
-        return number(word)
-    except Unreadable:
-        return None
-
-
-def words_of(line):
-    """The words of a line."""
-    return [part for part in line.split(b" ") if part]
 
 
 def names_of(data):
@@ -32,37 +20,6 @@ def names_of(data):
         if node is not None and said[:1] == [b"node"] and id_of(said[1]) == node:
             found[node] = match[2]
     return found
-
-
-def spelled(text):
-    """The id that a text of one word spells, or None."""
-    words = words_of(text)
-    return id_of(words[0]) if len(words) == 1 else None
-
-
-def node_of(part, names, graph):
-    """The node that a part of the text of a group means. Refused if it means none, or two. Where a name spells an id,
-    no part is an id."""
-    named = [node for node, name in names.items() if name == part]
-    if len(named) > 1:
-        raise Refused("refused 85")
-    if named:
-        return named[0]
-    node = spelled(part)
-    if node not in graph.neighbours or any(spelled(name) is not None for name in names.values()):
-        raise Refused("refused 84")
-    return node
-
-
-def group_of(text, names, graph):
-    """The group that a text names, in ascending order."""
-    found = []
-    for part in text.split(b","):
-        node = node_of(part, names, graph)
-        if node in found:
-            raise Refused("refused 34")
-        found.append(node)
-    return sorted(found)
 
 
 def components_of(graph, cut):
@@ -92,16 +49,22 @@ def lines_of(fields, graph, names):
                     for at, it in enumerate(components) if at != largest for node in it]
 
 
-def answer_named(data, text=None, has_certificate=False):
-    """What `overlay analyse --names` should print for the bytes of a graph file, and for the text of a group."""
+def answer_named(data, text=None, has_certificate=False, gone=None, least=None):
+    """What `overlay analyse --names` should print for the bytes of a graph file: for the text of a group, without the
+    nodes that another text names, if there are such texts; and its status, if a least number is asked for."""
     try:
         graph = Graph(*read_graph(data))
         names = names_of(data)
-        group = graph.nodes if text is None else group_of(text, names, graph)
+        gone = group_of(gone, names, graph) or []
+        group = group_of(text, names, graph)
     except Refused as fault:
         return Answer([], str(fault), 1)
+    graph, group = without(graph, gone), left_of(group, gone)
     if not graph.nodes:
-        return Answer(["refused 30"])
-    found = Analysis(graph, group)
+        return graded(["refused 30"], None, least)
+    if group is not None and not graph.is_group(group):
+        return graded(["refused 34"], None, least)
+    found = Analysis(graph, graph.nodes if group is None else group)
     lines = [found.line(0), *lines_of(found.fields, graph, names)]
-    return Answer([*lines, *([Certificate(found.certificate(0))] if has_certificate else [])])
+    lines += [Certificate(found.certificate(0))] if has_certificate else []
+    return graded(lines, found.fields["k"], least)

@@ -1,5 +1,7 @@
 """Random scenarios and graph files, most of whose lines can be read: for comparisons without a fuzzer."""
 
+import re
+
 from nodes import NEVER, REFILLS
 from pcg import Pcg64
 from scenario_run import WORDS, State
@@ -168,6 +170,19 @@ def named_graph(random):
         lines.append(line)
     group = random.sample(names, random.randint(1, min(4, len(names))))
     return b"\n".join(lines), b",".join(group) if random.random() < 0.7 else None
+
+
+def loss(random, data):
+    """The text of a list of nodes of a graph file that are gone, and a least number, each or None. The list has names or
+    ids, now and then those of all nodes, and seldom one of nobody or of one node twice."""
+    said = [line.split() for line in data.split(b"\n")]
+    ids = [words[1] for words in said if words[:1] == [b"node"] and len(words) > 1]
+    names = [line.split(b" ", 2)[2] for line in data.split(b"\n") if re.match(rb"# \d+ .", line) and b"," not in line]
+    known = names if len(names) > 2 and random.random() < 0.8 else ids
+    parts = random.sample(known, random.choice((0, 1, 1, 2, 3, len(known))) if len(known) > 2 else len(known))
+    parts += random.choice(([],) * 12 + ([b"77"], [b"x"], [b""], parts[:1]))
+    gone = b",".join(parts) if parts and random.random() < 0.9 else None
+    return gone, random.choice((None, 0, 1, 2, 3, 8, 1023))
 
 
 class GuidedMaker:

@@ -1,5 +1,6 @@
 #!/usr/bin/env python3
-"""second_opinion.py run FILE | analyse FILE [--group IDS] [--certificate]: what `overlay` should print.
+"""second_opinion.py run FILE | analyse FILE [--group IDS] [--without IDS] [--at-least K] [--certificate]: what
+`overlay` should print.
 
 A second reader of scenarios and graph files in plain Python, written from docs/FORMATS.md, docs/PROTOCOL.md and
 docs/CONNECTIVITY.md and not from the Rattle code. Standard output, the status and the first line of standard error are
@@ -18,7 +19,8 @@ import pathlib
 import sys
 
 from connectivity import Analysis, Graph
-from scenario_lines import Refused, ScenarioReader, Unreadable, ids, read_graph
+from node_lists import group_of, without
+from scenario_lines import Refused, ScenarioReader, Unreadable, ids, number, read_graph
 from scenario_run import Certificate, Run, Undetermined
 
 sys.path.insert(0, str(pathlib.Path(__file__).resolve().parent.parent.parent / "tools"))
@@ -70,18 +72,33 @@ def strict_of(answer):
     return answer if at is None else Answer(answer.lines[:at], answer.explained[0] + answer.lines[at], 1)
 
 
-def answer_analyse(data, group=None, has_certificate=False):
-    """What `overlay analyse` should print for the bytes of a graph file, and a group of ids if one is given."""
+def left_of(group, gone):
+    """The members of a group that are left without some nodes, or None without a group."""
+    return None if group is None else [node for node in group if node not in gone]
+
+
+def graded(lines, k, least):
+    """The answer of these lines, whose number is k, or None if there is no answer: the status is 3 if a least number is
+    asked for, and there is no answer or k is below it."""
+    return Answer(lines, status=3 if least is not None and (k is None or k < least) else 0)
+
+
+def answer_analyse(data, group=None, has_certificate=False, gone=None, least=None):
+    """What `overlay analyse` should print for the bytes of a graph file: for a group of ids, and without the nodes that
+    the text of a list names, if these are given; and its status, if a least number is asked for."""
     try:
         graph = Graph(*read_graph(data))
+        gone = group_of(gone, {}, graph) or []
     except Refused as fault:
         return Answer([], str(fault), 1)
+    graph, group = without(graph, gone), left_of(group, gone)
     if not graph.nodes:
-        return Answer(["refused 30"])
+        return graded(["refused 30"], None, least)
     if group is not None and not graph.is_group(group):
-        return Answer(["refused 34"])
+        return graded(["refused 34"], None, least)
     found = Analysis(graph, graph.nodes if group is None else group)
-    return Answer([found.line(0), *([Certificate(found.certificate(0))] if has_certificate else [])])
+    lines = [found.line(0), *([Certificate(found.certificate(0))] if has_certificate else [])]
+    return graded(lines, found.fields["k"], least)
 
 
 def is_same_certificate(text, other):
@@ -153,10 +170,12 @@ def answered(given):
         return answer_run(data)
     try:
         group = None if given.group is None else ids(given.group.encode())
+        least = None if given.at_least is None else number(given.at_least.encode())
     except Unreadable:
-        print("refused 73\n--group takes ids with one comma between two", file=sys.stderr)
+        print("refused 73\n--group takes ids with one comma between two, and --at-least a number", file=sys.stderr)
         return Answer([], status=2)
-    return answer_analyse(data, group, given.certificate)
+    gone = None if given.without is None else given.without.encode()
+    return answer_analyse(data, group, given.certificate, gone, least)
 
 
 def main():
@@ -166,6 +185,8 @@ def main():
     analyse = commands.add_parser("analyse")
     analyse.add_argument("file")
     analyse.add_argument("--group", metavar="IDS")
+    analyse.add_argument("--without", metavar="IDS")
+    analyse.add_argument("--at-least", metavar="K")
     analyse.add_argument("--certificate", action="store_true")
     answer = answered(parser.parse_args())
     for line in answer.lines:

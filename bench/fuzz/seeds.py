@@ -1,17 +1,21 @@
-"""The inputs that afl-fuzz begins with: the kept corpus, the examples, and random scenarios and graphs."""
+"""The inputs that afl-fuzz begins with: the kept corpus, the examples, random scenarios and graphs, and odd
+certificate files."""
 
 import hashlib
 import random
 
 import corpus
+import odd_certificates
 import random_inputs
 from nodes import ALONE, ALWAYS, REFILLS
 from second_opinion import answer_analyse
 
 EXAMPLES = corpus.FOLDER.parent.parent.parent / "examples"
 SUFFIXES = {"certificate": ".json", "scenario": ".scenario", "graph": ".graph"}
-LONGEST = {"certificate": 6000, "scenario": 2000, "graph": 2000, "arguments": 400}
+LONGEST = {"certificate": 12_000, "scenario": 2000, "graph": 2000, "arguments": 400}
 RANDOM_SEEDS = {"certificate": 60, "scenario": 300, "graph": 60, "arguments": 0}
+# Of the deep, long, odd and cut certificate files, so many of each kind are seeds.
+OF_EACH_KIND = 300
 # Random scenarios that notice rules of plant.py which few others notice.
 TELLING = (65, 217, 736, 486, 672, 877, 986, 927, 966, 974, 1037, 1043, 264, 437, 96, 237, 362, 35, 109, 159)
 # Seeds of those in which DISCONNECT may start an attempt: if nobody is active, or always where the seed is odd.
@@ -103,6 +107,13 @@ def refilled(at):
     return random_inputs.guided(random.Random(f"refilled {at}"), (ALONE, ALWAYS)[at % 2])
 
 
+def odd_ones(target):
+    """Certificate files that are deep, long, odd or cut, the same in each sitting."""
+    for kind in odd_certificates.KINDS if target == "certificate" else ():
+        short = [text for text in odd_certificates.texts(kind) if len(text) <= LONGEST[target]]
+        yield from random.Random(kind).sample(short, OF_EACH_KIND)
+
+
 MAKERS = {"certificate": certificate, "scenario": scenario, "graph": graph_with_options}
 
 
@@ -118,6 +129,7 @@ def random_ones(target):
 def all_of(target):
     """Each seed of a target, once."""
     found = [corpus.input_of(row) for row in corpus.rows(target)] + list(of_examples(target)) + random_ones(target)
+    found += odd_ones(target)
     return {data: None for data in found if 0 < len(data) <= LONGEST[target]}
 
 

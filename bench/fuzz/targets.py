@@ -1,19 +1,19 @@
 """What is fuzzed: how each kind of input is run by the real programs, and what the independent readers say of it."""
 
-import json
 import pathlib
 import subprocess
 import sys
 import tempfile
 
-from command_line import BadArguments, read_arguments
+from command_line import BadArguments, is_file, read_arguments
 import second_opinion
 from growing_words import Open, answer_grow, answer_sweep
 from named_answers import answer_named
 from second_opinion import Answer, answer_analyse, answer_run, check, strict_of
 
 SECONDS = 60
-DEEPEST = 127
+# How files begin that gzip, xz, zstd and zip make.
+PACKED = (b"\x1f\x8b", b"\xfd7zXZ", b"(\xb5/\xfd", b"PK\x03\x04")
 # How `run` in fuzz_loop.c takes the words of a graph file's first line.
 OF_WORDS = frozenset(b"0123456789,")
 
@@ -38,64 +38,22 @@ class Case:
         return why or (self.more and self.more(run.stderr))
 
 
-class NotRead(Exception):
-    """A text that the JSON reader of the format refuses, although Python's json reads it."""
+def is_of_another_form(data):
+    """Whether the first bytes are those of a file in UTF-16, or of a packed one."""
+    return data.startswith(PACKED) or data[:2] in (b"\xff\xfe", b"\xfe\xff") or b"\0" in data[:2]
 
 
-def has_surrogate(value):
-    """Whether a text, or one in a list, has half of a surrogate pair; `pairs_of` has asked it of the lists' objects."""
-    if isinstance(value, str):
-        return any("\ud800" <= sign <= "\udfff" for sign in value)
-    return isinstance(value, list) and any(map(has_surrogate, value))
+def one_reason(data):
+    """What is wrong with standard error, as a function of its bytes, if it is to have a line that says why this file is
+    refused or fails, and below it a tip if the file has another form."""
+    lines = 2 if is_of_another_form(data) else 1
 
-
-def float_of(digits):
-    """A number, unless it is too large to be a float."""
-    if float(digits) in (float("inf"), float("-inf")):
-        raise NotRead
-    return 0
-
-
-def pairs_of(pairs):
-    """An object's keys and values, also those that a later one with the same key replaces."""
-    if any(has_surrogate(part) for pair in pairs for part in pair):
-        raise NotRead
-    return dict(pairs)
-
-
-def depth(text):
-    """How deep lists and objects are nested, of a text that is JSON."""
-    deepest = now = 0
-    in_text = escaped = False
-    for sign in text:
-        if in_text:
-            in_text = escaped or sign != '"'
-            escaped = sign == "\\" and not escaped
-        elif sign == '"':
-            in_text = True
-        elif sign in "[{":
-            now += 1
-            deepest = max(deepest, now)
-        elif sign in "]}":
-            now -= 1
-    return deepest
-
-
-def is_unread(data):
-    """Whether the format's reader refuses a text that Python's json may read: docs/FORMATS.md, below the faults."""
-    try:
-        text = data.decode()
-        value = json.loads(text, parse_int=float_of, parse_float=float_of, object_pairs_hook=pairs_of)
-        return depth(text) > DEEPEST or has_surrogate(value)
-    except NotRead:
-        return True
-    except (ValueError, RecursionError):
-        return False
-
-
-def one_line(err):
-    """What is wrong with standard error if it is to have one line."""
-    return None if err.count(b"\n") == 1 and err.endswith(b"\n") else f"standard error is {err!r}, and not one line"
+    def more(err):
+        told = err.split(b"\n")
+        is_tip = [line.startswith(b"tip: ") for line in told[:-1]]
+        is_right = told[-1] == b"" and is_tip == [False, True][:lines]
+        return None if is_right else f"standard error is {err!r}, and should have {lines} lines"
+    return more
 
 
 def nothing(err):
@@ -103,16 +61,10 @@ def nothing(err):
 
 
 def certificate_cases(data):
-    """A certificate file, judged by overlay-check."""
-    if is_unread(data):
-        line = "refused 60"
-    else:
-        try:
-            line = check.judge(data)
-        except check.Answer as fault:
-            line = str(fault)
-    status = 0 if line.startswith("holds ") else 1
-    yield Case("overlay_check", [], data, Answer([line], status=status), one_line if status else nothing)
+    """A certificate file, judged by overlay-check as by tools/check.py."""
+    printed, _, status = check.answer(data, has_graph=False)
+    answer = Answer(printed.splitlines(), status=status)
+    yield Case("overlay_check", [], data, answer, one_reason(data) if status else nothing)
 
 
 def unlike_explained(lines, asked):
@@ -166,7 +118,11 @@ def asked_of_empty(request):
 def asked_of_analysis(options, data):
     """What `analyse` should print with these options."""
     answer = answer_named if "names" in options else answer_analyse
-    return answer(data, options.get("group"), "certificate" in options)
+    group, gone = options.get("group"), options.get("without")
+    if any(isinstance(it, bytes) and is_file(it) for it in (group, gone)):
+        # there is no such file
+        return Answer([], "refused 71", 1)
+    return answer(data, group, "certificate" in options, gone, options.get("at-least"))
 
 
 def asked(words, data):

@@ -19,8 +19,9 @@ struct Options {
     bool is_sequential = false;
     std::optional<Id> sender;
     bool detects = false;
-    // for the study alone, and no option of the tool
-    bool reports_at_once = false;
+    // for the study alone, and no options of the tool
+    bool reports_at_once = false, one_contact = false, each_round = false;
+    std::string only;  // the phase in which broadcasts are made, if it is one alone
 };
 
 /// How the overlay stands at the end of a phase.
@@ -78,9 +79,16 @@ class Growing {
     /// What is called after each phase.
     std::function<void(const Phase&)> watch = [](const Phase&) {};
 
-    void grow() {
+    /// The phases up to the crash.
+    void begin() {
         join();
-        crash(settle());
+        cut = settle();
+    }
+
+    /// The phases after it, with as many crashes as these options say.
+    void end(const Options& asked) {
+        options = asked;
+        crash(cut);
         heal();
     }
 
@@ -181,10 +189,11 @@ class Growing {
     void broadcasts(Phase& phase) {
         size_t made = messages.size();
         uint64_t before = world.tally.prunes;
+        unsigned left = options.only.empty() || options.only == phase.name ? options.broadcasts : 0;
         if (options.is_sequential)
-            for (unsigned count = options.broadcasts; count > 0; count--) spread_alone();
+            for (; left > 0; left--) spread_alone();
         else
-            spread(options.broadcasts);
+            spread(left);
         phase.costs.assign(world.tally.costs.begin() + made, world.tally.costs.end());
         phase.prunes = world.tally.prunes - before;
     }
@@ -199,6 +208,11 @@ class Growing {
         world.snapshot();
         line("snapshot");
         line("analyse", world.entries);
+        look(name);
+    }
+
+    /// How the overlay stands now, and the broadcasts that are made then.
+    void look(const char* name) {
         Graph graph(world.nodes);
         auto found = connectivity(graph);
         phases.push_back({name, std::move(graph), found, world.entries});
@@ -214,7 +228,7 @@ class Growing {
         for (Id id = 2; id <= options.nodes; id++) {
             turns(options.pace.value_or(MOST_TURNS));
             watch_birth();
-            Id contact = 1 + choices.one_of(id - 1);
+            Id contact = options.one_contact ? 1 : 1 + choices.one_of(id - 1);
             world.boot(id, contact);
             line(("boot " + std::to_string(id) + " by").c_str(), contact);
         }
@@ -256,7 +270,10 @@ class Growing {
         comment("heal");
         are_told = true;
         if (!options.detects) report_all();
-        rounds(options.heal);
+        for (unsigned left = options.heal; left > 0; left--) {
+            if (options.each_round) look("heal");
+            rounds(1);
+        }
         end_phase("heal");
     }
 
@@ -284,6 +301,7 @@ class Growing {
 
     Options options;
     Choices choices;
+    std::vector<Id> cut;  // of the settled overlay
     uint32_t most_exact;
     bool keeps_lines, are_told = false;  // whether senders are told of crashed receivers
     unsigned loss = 0;

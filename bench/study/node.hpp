@@ -21,6 +21,10 @@ enum class Refill : uint8_t { Never, Alone, Always };
 struct Params {
     unsigned active = 5, passive = 30, arwl = 6, prwl = 3, ka = 3, kp = 4, ttl = 4;
     Refill refill = Refill::Never;
+    // for the study alone: an attempt goes on until the active view is full; a node that starts a shuffle with a free
+    // place starts an attempt first; a broadcast goes to all neighbours, and nobody sends PRUNE; whoever an attempt
+    // finds gets the newest broadcast too
+    bool until_full = false, fills = false, floods = false, passes_on = false;
 };
 
 /// Some ids, ascending.
@@ -109,8 +113,9 @@ struct Node {
 /// A node while it takes a step.
 class Step {
   public:
-    Step(const Params& params, Node& node, Pcg64 words, uint32_t entry, std::vector<Packet>& sends)
-        : params(params), node(node), words(words), entry(entry), sends(sends) {}
+    /// `made`: how many broadcasts were made so far.
+    Step(const Params& params, Node& node, Pcg64 words, uint32_t entry, size_t made, std::vector<Packet>& sends)
+        : params(params), node(node), words(words), entry(entry), made(made), sends(sends) {}
 
     /// A broadcast that is delivered, and the hops at which it is.
     struct Delivery {
@@ -166,6 +171,10 @@ class Step {
     }
 
     void shuffle() {
+        if (params.fills) {
+            node.tried.clear();
+            go_on();
+        }
         if (node.active.empty()) return;
         Id target = pick(node.active);
         node.sent = {};
@@ -325,8 +334,10 @@ class Step {
         if (sender != node.asked) {
             if (accepted && !node.active.has(sender)) send(sender, Kind::Disconnect);
         } else if (accepted) {
-            end_attempt();
+            if (!params.until_full) end_attempt();
             add_active(sender);
+            if (params.until_full) go_on();
+            if (params.passes_on && made > 0 && keeps(made - 1).held) gossip(sender, made - 1);
         } else {
             go_on();
         }
@@ -385,6 +396,7 @@ class Step {
     void on_gossip(const Packet& packet) {
         Kept& kept = keeps(packet.subject);
         if (kept.held) {
+            if (params.floods) return;
             make_lazy(packet.sender);
             send(packet.sender, Kind::Prune);
             return;
@@ -412,5 +424,6 @@ class Step {
     Node& node;
     Pcg64 words;
     uint32_t entry;
+    size_t made;
     std::vector<Packet>& sends;
 };

@@ -2,37 +2,72 @@
 """papers.py --simulate PROGRAM [NAME ..]: makes the rows of docs/PAPERS.md into out/, and writes its tables and figures
 anew.
 
-Rows that are there stay: remove their files to make them anew. With names only these tables and figures are made.
+Rows that are there stay: remove their files to make them anew. With names only these tables and figures are made. A
+figure of several overlays is the mean over their seeds of a figure of each; with it stand the least and the largest.
 """
 
 import argparse
 import re
+import subprocess
+import sys
 
 from figures import Axis, Panel, drawn, whole_numbers
 from options import CHOICES
 from study import DOCS
-from sweeps import PAPERS, grouped, make, mean
+from sweeps import PAPERS, ROWS, grouped, make, rows
 from tables import table
 
 PAGES = (DOCS / "PAPERS.md", DOCS / "TABLES.md")
 RULES = CHOICES["refill"]
-CRASHES = ("10", "20", "30", "40", "50", "60", "70", "80", "90", "95")
-SHUFFLES = ("0", "1", "2", "3", "4", "6", "10")
-BROADCASTS = 100
+CRASHES = ("10", "30", "50", "70", "80", "90", "95")
+ROUNDS = range(5)
 # From few crashes to many; and the same for a dark background.
-LIGHT = ["#2c3e94", "#1b6ca8", "#1d8aa8", "#2a9d8f", "#5a9e3a", "#a08a00", "#d08000", "#d95f02", "#c0302a", "#7a1020"]
-DARK = ["#9db0ff", "#74b9e8", "#6fd0e8", "#6fd6c8", "#a5d68a", "#e0cf5a", "#ffc766", "#ff9a52", "#ff8a80", "#ff6fa0"]
-MESSAGES = Axis("message after the crash", 1, BROADCASTS, whole_numbers(1, 2, 5, 10, 20, 50, 100), is_log=True)
-# Messages that are told together; of those after a crash; and in tables.
-PIECES = ((1, 1), (2, 2), (3, 4), (5, 8), (9, 16), (17, 32), (33, 64), (65, 128), (129, 300))
-AFTER = (*PIECES[:-2], (65, 100))
-OF_TABLE = ((1, 1), (2, 10), (91, 100))
+LIGHT = ["#2c3e94", "#1d8aa8", "#2a9d8f", "#a08a00", "#d95f02", "#c0302a", "#7a1020"]
+DARK = ["#9db0ff", "#6fd0e8", "#6fd6c8", "#e0cf5a", "#ff9a52", "#ff8a80", "#ff6fa0"]
+# Messages that are told together: in figures, and in tables.
+PIECES = ((1, 1), (2, 2), (3, 4), (5, 8), (9, 14), (15, 20))
+OF_TABLE = ((1, 1), (2, 5), (6, 10), (11, 20), (41, 50), (191, 200))
+OF_TREE = ((1, 1), (2, 2), (3, 10), (11, 20))
 PERCENT = Axis("", 0, 100, whole_numbers(0, 20, 40, 60, 80, 100))
+# What `simulate` has no part in: random graphs, in which each node has as many links.
+RANDOM = "--random --nodes 10000 --active 5 --runs 5"
+
+
+def over_seeds(some, figure):
+    """A figure of the rows of each seed: the mean, the least and the largest."""
+    found = {}
+    for row in some:
+        found.setdefault(row["seed"], []).append(row)
+    values = [figure(of_seed) for of_seed in found.values()]
+    return sum(values) / len(values), min(values), max(values)
+
+
+def spread(some, figure, form):
+    """The mean over seeds and their range, in words."""
+    if not some:
+        return ""
+    mean, least, largest = (f"{value:{form}}" for value in over_seeds(some, figure))
+    return mean if least == largest else f"{mean} ({least} to {largest})"
+
+
+def mean_of(column):
+    """What finds the mean of a column."""
+    return lambda some: sum(float(row[column]) for row in some) / len(some)
 
 
 def delivered(some):
     """The mean share of live nodes that delivered, in percent."""
     return 100 * sum(int(row["delivered"]) / int(row["live"]) for row in some) / len(some)
+
+
+def in_largest(some):
+    """The mean share of live nodes in the largest component, in percent."""
+    return 100 * sum(int(row["largest"]) / int(row["live"]) for row in some) / len(some)
+
+
+def reached(some):
+    """The mean share of live nodes that deliver the broadcasts after a round, in percent."""
+    return 100 * mean_of("delivered")(some)
 
 
 def redundancy(some):
@@ -41,14 +76,20 @@ def redundancy(some):
     return sum(found) / len(found)
 
 
-def three_panels(said, across, lines):
-    """A figure with a panel for each rule, and in it a line for each share of crashes; `lines` finds its points."""
-    panels = []
-    for at, rule in enumerate(RULES):
-        panel = Panel(60 + 370 * at, 300, f"{rule}: {said}", across, PERCENT)
+def piece(some, first, last):
+    """The rows of messages by their numbers."""
+    return [row for row in some if first <= int(row["number"]) <= last]
+
+
+def panels_of_crashes(titles, across, points):
+    """A figure of panels with these titles, and in each a line for each share of crashes, with bars from the least to
+    the largest of the seeds; `points` finds its points, by the panel's place and the share."""
+    panels, wide = [], 1110 // len(titles)
+    for at, title in enumerate(titles):
+        panel = Panel(60 + wide * at, wide - 70, title, across, PERCENT)
         panel.axes()
         for tone, crash in enumerate(CRASHES):
-            panel.line(tone, lines(rule, crash))
+            with_bars(panel, tone, points(at, crash))
         panels.append(panel)
     for tone, crash in enumerate(CRASHES):
         x, y = 1120, 90 + 26 * tone
@@ -59,146 +100,203 @@ def three_panels(said, across, lines):
     return drawn(*panels, tones=(LIGHT, DARK))
 
 
-def by_message(name):
+def with_bars(panel, tone, points):
+    """A line through means, and the range of each."""
+    panel.line(tone, [(x, mean) for x, (mean, _, _) in points])
+    for x, (_, least, largest) in points:
+        panel.bar(tone, x, least, largest)
+
+
+def by_message():
     """The share of live nodes that deliver each message after a crash."""
-    found = counted(name, "refill", "crash")
+    sent, told = (grouped(name, "refill", "crash") for name in ("papers-crash", "papers-told"))
+    across = Axis("message after the crash", 1, 20, whole_numbers(1, 2, 5, 10, 20), is_log=True)
+    panels = {
+        "% that deliver: never, found by sending": (sent, "never", 20),
+        "always, found by sending": (sent, "always", 20),
+        "always, everybody told before": (told, "always", 5),
+    }
 
-    def points(rule, crash):
-        # the first messages after the crash follow those of the settled overlay
-        return in_pieces(found, delivered, AFTER, BROADCASTS, rule, crash)
+    def points(at, crash):
+        found, rule, last = list(panels.values())[at]
+        return in_pieces(found[rule, crash], delivered, last)
 
-    return three_panels("% of live nodes that deliver", MESSAGES, points)
+    return panels_of_crashes(panels, across, points)
+
+
+def in_pieces(some, figure, last):
+    """A figure for each piece of the messages of a run, over the middle of the piece."""
+    pieces = [(first, min(end, last)) for first, end in PIECES if first <= last]
+    return [((first * end) ** 0.5, over_seeds(piece(some, first, end), figure)) for first, end in pieces]
 
 
 def healing():
     """The share of live nodes in the largest component after rounds of shuffles."""
-    found = grouped("papers-heal", "refill", "crash", "heal")
-    across = Axis("rounds of shuffles after the crash", 0, 10, whole_numbers(*range(0, 11, 2)))
+    found, rules = grouped("papers-heal", "refill", "crash", "round"), ("never", "always")
+    across = Axis("rounds of shuffles after the crash", 0, max(ROUNDS), whole_numbers(*ROUNDS))
 
-    def points(rule, crash):
-        return [(int(heal), in_largest(found[rule, crash, heal])) for heal in SHUFFLES]
+    def points(at, crash):
+        return [(heal, over_seeds(found[rules[at], crash, str(heal)], in_largest)) for heal in ROUNDS]
 
-    return three_panels("% in the largest part", across, points)
-
-
-def in_largest(some):
-    """The mean share of live nodes in the largest component when healed, in percent."""
-    return 100 * sum(int(row["heal_largest"]) / int(row["heal_nodes"]) for row in some) / len(some)
-
-
-def counted(name, *keys):
-    """The rows of broadcasts by these columns and their numbers in the whole run."""
-    found = {}
-    for (phase, number, *key), some in grouped(name, "phase", "number", *keys).items():
-        place = BROADCASTS * ("settle", "crash", "heal").index(phase) + int(number)
-        found[(*key, place)] = some
-    return found
+    return panels_of_crashes([f"% of live nodes in the largest part: {rule}" for rule in rules], across, points)
 
 
 def tree():
     """Redundancy and hops of messages one after the other, by one sender and many."""
-    all_of_run = Axis("message", 1, 300, whole_numbers(1, 2, 5, 10, 30, 100, 300), is_log=True)
+    across = Axis("message", 1, 20, whole_numbers(1, 2, 5, 10, 20), is_log=True)
     panels = [
-        Panel(60, 480, "relative redundancy", all_of_run, Axis("", 0, 4, whole_numbers(0, 1, 2, 3, 4))),
-        Panel(620, 480, "hops of the last delivery", all_of_run, Axis("", 0, 40, whole_numbers(0, 10, 20, 30, 40))),
+        Panel(60, 480, "relative redundancy", across, Axis("", 0, 4, whole_numbers(0, 1, 2, 3, 4))),
+        Panel(620, 480, "hops of the last delivery", across, Axis("", 0, 50, whole_numbers(0, 10, 20, 30, 40, 50))),
     ]
     for panel in panels:
         panel.axes()
     tone = 0
-    for name, senders in (("papers-one", "one sender"), ("papers-many", "many senders")):
-        found = counted(name, "refill", "order")
-        for rule in ("never", "always"):
-            for panel, figure in zip(panels, (redundancy, hops)):
-                panel.line(tone, in_pieces(found, figure, PIECES, 0, rule, "random"))
-            panels[0].parts.append(
-                f'<text class="said s{tone}" x="330" y="{84 + 22 * tone // 3}">{rule}, {senders}</text>'
-            )
-            tone += 3
+    for order in CHOICES["order"]:
+        for name, senders in (("papers-one", "one sender"), ("papers-many", "many senders")):
+            some = grouped(name, "refill", "order")["always", order]
+            for panel, figure in zip(panels, (redundancy, mean_of("hops"))):
+                with_bars(panel, tone, in_pieces(some, figure, 20))
+            said = f"{senders}, packets in order {order}"
+            panels[0].parts.append(f'<text class="said s{tone}" x="250" y="{84 + 11 * tone}">{said}</text>')
+            tone += 2
     return drawn(*panels, tones=(LIGHT, DARK))
 
 
-def piece(found, before, first, last, *key):
-    """The rows of some messages of a run, counted from one of them on."""
-    return [row for at in range(before + first, before + last + 1) for row in found[(*key, at)]]
+# What is said of each sweep of shapes behind the rule.
+FILLED = ", a free place is asked for in each of {} rounds"
+SHAPES = {
+    "papers-shape": "",
+    "papers-shape-fill": FILLED.format(3),
+    "papers-random": "random graph, 5 links at each node",
+}
+VARIED_SHAPES = {
+    "papers-shape-filled": FILLED.format(10),
+    "papers-shape-contact": ", all join by node 1",
+    "papers-shape-oldest": ", the oldest packet is always the next",
+}
 
 
-def in_pieces(found, figure, pieces, before, *key):
-    """A figure for each piece of the messages of a run, over the middle of the piece."""
-    return [((first * last) ** 0.5, figure(piece(found, before, first, last, *key))) for first, last in pieces]
+def shape_table(names, first=()):
+    """The shape of settled overlays; each sweep by what is said of it."""
+    columns = (("links", ".2f"), ("largest", ",.0f"), ("clustering", ".5f"), ("path", ".3f"), ("farthest", ".2f"))
+    lines = list(first)
+    for name, said in names.items():
+        for (rule,), some in grouped(name, "refill" if name in PAPERS else "active").items():
+            of_rule = f"`{rule}`{said}" if name in PAPERS else said
+            lines.append([of_rule, *(spread(some, mean_of(column), form) for column, form in columns)])
+    head = ["links of a node", "largest component", "clustering coefficient", "mean shortest path", "farthest"]
+    return table(["rule", *head], lines)
 
 
-def hops(some):
-    """The mean of hops."""
-    return mean(some, "hops")
+def beside_the_paper():
+    """The shape of settled overlays beside that of the paper."""
+    return shape_table(SHAPES, [["HyParView's paper, Table 1", "", "", "0.00092", "6.38590", "9.0"]])
 
 
-def crash_table(name):
-    """What messages after a crash reach."""
-    found = counted(name, "refill", "crash")
+def crash_table(names):
+    """What messages after a crash reach; each sweep by what is said of it."""
+    most, lines = max(last_of(name) for name in names), []
+    pieces = [(first, last) for first, last in OF_TABLE if last <= most]
+    for name, said in names.items():
+        for (rule, crash), some in grouped(name, "refill", "crash").items():
+            found = [piece(some, *ends) if ends[1] <= last_of(name) else [] for ends in pieces]
+            lines.append([f"`{rule}`{said}", crash, *(spread(of_piece, delivered, ".1f") for of_piece in found)])
+    head = [f"message {first}" if first == last else f"{first} to {last}" for first, last in pieces]
+    return table(["rule", "% that crash", *head], lines)
+
+
+def last_of(name):
+    """The number of the last message of a sweep."""
+    return max(int(row["number"]) for row in rows(name))
+
+
+def told_table():
+    """What broadcasts of a phase reach after the crash and when everybody was told, by the tool."""
     lines = []
-    for crash in CRASHES:
-        pieces = (piece(found, BROADCASTS, *ends, rule, crash) for rule in RULES for ends in OF_TABLE)
-        lines.append([crash, *(f"{delivered(some):.1f}" for some in pieces)])
-    return table(["% that crash", *(f"`{rule}`: {at}" for rule in RULES for at in ("1", "2 to 10", "91 to 100"))], lines)
+    for (rule, crash), some in grouped("papers-told-250", "refill", "crash").items():
+        shares = [[100 * float(row[f"{phase}_delivered"]) for row in some] for phase in ("settle", "crash", "heal")]
+        means = [f"{sum(values) / len(values):.1f}" for values in shares]
+        lines.append([f"`{rule}`", crash, *means, f"{min(shares[-1]):.1f} to {max(shares[-1]):.1f}"])
+    return table(["rule", "% that crash", "settled", "after the crash", "all are told", "range of these"], lines)
 
 
 def heal_table():
-    """How much of an overlay is one part after rounds of shuffles."""
-    found = grouped("papers-heal", "refill", "crash", "heal")
-    lines = [
-        [crash, *(f"{in_largest(found[rule, crash, heal]):.1f}" for rule in RULES for heal in ("0", "1", "2", "10"))]
-        for crash in CRASHES
-    ]
-    return table(["% that crash", *(f"`{rule}`: {at}" for rule in RULES for at in (0, 1, 2, 10))], lines)
+    """What broadcasts reach after rounds of shuffles, and how much of an overlay is one part."""
+    lines = []
+    for (rule, crash), some in grouped("papers-heal", "refill", "crash").items():
+        cells = []
+        for at in map(str, ROUNDS):
+            of_round = [row for row in some if row["round"] == at]
+            cells.append(f"{spread(of_round, reached, '.1f')}; {over_seeds(of_round, in_largest)[0]:.1f}")
+        lines.append([f"`{rule}`", crash, *cells])
+    return table(["rule", "% that crash", *(f"{at} round{'' if at == 1 else 's'}" for at in ROUNDS)], lines)
 
 
 def tree_table():
     """Redundancy and hops of the first messages and of later ones."""
     lines = []
     for name, senders in (("papers-one", "one"), ("papers-many", "many")):
-        found = counted(name, "refill", "order")
-        for rule in RULES:
-            for order in CHOICES["order"]:
-                line = [f"`{rule}`, {senders}, `{order}`"]
-                for first, last in ((1, 1), (2, 2), (3, 10), (11, 100), (201, 300)):
-                    some = piece(found, 0, first, last, rule, order)
-                    line.append(f"{redundancy(some):.3f}; {hops(some):.1f}")
-                lines.append(line)
-    head = ["rule, senders, order of packets", "message 1", "2", "3 to 10", "11 to 100", "201 to 300"]
-    return table(head, lines)
+        for (rule, order), some in grouped(name, "refill", "order").items():
+            line = [f"`{rule}`, {senders}, `{order}`"]
+            for ends in OF_TREE:
+                of_piece = piece(some, *ends)
+                line.append(f"{spread(of_piece, redundancy, '.3f')}; {spread(of_piece, mean_of('hops'), '.1f')}")
+            lines.append(line)
+    head = [f"message {first}" if first == last else f"{first} to {last}" for first, last in OF_TREE]
+    return table(["rule, senders, order of packets", *head], lines)
 
 
-def shape_table():
-    """The shape of settled overlays."""
-    columns = (("settle_largest", ",.0f"), ("settle_clustering", ".4f"), ("settle_path", ".3f"),
-               ("settle_diameter", ".1f"), ("settle_degree_25", ".0f"), ("settle_degree_50", ".0f"),
-               ("settle_degree_75", ".0f"))  # fmt: skip
-    found = grouped("papers-shape", "refill")
-    lines = [[f"`{rule}`", *(f"{mean(found[rule,], name):{form}}" for name, form in columns)] for rule in RULES]
-    head = ["largest component", "clustering", "path", "diameter", "degree 25 %", "50 %", "75 %"]
-    return table(["rule", *head], lines)
-
-
-# Each table by its mark in the document, each figure by its file, and the sweep that it is made of.
+CRASH = {
+    "papers-crash": ", found by sending",
+    "papers-passed": ", found by sending, and passed on to whoever is found",
+    "papers-told": ", everybody told",
+}
+VARIED = {
+    "papers-varied": ", found by sending",
+    "papers-varied-until": ", found by sending, an attempt goes on until the view is full",
+    "papers-varied-passed": ", found by sending, and passed on to whoever is found",
+    "papers-varied-both": ", the same, and an attempt goes on until the view is full",
+    "papers-varied-rounds": ", found by sending, after 50 rounds of shuffles",
+    "papers-varied-tree": ", found by sending, by Plumtree's rules",
+    "papers-varied-told": ", everybody told, one report after the other",
+    "papers-varied-at-once": ", everybody told, all reports at once",
+}
+# Each table by its mark in the document, each figure by its file, and the sweeps that it is made of.
 TABLES = {
-    "shape": (shape_table, ["papers-shape"]),
-    "crash-1000": (lambda: crash_table("papers-crash-1000"), ["papers-crash-1000"]),
-    "crash-10000": (lambda: crash_table("papers-crash-10000"), ["papers-crash-10000"]),
+    "shape": (beside_the_paper, list(SHAPES)),
+    "shape-varied": (lambda: shape_table(VARIED_SHAPES), list(VARIED_SHAPES)),
+    "crash": (lambda: crash_table(CRASH), list(CRASH)),
+    "told-250": (told_table, ["papers-told-250"]),
+    "crash-varied": (lambda: crash_table(VARIED), list(VARIED)),
     "heal": (heal_table, ["papers-heal"]),
     "tree": (tree_table, ["papers-one", "papers-many"]),
 }
 FIGURES = {
-    "papers-crash-1000.svg": (lambda: by_message("papers-crash-1000"), ["papers-crash-1000"]),
-    "papers-crash-10000.svg": (lambda: by_message("papers-crash-10000"), ["papers-crash-10000"]),
+    "papers-crash.svg": (by_message, list(CRASH)),
     "papers-heal.svg": (healing, ["papers-heal"]),
     "papers-tree.svg": (tree, ["papers-one", "papers-many"]),
 }
 
 
+def command(name):
+    """What makes the rows of a sweep, in words."""
+    return f"simulate {PAPERS[name]}" if name in PAPERS else f"shape.py {RANDOM}"
+
+
+def make_rows(name, simulate):
+    """Makes the rows of a sweep, unless they are there."""
+    if name in PAPERS:
+        make(name, simulate, None, 1)
+    elif not (ROWS / f"{name}.csv").exists():
+        ROWS.mkdir(exist_ok=True)
+        done = subprocess.run([sys.executable, "shape.py", *RANDOM.split()], stdout=subprocess.PIPE, check=True)
+        (ROWS / f"{name}.csv").write_bytes(done.stdout)
+
+
 def put(text, name):
     """The page with a table and its commands in its place, between its marks."""
     made, sources = TABLES[name]
-    commands = "; ".join(f"`simulate {PAPERS[source]}`" for source in sources)
+    commands = "; ".join(f"`{command(source)}`" for source in sources)
     lines = "\n".join([*made(), "", f"Rows: {commands}."])
     place = re.compile(rf"(<!-- table {name} -->\n).*?(<!-- end -->)", re.DOTALL)
     return place.sub(lambda found: f"{found[1]}{lines}\n{found[2]}", text)
@@ -212,7 +310,7 @@ def main():
     for name in given.names or [*TABLES, *FIGURES]:
         made, sources = (TABLES | FIGURES)[name]
         for source in sources:
-            make(source, given.simulate, None, 1)
+            make_rows(source, given.simulate)
         if name in TABLES:
             for page in PAGES:
                 page.write_text(put(page.read_text(), name))

@@ -9,13 +9,16 @@ class Shape {
     uint64_t clustering = 0;       // in parts
     std::optional<uint64_t> path;  // in parts, if two nodes are in the largest component
     std::array<size_t, 3> quartiles;
+    // for the study alone: the sums of the clustering coefficients of all nodes, and, in the largest component, of the
+    // paths between two nodes, and of the steps from each node to the one that is farthest
+    double coefficients = 0;
+    uint64_t all_steps = 0, farthest = 0;
 
     explicit Shape(const Graph& graph) : graph(graph) {
         clustering = clustering_of_all();
         find_largest();
-        uint64_t total = 0;
-        for (size_t first = 0; first < largest; first += EACH) total += steps_from(first);
-        if (largest > 1) path = total * PARTS / (largest * (largest - 1));
+        for (size_t first = 0; first < largest; first += EACH) all_steps += steps_from(first);
+        if (largest > 1) path = all_steps * PARTS / (largest * (largest - 1));
         find_quartiles();
     }
 
@@ -25,13 +28,16 @@ class Shape {
     /// So many nodes are walked from at once, one for each bit of a word.
     static constexpr size_t EACH = 64;
 
-    uint64_t clustering_of_all() const {
+    uint64_t clustering_of_all() {
         uint64_t millionths = 0;
+        coefficients = 0;
         for (auto& row : graph.neighbours) {
             uint64_t linked = 0, pairs = row.size() * (row.size() - 1) / 2;
             for (size_t one = 0; one < row.size(); one++)
                 for (size_t two = 0; two < one; two++) linked += graph.are_linked(row[one], row[two]);
-            if (row.size() > 1) millionths += linked * MILLION / pairs;
+            if (row.size() < 2) continue;
+            millionths += linked * MILLION / pairs;
+            coefficients += double(linked) / double(pairs);
         }
         return millionths / (MILLION / PARTS * graph.size());
     }
@@ -53,14 +59,17 @@ class Shape {
         uint64_t total = 0, reached = 1;
         for (uint64_t steps = 1; reached > 0; steps++) {
             reached = 0;
+            uint64_t who_reached = 0;  // a bit for each member from which somebody is so far
             for (uint32_t node : members) {
                 uint64_t comes = 0;
                 for (uint32_t other : graph.neighbours[node]) comes |= front[other];
                 next[node] = comes & ~seen[node];
                 seen[node] |= comes;
                 reached += __builtin_popcountll(next[node]);
+                who_reached |= next[node];
             }
             total += steps * reached;
+            farthest += __builtin_popcountll(who_reached);
             if (reached > 0) diameter = std::max<size_t>(diameter, steps);
             std::swap(front, next);
         }

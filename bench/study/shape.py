@@ -1,32 +1,37 @@
 #!/usr/bin/env python3
-"""shape.py --simulate PROGRAM [--nodes N] [--active A] [--runs N] [--networkx]: the shape of overlays by each rule at
-DISCONNECT, as a table.
+"""shape.py: the shape of overlays and of random graphs, counted a second time.
 
-It counts on the settled overlays of `simulate --graph`, without loss: the mean number of links of a node; the
-clustering coefficient, which is the mean over all nodes (0 where a node has fewer than two neighbours); and of the
-largest component the mean length of shortest paths between two nodes, and how far the farthest node is from a node, in
-the mean. That is how many hops a broadcast takes that is flooded over all links at the same speed.
+  --simulate PROGRAM [--nodes N] [--runs N]   holds the rows of `simulate --far` by each rule at DISCONNECT against what
+      this program counts, and networkx, on the graphs of `simulate --graph`; it ends with status 1 at a difference
+  --random --nodes N --active A [--runs N]    prints the same rows of random graphs in which each node has A links, by
+      networkx (not both numbers may be odd)
 
-With --networkx the last row is of random graphs in which each node has A links (not both numbers may be odd); and if
-there are 1,000 nodes at most, clustering and paths are counted by networkx too, and must agree.
+Counted are, without loss: the mean number of links of a node; the clustering coefficient, which is the mean over all
+nodes (0 where a node has fewer than two neighbours); and of the largest component the mean length of shortest paths
+between two nodes, the diameter, and how far the farthest node is from a node, in the mean. That is how many hops a
+broadcast takes that is flooded over all links at the same speed.
 """
 
 import argparse
+import csv
 import itertools
 import subprocess
 import sys
 
 from options import CHOICES
 
-# Nodes of an overlay that networkx counts too.
-MOST_CHECKED = 1000
+COLUMNS = ("links", "largest", "clustering", "path", "diameter", "farthest")
+
+
+def printed_by(simulate, words):
+    """What a simulation prints, by lines."""
+    return subprocess.run([simulate, *words], stdout=subprocess.PIPE, check=True, text=True).stdout.splitlines()
 
 
 def links_of(simulate, words):
     """The neighbours of each node of an overlay."""
-    printed = subprocess.run([simulate, *words, "--graph"], stdout=subprocess.PIPE, check=True, text=True).stdout
     neighbours = {}
-    for line in printed.splitlines():
+    for line in printed_by(simulate, [*words, "--graph"]):
         kind, *ids = line.split(" ")
         if kind == "node":
             neighbours[int(ids[0])] = set()
@@ -60,10 +65,15 @@ def largest(neighbours):
     return found
 
 
-def paths(neighbours):
-    """The mean length of shortest paths within the largest component, and the mean of the largest from each node. All
-    paths grow at once: of each node there is a set of whom it reaches by so many steps, as the bits of a number."""
-    nodes = sorted(largest(neighbours))
+def ones(number):
+    """How many bits of a number are set; Python 3.9 has no faster way than this."""
+    return number.bit_count() if hasattr(number, "bit_count") else bin(number).count("1")
+
+
+def paths(neighbours, part):
+    """The mean length of shortest paths within a component, the largest, and the mean of the largest from each node.
+    All paths grow at once: of each node there is a set of whom it reaches by so many steps, as the bits of a number."""
+    nodes = sorted(part)
     reached = {node: 1 << place for place, node in enumerate(nodes)}
     steps, total, farthest = 0, 0, 0
     counts = dict.fromkeys(nodes, 1)
@@ -77,61 +87,69 @@ def paths(neighbours):
                 further[node] |= reached[other]
         reached = further
         for node in nodes:
-            count = bin(reached[node]).count("1")
+            count = ones(reached[node])
             total += steps * (count - counts[node])
             counts[node] = count
-    return total / (len(nodes) * (len(nodes) - 1)), farthest / len(nodes), len(nodes)
+    return total / (len(nodes) * (len(nodes) - 1)), steps, farthest / len(nodes)
 
 
-def random_links(nodes, active, seed):
-    """The neighbours of each node of a random graph in which each node has so many links, by networkx."""
-    import networkx
+def shape_of(neighbours):
+    """The columns of a graph."""
+    part = largest(neighbours)
+    path, diameter, farthest = paths(neighbours, part)
+    links = sum(map(len, neighbours.values())) / len(neighbours)
+    return links, len(part), clustering(neighbours), path, diameter, farthest
 
-    graph = networkx.random_regular_graph(active, nodes, seed)
-    return {node: set(graph[node]) for node in graph}
 
-
-def check(neighbours, share, length):
-    """Ends the program if networkx has other numbers."""
+def by_networkx(neighbours):
+    """The same, by networkx."""
     import networkx
 
     graph = networkx.Graph(neighbours)
     part = graph.subgraph(max(networkx.connected_components(graph), key=len))
-    others = networkx.average_clustering(graph), networkx.average_shortest_path_length(part)
-    if max(abs(one - two) for one, two in zip((share, length), others)) > 1e-9:
-        sys.exit(f"shape.py: {share, length} here, {others} by networkx")
+    far = networkx.eccentricity(part)
+    path = networkx.average_shortest_path_length(part)
+    links = 2 * graph.number_of_edges() / len(graph)
+    return links, len(part), networkx.average_clustering(graph), path, max(far.values()), sum(far.values()) / len(part)
 
 
-def row(name, overlays, is_checked):
-    """The row of some overlays, in the mean."""
-    found = []
-    for neighbours in overlays:
-        share, (length, far, count) = clustering(neighbours), paths(neighbours)
-        if is_checked:
-            check(neighbours, share, length)
-        found.append((sum(map(len, neighbours.values())) / len(neighbours), count, share, length, far))
-    links, count, share, length, far = (sum(column) / len(found) for column in zip(*found))
-    return f"| {name} | {links:.2f} | {count:,.0f} | {share:.5f} | {length:.3f} | {far:.2f} |"
+def hold(simulate, words):
+    """Ends the program if the row of a simulation differs from what is counted here, or by networkx."""
+    row = list(csv.DictReader(printed_by(simulate, [*words, "--far"])))[0]
+    neighbours = links_of(simulate, words)
+    told = [float(row[column]) for column in COLUMNS]
+    for name, found in (("counted here", shape_of(neighbours)), ("by networkx", by_networkx(neighbours))):
+        if any(abs(one - two) > 1e-6 for one, two in zip(told, found)):
+            sys.exit(f"{' '.join(words)}\n{told} of simulate, {found} {name}")
+
+
+def random_rows(nodes, active, runs):
+    """The rows of random graphs."""
+    import networkx
+
+    print("nodes,active,seed", *COLUMNS, sep=",")
+    for seed in range(runs):
+        graph = networkx.random_regular_graph(active, nodes, seed)
+        found = shape_of({node: set(graph[node]) for node in graph})
+        print(nodes, active, seed, *(f"{value:.6f}" for value in found), sep=",", flush=True)
 
 
 def main():
     parser = argparse.ArgumentParser(description=__doc__, formatter_class=argparse.RawDescriptionHelpFormatter)
-    parser.add_argument("--simulate", required=True)
-    parser.add_argument("--nodes", type=int, default=10000)
+    asked = parser.add_mutually_exclusive_group(required=True)
+    asked.add_argument("--simulate")
+    asked.add_argument("--random", action="store_true")
+    parser.add_argument("--nodes", type=int, default=200)
     parser.add_argument("--active", type=int, default=5)
     parser.add_argument("--runs", type=int, default=1)
-    parser.add_argument("--networkx", action="store_true")
     given = parser.parse_args()
-    is_checked, seeds = given.networkx and given.nodes <= MOST_CHECKED, range(given.runs)
-    print("| rule | links of a node | largest component | clustering coefficient | mean shortest path | farthest |")
-    print("|---|---:|---:|---:|---:|---:|")
-    for rule in CHOICES["refill"]:
-        words = f"--nodes {given.nodes} --active {given.active} --refill {rule} --rounds 0 --heal 0 --seed".split(" ")
-        overlays = (links_of(given.simulate, [*words, str(seed)]) for seed in seeds)
-        print(row(f"`{rule}`", overlays, is_checked), flush=True)
-    if given.networkx:
-        overlays = (random_links(given.nodes, given.active, seed) for seed in seeds)
-        print(row("random graph", overlays, is_checked))
+    if given.random:
+        random_rows(given.nodes, given.active, given.runs)
+        return
+    for rule, seed in itertools.product(CHOICES["refill"], range(given.runs)):
+        words = f"--nodes {given.nodes} --active {given.active} --refill {rule} --rounds 0 --heal 0 --seed {seed}"
+        hold(given.simulate, words.split(" "))
+    print(f"{len(CHOICES['refill']) * given.runs} overlays: all numbers agreed")
 
 
 if __name__ == "__main__":

@@ -32,6 +32,10 @@ settings are grown, that of the first option of the table varying slowest, each 
   --degrees    a row for each overlay: how many nodes of the settled overlay have each number of links, for one active
                size; and of those with one link, how many have a neighbour whose active view is full
   --alone      a line for each node that is alone in the settled overlay
+  --far        a row for each overlay, of the settled one: links, the largest component, its paths, and how far the
+               node is that is farthest from a node, in the mean of all: the hops of a broadcast that is flooded
+  --healing    a row before each round of shuffles of the phase heal, and one after the last: live nodes, the largest
+               component, and what broadcasts delivered, which are made then, and not only at the end of the phase
   --splits     a row for each part that a birth, and the turns after it, cut off the rest of its component while nodes
                join; and one for each birth that made one component of several
   --exact N    up to N nodes the node connectivity is found exactly (512); beyond that only whether it is 0
@@ -39,6 +43,14 @@ settings are grown, that of the first option of the table varying slowest, each 
 What the tool has no option for:
   --sequential, --sender N, --detect   as docs/GROWING.md says ("Further options"); the tool will have them
   --reports-at-once   all reports come before a packet moves when the overlay begins to heal
+  --one-contact       everybody joins by node 1
+  --until-full        an attempt that found a neighbour goes on while the active view has a free place
+  --fill              a node with a free place starts an attempt before it starts a shuffle
+  --pass-on           whoever an attempt finds gets the newest broadcast too, if the node that looked for it has that
+  --flood             a broadcast goes to all neighbours, and nobody sends PRUNE
+  --only PHASE        broadcasts are made in the phase settle, crash or heal alone
+  --grow-once         the crashes of a list befall the same overlay, which is grown once for each seed: the same rows,
+                      sooner, in another order
 )";
 
 [[noreturn]] void refuse(const std::string& why) {
@@ -46,7 +58,7 @@ What the tool has no option for:
     exit(2);
 }
 
-enum class Mode { People, Csv, Messages, Scenario, Fates, Degrees, Alone, Splits, Graph };
+enum class Mode { People, Csv, Messages, Scenario, Fates, Degrees, Alone, Splits, Graph, Far, Healing };
 
 // Options as words: each option of the table, in its order, with the values that it may take.
 
@@ -209,18 +221,18 @@ void print_csv_header(Further further) {
     printf("\n");
 }
 
-std::string delivered(const Phase& phase, unsigned broadcasts) {
-    if (broadcasts == 0) return "";
-    return decimal(phase.deliveries() * PARTS / (broadcasts * phase.graph.size()));
+std::string delivered(const Phase& phase) {
+    if (phase.costs.empty()) return "";
+    return decimal(phase.deliveries() * PARTS / (phase.costs.size() * phase.graph.size()));
 }
 
 std::string exact(const Phase& phase) { return phase.connectivity ? std::to_string(phase.connectivity->k) : ""; }
 
-void print_csv(const Setting& said, const Options& options, const Growing& grown, Further further) {
+void print_csv(const Setting& said, const Growing& grown, Further further) {
     printf("%s", fields(said).c_str());
     for (const Phase& phase : grown.phases)
         printf(",%zu,%s,%zu,%zu,%u,%s", phase.graph.size(), exact(phase).c_str(), phase.graph.least_degree(),
-               phase.graph.links(), phase.moment, delivered(phase, options.broadcasts).c_str());
+               phase.graph.links(), phase.moment, delivered(phase).c_str());
     if (further.any()) printf("%s", further_fields(said).c_str());
     further.print(grown.phases);
     printf("\n");
@@ -231,10 +243,10 @@ size_t nodes_of_degree(const Graph& graph, size_t degree) {
                          [&](auto& row) { return row.size() == degree; });
 }
 
-void print_for_people(const Phase& phase, unsigned broadcasts) {
+void print_for_people(const Phase& phase) {
     const Graph& graph = phase.graph;
     auto sizes = graph.components();
-    std::string share = delivered(phase, broadcasts);
+    std::string share = delivered(phase);
     printf("%-6s entries %u nodes %zu components %zu largest %zu alone %zu least degree %zu links %zu k %s%s%s\n",
            phase.name.c_str(), phase.moment, graph.size(), sizes.size(), *std::max_element(sizes.begin(), sizes.end()),
            nodes_of_degree(graph, 0), graph.least_degree(), graph.links(),
@@ -302,6 +314,22 @@ void print_fates(const Setting& said, const Fates& fates) {
            fates.hold_somebody, fates.have_passive, fates.are_passive, fates.half_links);
 }
 
+void print_far(const Setting& said, const Graph& graph) {
+    Shape shape(graph);
+    double nodes = graph.size(), pairs = double(shape.largest) * (shape.largest - 1);
+    printf("%s,%.6f,%zu,%.6f,%.6f,%zu,%.6f\n", fields(said).c_str(), 2 * graph.links() / nodes, shape.largest,
+           shape.coefficients / nodes, shape.all_steps / pairs, shape.diameter, double(shape.farthest) / shape.largest);
+}
+
+/// Of each phase `heal`, of which there is one before each round of shuffles, and one after the last.
+void print_healing(const Setting& said, const std::vector<Phase>& phases) {
+    for (size_t at = 2; at < phases.size(); at++) {
+        auto sizes = phases[at].graph.components();
+        printf("%s,%zu,%zu,%zu,%s\n", fields(said).c_str(), at - 2, phases[at].graph.size(),
+               *std::max_element(sizes.begin(), sizes.end()), delivered(phases[at]).c_str());
+    }
+}
+
 void print_graph(const Graph& graph) {
     for (Id node : graph.ids) printf("node %u\n", node);
     for (uint32_t place = 0; place < graph.size(); place++)
@@ -357,34 +385,61 @@ struct Request {
     std::map<std::string, std::vector<std::string>> lists;
     uint64_t runs = 1, exact = 512;
     Mode mode = Mode::People;
-    bool reports_at_once = false;
+    bool reports_at_once = false, one_contact = false, until_full = false, fills = false, floods = false,
+         passes_on = false, grow_once = false;
+    std::string only;
     Further further;
 };
 
-void run(const Request& request, const Setting& said) {
+/// The options of a run, with those that the tool does not have.
+Options options_for(const Request& request, const Setting& said) {
     Options options = options_of(said);
     options.reports_at_once = request.reports_at_once;
+    options.one_contact = request.one_contact;
+    options.each_round = request.mode == Mode::Healing;
+    options.only = request.only;
+    options.params.until_full = request.until_full;
+    options.params.fills = request.fills;
+    options.params.floods = request.floods;
+    options.params.passes_on = request.passes_on;
+    return options;
+}
+
+/// What is printed of an overlay when all its phases are over.
+void print_grown(const Request& request, const Setting& said, const Options& options, const Growing& grown) {
+    if (request.mode == Mode::Csv) print_csv(said, grown, request.further);
+    if (request.mode == Mode::Healing) print_healing(said, grown.phases);
+    if (request.mode == Mode::Messages)
+        for (const Phase& phase : grown.phases) print_messages(fields(said) + further_fields(said), phase);
+    if (request.mode != Mode::Scenario) return;
+    const Params& p = options.params;
+    std::string rule = p.refill == Refill::Never ? "" : "refill " + said.at("refill") + "\n";
+    printf("# %s\nparams %u %u %u %u %u %u %u\nseed %lu\n%s%s", heading(said).c_str(), p.active, p.passive, p.arwl,
+           p.prwl, p.ka, p.kp, p.ttl, options.seed, rule.c_str(), grown.lines.c_str());
+}
+
+void run(const Request& request, Setting said) {
+    Options options = options_for(request, said);
     Growing growing(options, request.exact, request.mode == Mode::Scenario);
     if (request.mode == Mode::People) printf("%s\n", heading(said).c_str());
     growing.watch = [&](const Phase& phase) {
         bool is_settled = phase.name == "settle";
-        if (request.mode == Mode::People) print_for_people(phase, options.broadcasts);
+        if (request.mode == Mode::People) print_for_people(phase);
         if (request.mode == Mode::Fates && is_settled) print_fates(said, Fates(phase.graph, growing.world.nodes));
         if (request.mode == Mode::Degrees && is_settled) print_degrees(said, phase.graph, options.params.active);
         if (request.mode == Mode::Graph && is_settled) print_graph(phase.graph);
+        if (request.mode == Mode::Far && is_settled) print_far(said, phase.graph);
         if (request.mode == Mode::Alone && is_settled) print_alone(phase.graph, growing.world.nodes);
     };
     Splits splits;
     if (request.mode == Mode::Splits) growing.watch_birth = [&] { splits.look(said, Graph(growing.world.nodes)); };
-    growing.grow();
-    if (request.mode == Mode::Csv) print_csv(said, options, growing, request.further);
-    if (request.mode == Mode::Messages)
-        for (const Phase& phase : growing.phases) print_messages(fields(said) + further_fields(said), phase);
-    if (request.mode == Mode::Scenario) {
-        const Params& p = options.params;
-        std::string rule = p.refill == Refill::Never ? "" : "refill " + said.at("refill") + "\n";
-        printf("# %s\nparams %u %u %u %u %u %u %u\nseed %lu\n%s%s", heading(said).c_str(), p.active, p.passive, p.arwl,
-               p.prwl, p.ka, p.kp, p.ttl, options.seed, rule.c_str(), growing.lines.c_str());
+    growing.begin();
+    for (const std::string& crash : request.grow_once ? request.lists.at("crash") : std::vector{said["crash"]}) {
+        said["crash"] = crash;
+        options = options_for(request, said);
+        Growing one = growing;
+        one.end(options);
+        print_grown(request, said, options, one);
     }
 }
 
@@ -405,7 +460,8 @@ int run_all(const Request& request, Setting said, size_t option) {
         return status;
     }
     auto list = request.lists.find(TABLE[option].name);
-    if (list == request.lists.end()) return run_all(request, said, option + 1);
+    bool is_later = request.grow_once && std::string("crash") == TABLE[option].name;
+    if (list == request.lists.end() || is_later) return run_all(request, said, option + 1);
     int status = 0;
     for (const std::string& value : list->second) {
         said[list->first] = value;
@@ -414,11 +470,22 @@ int run_all(const Request& request, Setting said, size_t option) {
     return status;
 }
 
+/// What words ask for, besides the options.
+const std::map<std::string, Mode> MODES = {
+    {"csv", Mode::Csv},         {"messages", Mode::Messages}, {"scenario", Mode::Scenario}, {"fates", Mode::Fates},
+    {"degrees", Mode::Degrees}, {"alone", Mode::Alone},       {"splits", Mode::Splits},     {"graph", Mode::Graph},
+    {"far", Mode::Far},         {"healing", Mode::Healing}};
+
+const std::map<std::string, bool Request::*> SWITCHES = {{"reports-at-once", &Request::reports_at_once},
+                                                         {"one-contact", &Request::one_contact},
+                                                         {"until-full", &Request::until_full},
+                                                         {"fill", &Request::fills},
+                                                         {"flood", &Request::floods},
+                                                         {"pass-on", &Request::passes_on},
+                                                         {"grow-once", &Request::grow_once}};
+
 Request request_of(int count, char** words) {
     Request request;
-    const std::map<std::string, Mode> modes = {
-        {"csv", Mode::Csv},         {"messages", Mode::Messages}, {"scenario", Mode::Scenario}, {"fates", Mode::Fates},
-        {"degrees", Mode::Degrees}, {"alone", Mode::Alone},       {"splits", Mode::Splits},     {"graph", Mode::Graph}};
     for (int at = 1; at < count; at++) {
         std::string word = words[at], name = word.substr(0, 2) == "--" ? word.substr(2) : "";
         auto next = [&] { return ++at < count ? std::string(words[at]) : (refuse(word + " lacks its value"), ""); };
@@ -431,10 +498,14 @@ Request request_of(int count, char** words) {
             request.runs = number(name, next());
         } else if (name == "exact") {
             request.exact = number(name, next());
-        } else if (modes.count(name)) {
-            request.mode = modes.at(name);
-        } else if (name == "reports-at-once") {
-            request.reports_at_once = true;
+        } else if (MODES.count(name)) {
+            request.mode = MODES.at(name);
+        } else if (SWITCHES.count(name)) {
+            request.*SWITCHES.at(name) = true;
+        } else if (name == "only") {
+            request.only = next();
+            if (std::find(std::begin(PHASES), std::end(PHASES), request.only) == std::end(PHASES))
+                refuse("--only is settle, crash or heal");
         } else if (name == "costs") {
             request.further.costs = true;
         } else if (name == "shape") {
@@ -443,6 +514,7 @@ Request request_of(int count, char** words) {
             refuse("no option " + word);
         }
     }
+    if (request.grow_once && !request.lists.count("crash")) refuse("--grow-once needs --crash");
     if (request.mode == Mode::Messages && !request.lists.count("sequential")) refuse("--messages needs --sequential");
     if (request.mode != Mode::Csv && request.further.any()) refuse("--costs and --shape need --csv");
     return request;
@@ -456,6 +528,9 @@ int main(int count, char** words) {
     if (request.mode == Mode::Messages)
         printf("%s%s,%s\n", field_names().c_str(), further_names().c_str(), MESSAGE_COLUMNS);
     if (request.mode == Mode::Fates) print_fates_header();
+    if (request.mode == Mode::Far)
+        printf("%s,links,largest,clustering,path,diameter,farthest\n", field_names().c_str());
+    if (request.mode == Mode::Healing) printf("%s,round,live,largest,delivered\n", field_names().c_str());
     if (request.mode == Mode::Splits) Splits::print_header();
     if (request.mode == Mode::Degrees) {
         auto sizes = request.lists.count("active") ? request.lists["active"] : std::vector<std::string>{"5"};

@@ -43,16 +43,37 @@ SIMULATED = {
     "at-once": "--nodes 50,100,200 --active 5,8 --crash 20 --runs 500 --csv --reports-at-once",
 }
 # Rows of docs/PAPERS.md, of `simulate` alone.
-_RULES = "--refill never,alone,always --rounds 10"
-_CRASHES = "--crash 10,20,30,40,50,60,70,80,90,95 --detect"
-_ONE_BY_ONE = "--heal 0 --broadcasts 100 --sequential --messages"
+_GROWN = "--nodes 10000 --refill"
+_SHAPE = "--nodes 10000 --heal 0 --exact 1 --far --refill"
+_CRASHES = "--grow-once --crash 10,30,50,70,80,90,95"
+_ONE_BY_ONE = "--sequential --exact 1"
+_AFTER = f"--detect --heal 0 --only crash {_ONE_BY_ONE} --messages"
+_SMALLER = "--nodes 1000 --refill never,always --grow-once --crash 70,80,90"
+_TOLD = f"--flood --heal 0 --only heal {_ONE_BY_ONE} --messages"
+_TREE = "--nodes 10000 --refill always --order random,oldest --heal 0 --only settle --broadcasts 20"
 PAPERS = {
-    "papers-shape": "--nodes 10000 --refill never,alone,always --rounds 0 --heal 0 --runs 3 --csv --shape",
-    "papers-crash-1000": f"--nodes 1000 {_RULES} {_CRASHES} {_ONE_BY_ONE} --runs 3",
-    "papers-crash-10000": f"--nodes 10000 {_RULES} {_CRASHES} {_ONE_BY_ONE}",
-    "papers-heal": f"--nodes 1000 {_RULES} {_CRASHES} --heal 0,1,2,3,4,6,10 --runs 3 --csv --shape",
-    "papers-many": f"--nodes 1000 {_RULES} --order random,oldest {_ONE_BY_ONE} --runs 3",
-    "papers-one": f"--nodes 1000 {_RULES} --order random,oldest --sender 1 {_ONE_BY_ONE} --runs 3",
+    "papers-shape": f"{_SHAPE} never,alone,always --rounds 0 --runs 5",
+    "papers-shape-fill": f"{_SHAPE} never,alone,always --rounds 3 --fill --runs 3",
+    "papers-shape-filled": f"{_SHAPE} alone --rounds 10 --fill --runs 3",
+    "papers-shape-contact": f"{_SHAPE} always --rounds 0 --one-contact --runs 3",
+    "papers-shape-oldest": f"{_SHAPE} always --rounds 0 --order oldest --runs 3",
+    "papers-crash": f"{_GROWN} never,always {_CRASHES} --flood {_AFTER} --broadcasts 20 --runs 3",
+    "papers-told": f"{_GROWN} never,always {_CRASHES} {_TOLD} --broadcasts 5 --runs 3",
+    "papers-told-250": "--nodes 250 --refill never,alone,always --crash 50,70,80,90,95 --heal 0 --broadcasts 5 "
+    "--runs 20 --csv",
+    "papers-passed": f"{_GROWN} never,always {_CRASHES} --flood --pass-on {_AFTER} --broadcasts 20 --runs 2",
+    "papers-varied": f"{_SMALLER} {_AFTER} --broadcasts 200 --flood --runs 5",
+    "papers-varied-until": f"{_SMALLER} {_AFTER} --broadcasts 50 --flood --until-full --runs 5",
+    "papers-varied-passed": f"{_SMALLER} {_AFTER} --broadcasts 50 --flood --pass-on --runs 5",
+    "papers-varied-both": f"{_SMALLER} {_AFTER} --broadcasts 50 --flood --pass-on --until-full --runs 5",
+    "papers-varied-rounds": f"{_SMALLER} {_AFTER} --broadcasts 50 --flood --rounds 50 --runs 5",
+    "papers-varied-tree": f"{_SMALLER} {_AFTER} --broadcasts 50 --runs 5",
+    "papers-varied-told": f"{_SMALLER} {_TOLD} --broadcasts 10 --runs 5",
+    "papers-varied-at-once": f"{_SMALLER} {_TOLD} --broadcasts 10 --reports-at-once --runs 5",
+    "papers-heal": f"{_GROWN} never,always {_CRASHES} --flood --detect --heal 4 --only heal --broadcasts 1 "
+    f"{_ONE_BY_ONE} --healing --runs 3",
+    "papers-one": f"{_TREE} --sender 1 {_ONE_BY_ONE} --messages --runs 3",
+    "papers-many": f"{_TREE} {_ONE_BY_ONE} --messages --runs 3",
 }
 LARGE = ("large-100", "large-1000", "large-10000", "large-100000")
 # The same by each rule at DISCONNECT.

@@ -86,7 +86,7 @@ class World {
     template <class Deed>
     void act(Id id, Pcg64 drawn, Deed deed) {
         sends.clear();
-        Step step(params, node(id), drawn, entries, sends);
+        Step step(params, node(id), drawn, entries, tally.costs.size(), sends);
         deed(step);
         if (step.delivers) tally.deliver(step.delivers->message, step.delivers->hops);
         for (const Packet& packet : sends) {

@@ -23,11 +23,13 @@ import tempfile
 import time
 from abc import ABC, abstractmethod
 from dataclasses import dataclass
-from typing import Callable, ClassVar, FrozenSet, Iterable, Mapping, NoReturn, Optional, Sequence, TypeVar
+from typing import Callable, ClassVar, FrozenSet, Iterable, Mapping, NoReturn, Optional, Sequence, Tuple, TypeVar
 
 TOP = pathlib.Path(__file__).resolve().parents[2]
-# How many relays there are, and how many hosts each of the two clusters has then.
-SIZES = {2: 5, 3: 6, 4: 7}
+# How many relays there are, and how many hosts each of the two clusters has then, unless others are asked for.
+SIZES = "2x5,3x6,4x7"
+# So many hosts an overlay has at most: the daemons of all rounds run at once.
+MOST_HOSTS = 100
 # So many fresh overlays of each size lose one host fewer than the cut has.
 FEWER_ROUNDS = 3
 # Whatever happens, a kind of overlay is given up after so many seconds.
@@ -36,6 +38,8 @@ LIMIT = 500
 Hosts = FrozenSet[str]
 # Each host with the hosts that it is linked to.
 Links = Mapping[str, Hosts]
+# So many relays, and hosts of each cluster.
+Size = Tuple[int, int]
 Result = TypeVar("Result")
 
 
@@ -96,6 +100,32 @@ def links_in(graph: str) -> Links:
     return links_of(names.values(), [(names[a], names[b]) for a, b in re.findall(r"(?m)^link (\d+) (\d+)$", graph)])
 
 
+def next_ones(relays: int) -> int:
+    """To how many next hosts on either side each host of a cluster is linked, so that it has more links than there are
+    relays."""
+    return relays // 2 + 1
+
+
+def sizes_of(text: str) -> list[Size]:
+    """The sizes that a text says: RELAYSxHOSTS, with commas between two."""
+    found = []
+    for word in text.split(","):
+        said = re.fullmatch(r"([1-9]\d?)x([1-9]\d?)", word)
+        if not said:
+            raise argparse.ArgumentTypeError(f"{word!r} is not RELAYSxHOSTS, as 3x6")
+        relays, hosts = int(said[1]), int(said[2])
+        least = 2 * next_ones(relays) + 1
+        if relays < 2 or hosts < least or relays + 2 * hosts > MOST_HOSTS:
+            raise argparse.ArgumentTypeError(
+                f"{word}: there are 2 relays or more, so that fewer crashes can be tried; {least} hosts or more in a "
+                f"cluster beside {relays}, so that each has more links than that; and {MOST_HOSTS} hosts at most"
+            )
+        found.append((relays, hosts))
+    if len(set(found)) < len(found):
+        raise argparse.ArgumentTypeError("a size stands there twice")
+    return found
+
+
 def two_clusters(relays: int, size: int) -> Links:
     """Two clusters of so many hosts, and relays between them, which alone have links into both.
 
@@ -105,7 +135,7 @@ def two_clusters(relays: int, size: int) -> Links:
     pairs = []
     for place in "oslo", "berlin":
         hosts = [f"{place}{at + 1}" for at in range(size)]
-        for step in range(relays // 2 + 1):
+        for step in range(next_ones(relays)):
             pairs += [(hosts[at], hosts[(at + step + 1) % size]) for at in range(size)]
             pairs += [(f"relay{at + 1}", hosts[(at + step) % size]) for at in range(relays)]
     return links_of(itertools.chain(*pairs), pairs)
@@ -256,7 +286,6 @@ class Trial:
     """An overlay, the answer for its first dump, what is killed of it, and what the next dump says."""
 
     overlay: Overlay
-    relays: int
     number: int
     answer: Answer
     killed: list[str]
@@ -308,19 +337,19 @@ class Lab:
             return answer.cut
         return sorted(self.chance.sample(answer.cut if number == 1 else sorted(answer.links), answer.k - 1))
 
-    def trials(self, sizes: Sequence[int]) -> list[Trial]:
+    def trials(self, sizes: Sequence[Size]) -> list[Trial]:
         """Starts overlays, kills hosts of each, and checks what the others say."""
         found, overlays = [], {}
-        for key in itertools.product(sizes, range(1 + FEWER_ROUNDS)):
-            name = "{}-{}-{}".format(self.kind.package, *key)
-            overlays[key] = self.kind(self.room, name, two_clusters(key[0], SIZES[key[0]]))
+        for (relays, hosts), number in itertools.product(sizes, range(1 + FEWER_ROUNDS)):
+            name = f"{self.kind.package}-{relays}x{hosts}-{number}"
+            overlays[relays, hosts, number] = self.kind(self.room, name, two_clusters(relays, hosts))
         tell(f"{self.title}: {len(overlays)} overlays start, of {sum(len(it.links) for it in overlays.values())} hosts")
         for it in overlays.values():
             it.start()
-        for (relays, number), it in overlays.items():
+        for (_, _, number), it in overlays.items():
             graph = wait_for(f"{it.name}: the dump has each link", it.dump_seconds, lambda: self.whole_graph(it))
             answer = self.programs.answer(graph)
-            found.append(Trial(it, relays, number, answer, self.victims(answer, number)))
+            found.append(Trial(it, number, answer, self.victims(answer, number)))
         tell(f"{self.title}: the dumps have each link, and the certificates hold; hosts are killed")
         for trial in found:
             trial.overlay.crash(trial.killed)
@@ -373,6 +402,13 @@ def main(kinds: Sequence[type[Overlay]], description: Optional[str]) -> int:
     takes.add_argument("--overlay", metavar="PROGRAM", default=str(TOP / "bin/overlay"))
     takes.add_argument("--overlay-check", metavar="PROGRAM", default=str(TOP / "bin/overlay-check"))
     takes.add_argument("--seed", type=int, default=1, help="of the choice of hosts that are killed; 1 without it")
+    takes.add_argument(
+        "--sizes",
+        type=sizes_of,
+        default=SIZES,
+        metavar="SIZES",
+        help=f"RELAYSxHOSTS,..: so many relays, and hosts of each of two clusters; {SIZES} without it",
+    )
     asked = takes.parse_args()
     endings = (signal.SIGINT, signal.SIGTERM, signal.SIGHUP, signal.SIGALRM)
     room = Room()
@@ -385,7 +421,7 @@ def main(kinds: Sequence[type[Overlay]], description: Optional[str]) -> int:
         print(HEAD, flush=True)
         for lab in labs:
             signal.alarm(LIMIT)
-            for sizes in [list(SIZES)] if lab.kind.is_light else [[it] for it in SIZES]:
+            for sizes in [asked.sizes] if lab.kind.is_light else [[it] for it in asked.sizes]:
                 for trial in lab.trials(sizes):
                     print(row(lab.title, trial), flush=True)
         return 0

@@ -1,5 +1,6 @@
 #!/usr/bin/env -S python3 -B
-"""tinc.py [--overlay PROGRAM] [--overlay-check PROGRAM] [--seed N]: tries the answers of `overlay` on overlays of tinc.
+"""tinc.py [--overlay PROGRAM] [--overlay-check PROGRAM] [--seed N] [--sizes SIZES]: tries the answers of
+`overlay` on overlays of tinc.
 
 Each host is a daemon of tinc without a network device, which links to its neighbours by TCP. The dump is the graph that
 one daemon writes in DOT once a minute, and that `overlay import --dot` reads as it is. Whom a daemon reaches it writes

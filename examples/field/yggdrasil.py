@@ -1,6 +1,6 @@
 #!/usr/bin/env -S python3 -B
-"""yggdrasil.py [--overlay PROGRAM] [--overlay-check PROGRAM] [--seed N]: tries the answers of `overlay` on overlays of
-Yggdrasil.
+"""yggdrasil.py [--overlay PROGRAM] [--overlay-check PROGRAM] [--seed N] [--sizes SIZES]: tries the answers of
+`overlay` on overlays of Yggdrasil.
 
 Each host is a daemon of Yggdrasil without a network device, which links to its neighbours by TCP. The dump is made of
 what each daemon says of its peers, by `yggdrasilctl getPeers`. One daemon reaches another if that answers

@@ -13,7 +13,7 @@ import sys
 from typing import Callable, Dict, List, Optional, Sequence, Tuple
 
 from .crashes import Crash, each, racks_of
-from .dumps import Dump, Options, read_dump
+from .dumps import Dump, Options, last_change, read_dump
 from .errors import BadDump, TagzirkError, in_words
 from .forms import FORMS, Asked
 from .graphs import UNSHOWN, NamedGraph, code, shown
@@ -214,8 +214,8 @@ def run_metrics(words: argparse.Namespace) -> int:
 
 def run_report(words: argparse.Namespace) -> int:
     dump = dump_of(words)
-    is_file = len(words.files) == 1 and os.path.isfile(words.files[0])
-    taken = datetime.datetime.fromtimestamp(os.stat(words.files[0]).st_mtime).astimezone() if is_file else None
+    changed = last_change(words.files)
+    taken = None if changed is None else datetime.datetime.fromtimestamp(changed).astimezone()
     with Progress() as progress:
         text = page(dump, words.to, taken=taken, progress=progress)
     sys.stdout.write(text)
@@ -289,6 +289,9 @@ def main(given: Optional[Sequence[str]] = None) -> int:
         if isinstance(stream, io.TextIOWrapper):
             # as the programs print, whatever the system prefers
             stream.reconfigure(encoding="utf-8", errors="backslashreplace", newline="\n")
+    if not (sys.argv[1:] if given is None else given):
+        parser().print_help(sys.stderr)
+        return 2
     words = parser().parse_args(given)
     try:
         status: int = words.run(words)

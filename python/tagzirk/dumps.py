@@ -20,6 +20,11 @@ GRAPH_FILE = re.compile(r"(?:[ \t\r]*(?:#[^\n]*)?\n)*[ \t\r]*(?:node|link) +\d")
 NAME = re.compile(r"# (\d+) (.*)")
 ONE_SIDED = re.compile(r"^listed by one end only: (\d+)$", re.MULTILINE)
 WITHOUT_ENTRY = re.compile(r"^listed without an entry: (\d+)$", re.MULTILINE)
+# What overlay says of a first line that may be a header.
+HEADER = re.compile(r"^(line \d+: (\S+) and (\S+) stand in no other line; if it is a header, remove it)$", re.MULTILINE)
+FIRST_LINE = re.compile(r"line 1 is no pair of names: `.* stands behind them")
+# What overlay says of this command, which is no advice here.
+OF_THIS = re.compile(r"; `tagzirk import` of the Python package reads (?:it|more forms)$", re.MULTILINE)
 # The words of a refusal of DOT that Graphviz may read all the same.
 BY_GRAPHVIZ = ("in place of a subgraph", "an HTML text")
 
@@ -90,14 +95,26 @@ def contents_of(places: Sequence[str]) -> Dict[pathlib.Path, bytes]:
             if sys.stdin.isatty():
                 print("reading standard input, to its end (Ctrl-D)", file=sys.stderr)
             found[pathlib.Path("standard input")] = sys.stdin.buffer.read()
-        elif os.path.isdir(place):
-            inner = sorted(it for it in pathlib.Path(place).iterdir() if it.is_file() and it.name[0] != ".")
-            if not inner:
-                raise BadDump(f"{place}: the folder has no files")
-            found.update((it, it.read_bytes()) for it in inner)
         else:
-            found[pathlib.Path(place)] = pathlib.Path(place).read_bytes()
+            found.update((it, it.read_bytes()) for it in files_at(place))
     return found
+
+
+def files_at(place: str) -> List[pathlib.Path]:
+    """The file of this name, or the files in the folder of this name but hidden ones."""
+    if not os.path.isdir(place):
+        return [pathlib.Path(place)]
+    inner = sorted(it for it in pathlib.Path(place).iterdir() if it.is_file() and it.name[0] != ".")
+    if not inner:
+        raise BadDump(f"{place}: the folder has no files")
+    return inner
+
+
+def last_change(places: Sequence[str]) -> Optional[float]:
+    """When that file of a dump was last changed which is oldest, in seconds since 1970; None if no place but standard
+    input is named. So a host whose file is no longer written makes the dump old."""
+    files = [it for place in places if place != "-" for it in files_at(place)]
+    return min((it.stat().st_mtime for it in files), default=None)
 
 
 def read_dump(
@@ -111,6 +128,14 @@ def read_dump(
 
     `overlay import` reads it as it is, if it is of one of its forms. Any other form is turned into views first. With
     `is_graph_taken` a graph file is taken as it is. `Refused` and `BadDump` say why a dump can't be read.
+
+    >>> import pathlib, tempfile
+    >>> with tempfile.TemporaryDirectory() as room:
+    ...     for host, peers in ("oslo", "rome\\nbern\\n"), ("rome", "oslo\\n"), ("bern", "oslo\\n"):
+    ...         _ = pathlib.Path(room, f"{host}.txt").write_text(peers)
+    ...     dump = read_dump([room])
+    >>> dump.graph.ids, dump.graph.links, dump.one_sided
+    ({'bern': 1, 'oslo': 2, 'rome': 3}, [[1, 2], [2, 3]], 0)
     """
     if len(places) == 1 and not os.path.isdir(places[0]):
         ((place, data),) = contents_of(places).items()
@@ -122,6 +147,8 @@ def read_dump(
     views = of_hosts(files, options.asked)
     name = places[0] if len(places) == 1 else f"{len(files)} files"
     told = notes_on(views, name)
+    if len(places) > 1:
+        told[0] = f"read {views.kind}"
     try:
         return imported(json.dumps(views.value).encode(), name, ["--views", *options.words], told, overlay)
     except Refused as why:
@@ -140,9 +167,10 @@ def named_error(why: Exception, name: str) -> Exception:
     """The same error, with the name of the file."""
     if isinstance(why, Refused):
         # overlay was given the dump on standard input, and not by such options
-        reason = re.sub(
-            r"--(views|edges|dot)\b", r"--form \1", why.reason.replace("tip: standard input", f"tip: {name}")
-        )
+        reason = OF_THIS.sub("", why.reason.replace("tip: standard input", f"tip: {name}"))
+        reason = re.sub(r"--(views|edges|dot)\b", r"--form \1", reason)
+        if FIRST_LINE.search(reason):
+            reason += "\nif the first line is a header, --columns FROM,TO names the columns of both ends"
         return Refused(why.number, why.line, f"{name}: {reason}")
     return type(why)(f"{name}: {why}")
 
@@ -194,4 +222,5 @@ def imported(data: bytes, name: str, words: Sequence[str], notes: Sequence[str],
     if ended.status != 0:
         refuse(*ended.err.partition("\n")[::2])
     counts = [int(said[1]) if said else 0 for said in (ONE_SIDED.search(ended.err), WITHOUT_ENTRY.search(ended.err))]
-    return Dump(name, ended.out, (*notes, *ended.err.splitlines()), *counts)
+    told = HEADER.sub(r"\1, or say --columns \2,\3", OF_THIS.sub("", ended.err))
+    return Dump(name, ended.out, (*notes, *told.splitlines()), *counts)

@@ -12,7 +12,18 @@ from typing import Any, Dict, List, NamedTuple, Optional, Tuple
 
 from .errors import BadDump, LibraryMissing
 from .lines import of_lines, rows_of
-from .values import NAME_KEYS, PEER_KEYS, Views, is_list_of_names, is_views, key_in, name_of, names_of, views_of
+from .values import (
+    NAME_KEYS,
+    PEER_KEYS,
+    Views,
+    is_list_of_names,
+    is_views,
+    key_around,
+    key_in,
+    name_of,
+    names_of,
+    views_of,
+)
 
 # The forms that can be asked for. Those of `overlay import` are its own.
 NATIVE = ("views", "edges", "dot")
@@ -21,6 +32,9 @@ GML = re.compile(
     r"(?:\s*#[^\n]*\n|\s*(?:creator|version|comment|directed|label)\b[^\n]*\n)*\s*graph\s*\[", re.IGNORECASE
 )
 XML = re.compile(r"\s*<(?:\?xml\b|!--|graphml\b|gexf\b|!doctype\b)", re.IGNORECASE)
+# The first line of YAML, where the file's name does not say that it is YAML: an item of a list; a key with a list or an
+# object in brackets, which may go on in the next line; an object whose first key has no quotes.
+YAML = re.compile(r"- .*|[^\s\[{#].*?:\s*[\[{](?:.*[\]},\[{])?|\{\s*[^\s\"'{}\[\],:]+\s*:(?:\s.*)?")
 # Endings of a file's name that are no part of the host's, where each file is of one host.
 ENDINGS = (".json", ".txt", ".yaml", ".yml", ".peers", ".list", ".out")
 # How files begin that are no text.
@@ -186,6 +200,20 @@ def of_graphviz(data: bytes) -> Views:
     return views
 
 
+def begins_yaml(text: str) -> bool:
+    """Whether a text begins like YAML, and like no other form.
+
+    >>> begins_yaml("{a: [b], b: [a]}"), begins_yaml("a: [b, c]\\n"), begins_yaml("a:\\n  - b\\n")
+    (True, True, True)
+    >>> begins_yaml('{"a": ["b"]}'), begins_yaml("a: b c\\n"), begins_yaml("a b\\n")
+    (False, False, False)
+    """
+    lines = [line for line in map(str.strip, text.split("\n")) if line and line[0] != "#"][:2]
+    if not lines:
+        return False
+    return bool(YAML.fullmatch(lines[0])) or lines[0].endswith(":") and len(lines) > 1 and lines[1].startswith("- ")
+
+
 def form_of(text: str, place: str) -> str:
     """Which form a dump has, of those above; `edges` stands for all lines, and `json` for all JSON."""
     begin = text.lstrip()
@@ -195,10 +223,12 @@ def form_of(text: str, place: str) -> str:
         return "yaml"
     if GML.match(text):
         return "gml"
-    if begin.startswith("{") or re.match(r'\[(?:["\[{\]\s]|$)', begin):
-        return "json"
     if re.match(r'(?://|/\*|(?:strict|graph|digraph)(?=[\s{"<]))', begin, re.IGNORECASE):
         return "dot"
+    if begins_yaml(text):
+        return "yaml"
+    if begin.startswith("{") or re.match(r'\[(?:["\[{\]\s]|$)', begin):
+        return "json"
     return "edges"
 
 
@@ -232,7 +262,7 @@ def of_json(text: str, asked: Asked) -> Optional[Views]:
         if is_views(json.loads(text)):
             return None
         raise
-    if isinstance(value, dict) and len(value) == 1 and key_in(value, PEER_KEYS):
+    if isinstance(value, dict) and len(value) == 1 and key_in(value, PEER_KEYS) and not key_around(value):
         raise BadDump(
             f"it has the {key_in(value, PEER_KEYS)} of one host, and does not say of which: give the files of "
             "all hosts, or their folder; the name of each is then the host's"
@@ -288,7 +318,7 @@ def peers_in(text: str, host: str, place: str, asked: Asked) -> List[str]:
     if form not in ("json", "yaml"):
         rows = rows_of(text)
         for row in rows:
-            if len(row.text.split()) > 1:
+            if len(row.words) > 1 or ";" in row.text:
                 raise BadDump(
                     f"line {row.number} has several words: of several files each is of one host, with the name "
                     "of a peer on each line"

@@ -7,7 +7,7 @@ import time
 from dataclasses import dataclass, field
 from typing import Dict, List, Optional, Sequence, Tuple
 
-from .dumps import Options, read_dump
+from .dumps import Options, last_change, read_dump
 from .errors import in_words
 from .graphs import shown
 from .programs import Program
@@ -17,7 +17,7 @@ from .reports import analysed
 HELP = {
     "tagzirk_dump_read": "1 if the dump was read and overlay-check confirmed the answer, and else 0",
     "tagzirk_run_timestamp_seconds": "when this was written",
-    "tagzirk_dump_timestamp_seconds": "when the file of the dump was last changed",
+    "tagzirk_dump_timestamp_seconds": "when that file of the dump was last changed which is oldest",
     "tagzirk_nodes": "hosts in the dump",
     "tagzirk_links": "links in the dump",
     "tagzirk_connectivity": "k: crashing so few hosts, the cut, splits the overlay, and fewer do not",
@@ -98,11 +98,26 @@ def metrics(
     overlay_check: Optional[Program] = None,
 ) -> Metrics:
     """The metrics of a dump. One that can't be read, or whose answer is not confirmed, has the metric
-    `tagzirk_dump_read 0`, and none that could pass for a good one."""
+    `tagzirk_dump_read 0`, and none that could pass for a good one. Of several files, or of a folder, the oldest file
+    says how old the dump is; standard input does not say it.
+
+    >>> import pathlib, tempfile
+    >>> with tempfile.TemporaryDirectory() as room:
+    ...     file = pathlib.Path(room, "net.json")
+    ...     _ = file.write_text('{"a": ["b"], "b": ["a", "c"], "c": ["b"]}')
+    ...     good = metrics([str(file)])
+    ...     _ = file.write_text('{"a": ["b"')
+    ...     torn = metrics([str(file)])
+    >>> good.values["tagzirk_connectivity"], good.cut, good.fault
+    (1.0, ('b',), '')
+    >>> torn.values["tagzirk_dump_read"], "tagzirk_connectivity" in torn.values, torn.fault != ""
+    (0.0, False, True)
+    """
     values = {"tagzirk_dump_read": 0.0, "tagzirk_run_timestamp_seconds": float(int(time.time()))}
     try:
-        if places[0] != "-":
-            values["tagzirk_dump_timestamp_seconds"] = float(int(os.stat(places[0]).st_mtime))
+        changed = last_change(places)
+        if changed is not None:
+            values["tagzirk_dump_timestamp_seconds"] = float(int(changed))
         dump = read_dump(places, options, overlay=overlay)
         graph = dump.graph
         report = analysed(graph, overlay=overlay, overlay_check=overlay_check)

@@ -105,6 +105,16 @@ def history(
     """What each dump says, in the order in which they were taken. A dump that can't be read is told with its fault.
 
     The time is that in the file's name, if every name says one, and else when the file was last changed.
+
+    >>> import pathlib, tempfile
+    >>> with tempfile.TemporaryDirectory() as room:
+    ...     files = [pathlib.Path(room, f"net-20261128T{hour}00Z.txt") for hour in ("09", "10")]
+    ...     _ = files[0].write_text("a b\\nb c\\nc a\\nc d\\nd a\\n"), files[1].write_text("a b\\nb c\\n")
+    ...     moments = history([str(it) for it in reversed(files)])
+    >>> [(it.nodes, it.links, it.k, it.cut) for it in moments]
+    [(4, 5, 2, ('a', 'c')), (3, 2, 1, ('b',))]
+    >>> str(moments[1].time - moments[0].time)
+    '1:00:00'
     """
     answers: Dict[str, Report[str]] = {}
 

@@ -5,8 +5,9 @@ from __future__ import annotations
 
 import csv
 import io
+import itertools
 import re
-from typing import Dict, List, NamedTuple, Optional, Tuple
+from typing import Dict, List, NamedTuple, Optional, Pattern, Tuple
 
 from .errors import BadDump
 from .values import Views
@@ -22,17 +23,13 @@ LINK_COLUMNS = (
     ("node_a", "node_b"),
     ("from_node", "to_node"),
 )
-LISTING_COLUMNS = (
-    ("host", "peer"),
-    ("node", "peer"),
-    ("name", "peer"),
-    ("local", "remote"),
-    ("host", "neighbor"),
-    ("node", "neighbor"),
-    ("host", "neighbour"),
-    ("node", "neighbour"),
-)
-ARROW = re.compile(r"(\S+?)\s*(<->|->)\s*(\S+)|(\S+)\s+(--)\s+(\S+)")
+HOST_COLUMNS = ("host", "hostname", "node", "name", "local")
+PEER_COLUMNS = ("peer", "neighbor", "neighbour", "remote")
+LISTING_COLUMNS = tuple(itertools.product(HOST_COLUMNS, PEER_COLUMNS))
+ARROW = re.compile(r"(\S+?)\s*(<->|->)\s*(\S+?)\s*;?|(\S+)\s+(--)\s+(\S+?)\s*;?")
+# Two names in brackets, with quotes or without; or in quotes alone.
+PAIR = re.compile(r"\(\s*(['\"]?)([^'\",\s()]+)\1\s*,\s*(['\"]?)([^'\",\s()]+)\3\s*\)\s*[,;]?")
+QUOTED = re.compile(r"(['\"])([^'\"]+)\1\s*[,;\s]\s*(['\"])([^'\"]+)\3")
 LIST = re.compile(r"(\S+):(?:\s+(.*))?")
 NUMBER = re.compile(r"[-+]?(\d+\.?\d*|\.\d+)([eE][-+]?\d+)?")
 # A comment, and how what networkx writes behind an edge begins.
@@ -69,6 +66,8 @@ def of_lines(text: str, form: Optional[str] = None, columns: Optional[str] = Non
     {'oslo-1': ['oslo-2'], 'oslo-2': ['oslo-1']}
     >>> of_lines("a: b c\\nb: a\\nc:\\n").value
     {'a': ['b', 'c'], 'b': ['a'], 'c': []}
+    >>> of_lines("('a', 'b')\\n('b', 'c')\\n").value
+    {'a': ['b'], 'b': ['a', 'c'], 'c': ['b']}
     >>> of_lines("a b\\nb c\\n") is None
     True
     """
@@ -82,6 +81,9 @@ def of_lines(text: str, form: Optional[str] = None, columns: Optional[str] = Non
         raise BadDump("its first line is no known header: --columns FROM,TO names the columns of both ends")
     if not form and all(ARROW.fullmatch(row.text) for row in rows):
         return of_arrows(rows)
+    for said in () if form else (PAIR, QUOTED):
+        if all(said.fullmatch(row.text) for row in rows):
+            return of_pairs(rows, said)
     if form != "adjacency" and all(";" in row.text for row in rows):
         return of_weighted([(row, [it.strip() for it in row.text.split(";")]) for row in rows])
     if form == "adjacency" or not form and all(LIST.fullmatch(row.text) for row in rows):
@@ -189,6 +191,15 @@ def of_arrows(rows: List[Row]) -> Views:
         arrows.add(arrow)
     if "->" not in arrows:
         views.kind = "lines of two names, each a link"
+    return views
+
+
+def of_pairs(rows: List[Row], form: Pattern[str]) -> Views:
+    views = Views("two names on a line, in brackets or quotes, each line a link")
+    for row in rows:
+        said = form.fullmatch(row.text)
+        if said:
+            views.link(said[2], said[4])
     return views
 
 

@@ -58,7 +58,8 @@ a{color:var(--link)}
 .t-facts{display:flex;flex-wrap:wrap;gap:.6rem;margin:1rem 0;padding:0;list-style:none}
 .t-facts li{background:var(--box);border-radius:.5rem;padding:.5rem .9rem;min-width:5.5rem}
 .t-facts b{display:block;font-size:1.35rem;line-height:1.3}
-.t-names,td{overflow-wrap:anywhere}
+td{overflow-wrap:anywhere}
+.t-name{display:inline-block;max-width:100%;overflow-wrap:anywhere}
 .t-scroll{overflow-x:auto}
 .t-scroll svg{display:block;max-width:max(100%,50rem);height:auto}
 table{border-collapse:collapse}
@@ -66,7 +67,8 @@ th,td{text-align:left;vertical-align:top;padding:.3rem .8rem .3rem 0;border-bott
 th{font-weight:600}
 th:first-child{min-width:7rem}
 .t-number{text-align:right;white-space:nowrap}
-pre{background:var(--box);border-radius:.5rem;padding:.7rem .9rem;overflow-x:auto;font-size:.88rem}
+pre{background:var(--box);border-radius:.5rem;padding:.7rem .9rem;white-space:pre-wrap;overflow-wrap:anywhere;
+font-size:.88rem}
 strong.t-warm{color:var(--warm)}
 .t-swatch{display:inline-block;width:.8em;height:.8em;border-radius:50%;background:var(--piece);margin-right:.5em}
 $colours</style>
@@ -108,15 +110,20 @@ def counted(number: int, one: str, more: str = "") -> str:
     return f"{number} {one if number == 1 else more or one + 's'}"
 
 
+def joined_html(names: Iterable[Any]) -> str:
+    """Names with a comma between two. No line ends within a name, if it fits into one."""
+    return ", ".join(f'<span class="t-name">{shown_html(it)}</span>' for it in names)
+
+
 def names_html(names: Iterable[Any], most: Optional[int] = None) -> str:
     """Names in a line; if they are many, the rest opens below, or if they are more than `most`, it is counted."""
-    told, few = [shown_html(it) for it in names], most or MOST_NAMES
-    first = f'<span class="t-names">{", ".join(told[:few])}</span>'
+    told, few = list(names), most or MOST_NAMES
+    first = joined_html(told[:few])
     if len(told) <= few:
         return first
     if most:
         return f"{first} and {len(told) - few} more"
-    return f"{first}<details><summary>and {len(told) - few} more</summary>{', '.join(told[few:])}</details>"
+    return f"{first}<details><summary>and {len(told) - few} more</summary>{joined_html(told[few:])}</details>"
 
 
 def table(head: Tuple[str, ...], rows: Iterable[Tuple[str, ...]], numbers: Tuple[int, ...] = ()) -> str:
@@ -162,7 +169,7 @@ def answer_of(report: Report[str], graph: NamedGraph[str], pieces: List[List[int
     away = sum(map(len, pieces)) - max(map(len, pieces))
     if report.k == 0:
         return f"Without any crash, {counted(away, 'host')} can't reach the largest piece."
-    cut = f'<strong class="t-warm">{", ".join(map(shown_html, report.cut))}</strong>'
+    cut = f'<strong class="t-warm">{joined_html(report.cut)}</strong>'
     fewer = (
         "No single crash parts two hosts that survive."
         if report.k == 2

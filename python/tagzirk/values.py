@@ -11,6 +11,9 @@ PEER_KEYS = ("peers", "neighbors", "neighbours", "active_view", "connections", "
 NAME_KEYS = ("name", "id", "host", "hostname", "node", "address", "addr", "key")
 # What both ends of an edge are called.
 END_KEYS = (("source", "target"), ("from", "to"), ("src", "dst"))
+# What the links of a graph of nodes and links are called.
+LINK_KEYS = ("links", "edges")
+GRAPH_KEYS = (*LINK_KEYS, "adjacency")
 
 
 class Views:
@@ -109,8 +112,8 @@ def ends_in(value: Any) -> Optional[Tuple[Any, Any]]:
 
 def is_views(value: Any) -> bool:
     """Whether `overlay import --views` reads it: an object of lists, or of nothing. One that has nodes and links is
-    no such object."""
-    if not isinstance(value, dict) or "nodes" in value and key_in(value, ("links", "edges", "adjacency")):
+    no such object, nor one that has nodes alone."""
+    if not isinstance(value, dict) or "nodes" in value and (key_in(value, GRAPH_KEYS) or len(value) == 1):
         return False
     return all(it is None or is_list_of_names(it) for it in value.values())
 
@@ -146,19 +149,69 @@ def of_object(value: Dict[str, Any], by: Optional[str]) -> Views:
     for inner in (value.get("graph"), value.get("elements")):
         if isinstance(inner, dict) and "nodes" in inner or inner is value.get("elements") and isinstance(inner, list):
             return views_of(inner, by)
-    links = key_in(value, ("links", "edges"))
+    links = key_in(value, LINK_KEYS)
     if "nodes" in value and (links or "adjacency" in value):
         nodes = value["nodes"]
         entries = [{"id": key} for key in nodes] if isinstance(nodes, dict) else nodes
         if not isinstance(entries, list):
             raise BadDump("its nodes are no list")
         return of_nodes(entries, value[links], bool(value.get("directed")), by) if links else of_adjacency(value, by)
+    around = key_around(value)
+    if around:
+        hosts = views_of(value[around], by)
+        hosts.kind += f", below {around}"
+        return hosts
     views = Views("objects with peers")
     for name, entry in value.items():
         views.enter(name)
         for peer in peers_of(name, entry, by):
             views.listing(name, peer)
     return views
+
+
+def says_links(key: str, inner: Any) -> bool:
+    """Whether what stands below a key says links of several hosts: hosts with their peers, links, or a graph of nodes
+    and links. A list of the peers of the one host that the key names does not."""
+    if isinstance(inner, dict) and "nodes" in inner and key_in(inner, GRAPH_KEYS):
+        return True
+    if has_peers(inner):
+        return False
+    items = list(inner.values()) if isinstance(inner, dict) else inner if isinstance(inner, list) else []
+    if key in PEER_KEYS:
+        return isinstance(inner, list) and any(ends_in(it) for it in items)
+    return any(ends_in(it) or has_peers(it) for it in items)
+
+
+def has_peers(value: Any) -> bool:
+    """Whether it is an object that says the peers of a host."""
+    key = key_in(value, PEER_KEYS) if isinstance(value, dict) else None
+    return key is not None and isinstance(value[key], (dict, list))
+
+
+def key_around(value: Dict[str, Any]) -> Optional[str]:
+    """The one key below which all hosts or links stand, which names no host, then. None if each key names a host.
+    Refused is what says who is there and nobody's peers.
+
+    >>> key_around({"taken": "09:00", "hosts": [{"name": "a", "peers": ["b"]}, {"name": "b", "peers": ["a"]}]})
+    'hosts'
+    >>> key_around({"a": {"peers": ["b"]}, "b": {"peers": ["a"]}}) is None
+    True
+    """
+    nested = [key for key, inner in value.items() if isinstance(inner, (dict, list))]
+    around = next((key for key in nested if says_links(key, value[key])), None)
+    if around and len(nested) > 1:
+        beside = next(key for key in nested if key != around)
+        raise BadDump(f"below {around} stand hosts or links, and {beside} stands beside it: give {around} alone")
+    inner = value[nested[0]] if len(nested) == 1 and not around else None
+    if inner is not None and nested[0] == "nodes":
+        keys = f"{', '.join(GRAPH_KEYS[:-1])} or {GRAPH_KEYS[-1]}"
+        raise BadDump(f"it has nodes, and neither {keys}, nor peers of each node")
+    if isinstance(inner, list) and inner and all(isinstance(it, dict) for it in inner):
+        raise BadDump(
+            f"its one list, {nested[0]}, has objects without {', '.join(PEER_KEYS[:-1])} or {PEER_KEYS[-1]}, so nobody "
+            "lists anybody"
+        )
+    return around
 
 
 def peers_of(name: str, entry: Any, by: Optional[str]) -> List[str]:

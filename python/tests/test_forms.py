@@ -119,8 +119,32 @@ class Values(unittest.TestCase):
         ):
             self.assertEqual(views(text), PATH, text)
 
+    def test_hosts_below_one_key(self):
+        rows = [{"name": "a", "peers": ["b"]}, {"name": "b", "peers": ["a", "c"]}, {"name": "c", "peers": ["b"]}]
+        entries = {row["name"]: {"peers": row["peers"]} for row in rows}
+        links = [{"source": "a", "target": "b"}, {"source": "b", "target": "c"}]
+        for value in (
+            {"hosts": rows},
+            {"taken": "09:00", "version": 3, "members": rows},
+            {"nodes": rows},
+            {"nodes": entries},
+            {"cluster": entries},
+            {"links": links},
+            {"edges": links},
+            {"data": {"nodes": [{"id": it} for it in "abc"], "links": links}},
+        ):
+            self.assertEqual(views(json.dumps(value)), PATH, value)
+        # a host with its peers is no key around others, nor are peers that are objects
+        for value in {"a": entries["a"]}, {"a": {"peers": [{"name": "b", "peers": ["a"]}]}}:
+            self.assertEqual(views(json.dumps(value)), {"a": {"b"}}, value)
+        self.assertEqual(views('{"a": [{"name": "b", "links": 3}], "b": []}'), {"a": {"b"}, "b": set()})
+
     def test_what_is_refused(self):
         for text, told in (
+            ('{"nodes": [{"id": "a"}, {"id": "b"}]}', "it has nodes, and neither links, edges or adjacency"),
+            ('{"nodes": ["a", "b"]}', "it has nodes, and neither links, edges or adjacency"),
+            ('{"hosts": [{"name": "a"}, {"name": "b"}]}', "its one list, hosts, has objects without peers"),
+            ('{"hosts": [{"name": "a", "peers": []}], "sites": ["x"]}', "and sites stands beside it: give hosts alone"),
             ('["a","b"]', "'a' is neither a link nor a host with its peers"),
             ('[["a"]]', "a link is a list of two names"),
             ('{"peers":["a"]}', "does not say of which"),
@@ -194,6 +218,19 @@ class Lines(unittest.TestCase):
         self.assertEqual(views("10.0.0.1:655 -> x--1\n"), {"10.0.0.1:655": {"x--1"}, "x--1": set()})
         self.assertEqual(views("a <-> 1\n"), {"a": {"1"}, "1": {"a"}})
         self.assertIsNone(views("a -> b c\n"))
+
+    def test_brackets_and_quotes(self):
+        for text in (
+            "(a, b)\n(b, c)\n",
+            "('a', 'b'),\n('b', 'c')\n",
+            '"a","b"\n"b","c"\n',
+            '"a" "b"\n"c" "b"\n',
+            "a -- b;\nb -- c;\n",
+        ):
+            self.assertEqual(views(text), PATH, text)
+        # overlay import tells of these
+        for text in "(a, b)\nb c\n", "[a, b]\n", "a; b\nc d\n":
+            self.assertIsNone(views(text), text)
 
     def test_lists_of_neighbours(self):
         self.assertEqual(views("a: b, c\nb: a\nc:\n"), {"a": {"b", "c"}, "b": {"a"}, "c": set()})
@@ -321,6 +358,21 @@ class Libraries(unittest.TestCase):
             of_graphviz(b"graph { a -- {b c} }")
 
     @unittest.skipUnless(yaml, "yaml is not there")
+    @unittest.skipUnless(yaml, "yaml is not there")
+    def test_yaml_without_a_name(self):
+        for text in (
+            "{a: [b], b: [a, c], c: [b]}\n",
+            "a: [b]\nb: [a, c]\nc: [b]\n",
+            "# of today\na: [b]\nb: [a,\n  c]\nc: [b]\n",
+            "a:\n  - b\nb:\n- a\n- c\nc: [b]\n",
+            "- {name: a, peers: [b]}\n- name: b\n  peers: [a, c]\n- {name: c, peers: [b]}\n",
+            "hosts:\n  - {name: a, peers: [b]}\n  - {name: b, peers: [a, c]}\n  - {name: c, peers: [b]}\n",
+            "a: {peers: [b]}\nb: {peers: [a, c]}\nc: {peers: [b]}\n",
+        ):
+            self.assertEqual(views(text, "standard input"), PATH, text)
+        # addresses in brackets are names
+        self.assertEqual(views("a: [::1]:80 b\nb:\n"), {"a": {"[::1]:80", "b"}, "b": set()})
+
     def test_yaml(self):
         for text, place in ("a: [b, c]\nb:\n  - a\nc:\n", "net.yaml"), ("---\na: [b, c]\nb: [a]\nc: []\n", "net"):
             self.assertEqual(views(text, place), {"a": {"b", "c"}, "b": {"a"}, "c": set()})

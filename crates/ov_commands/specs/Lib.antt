@@ -1,5 +1,6 @@
 pub mod Faults
 pub mod Statuses
+pub mod Alarms
 pub mod Naming
 pub mod Printing
 pub mod Pictures

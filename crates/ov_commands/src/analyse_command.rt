@@ -1,6 +1,7 @@
 ghost use Rattle.std.specs.Prelude.{◌≡◌, ◌<◌, option_map, Some, IfOk};
 ghost use Rattle.ov_io.specs.Device.{most_faults};
 ghost use Rattle.ov_answers.specs.Analysing.{IsAnalysisOf};
+ghost use Rattle.ov_commands.specs.Alarms.{IsStatusAsked};
 ghost use Rattle.ov_commands.specs.Statuses.{HasAnalysed, IsAlarmStatus, analysis_status};
 
 use crate::analyse_in_names_or_words::analyse_in_words;
@@ -21,14 +22,16 @@ use ov_run_meaning::RunFault;
 use std::io::{Read, Write};
 use std::thread::Threads;
 
-/// Analyses the graph of a file, or of standard input. The status is 3 if a least number is asked for and the answer is
-/// below it, or there is none.
+/// Analyses the graph of a file, or of standard input, without the nodes that are gone, as is asked. The status is 3 if a
+/// least number is asked for and the answer is below it, or there is no answer, since no node is left or the ids are no
+/// group; otherwise it is 0.
 pub fn analyse_asked<T: Threads + Sync>(
     rt: &HostRuntime,
     threads: &T,
     file: Option<String>,
     analysis: &AnalysisRequest,
 ) -> Result<u8, CommandFault>
+    ensures answer { IfOk result (IsStatusAsked analysis.now) }
     ensures status { IfOk result (IsAlarmStatus analysis.now.at_least) }
 {
     let mut sink = Sink::new(rt.stdout());

@@ -9,7 +9,7 @@ use crate::conversion_fault::FileCommandFault;
 use ov_arguments::{DumpFormat, ImportRequest};
 use ov_dot::{DotFault, read_dot};
 use ov_dump::{
-    Choice, Dump, DumpFault, ImportFault, ReadingFault, header_note, import_dump, import_notes,
+    Choice, Dump, DumpFault, ImportFault, ReadingFault, import_dump, import_notes, line_notes,
     read_edges, read_views,
 };
 use ov_io::Sink;
@@ -126,7 +126,8 @@ fn no_dump(rt: &HostRuntime, bytes: &[u8]) -> FileCommandFault
     ended
 }
 
-/// The same answer. If it is a refusal, and no form was asked for, prints how the bytes were read.
+/// The same answer. If it is a refusal, and no form was asked for, prints how the bytes were read, and if they are no
+/// dump of that form, what reads more forms.
 fn with_guess(
     rt: &HostRuntime,
     asked: Option<DumpFormat>,
@@ -135,13 +136,22 @@ fn with_guess(
 ) -> Result<(), FileCommandFault>
     ensures { result ≡ printed }
 {
-    if let Err(FileCommandFault::Refused { .. }) = &printed {
+    if let Err(FileCommandFault::Refused { number }) = &printed {
         if asked.is_none() {
             let words = guess_words(format);
-            let _ = eprintln!(rt; "the file was read as {words}");
+            let more = more_forms(*number);
+            let _ = eprintln!(rt; "the file was read as {words}{more}");
         }
     }
     printed
+}
+
+/// What reads more forms, if the number is that of bytes that are no dump.
+fn more_forms(number: u32) -> &'static str {
+    if matches!(number, 60 | 70 | 83) {
+        return "; `tagzirk import` of the Python package reads more forms";
+    }
+    ""
 }
 
 /// How bytes were read that look so, why, and what reads them otherwise.
@@ -255,8 +265,8 @@ fn tell_refusal(rt: &HostRuntime, refusal: &DumpFault, place: &str) {
 /// Prints what an operator should know of a dump. Prints nothing if an allocation for it is refused.
 fn tell_notes(rt: &HostRuntime, dump: &Dump, choice: Choice, format: DumpFormat) {
     if matches!(format, DumpFormat::Edges) {
-        if let Ok(note) = header_note(rt.alloc(), dump) {
-            let _ = eprint!(rt; "{note}");
+        if let Ok(notes) = line_notes(rt.alloc(), dump) {
+            let _ = eprint!(rt; "{notes}");
         }
     }
     if let Ok(notes) = import_notes(rt.alloc(), dump, choice) {

@@ -63,7 +63,7 @@ pub(crate) fn listed_nodes(
         return Err(without_memory(rt).into());
     };
     let names = Names::new(&graph, kept);
-    nodes_of_lists(rt, &names, lists)
+    nodes_of_lists(rt, &names, named, lists)
 }
 
 /// The names by which lists are read: these, or none of any node.
@@ -95,10 +95,12 @@ fn no_names<'a>(alloc: Global, count: usize) -> Result<Vec<Option<&'a [u8]>>, Al
     Ok(none)
 }
 
-/// The nodes that these lists name, by these names. Prints why a list names none.
+/// The nodes that these lists name, by these names. Prints why a list names none, and if names are not asked for, that
+/// they need `--names`.
 fn nodes_of_lists(
     rt: &HostRuntime,
     names: &Names<'_>,
+    named: bool,
     lists: &NodeLists,
 ) -> Result<ListedNodes, CommandFault>
     ensures gone { IfOk result (λ nodes. AreNamed names.now (option_map (λ text. text.items) lists.now.gone)
@@ -108,11 +110,11 @@ fn nodes_of_lists(
     ensures fault { IfErr result (λ fault. IsNotNamedBy names.now (option_map (λ text. text.items) lists.now.gone) fault
         ⊎ IsNotNamedBy names.now (option_map (λ text. text.items) lists.now.group) fault) }
 {
-    let gone = match nodes_named(rt, names, WITHOUT, lists.gone.as_deref()) {
+    let gone = match nodes_named(rt, names, named, WITHOUT, lists.gone.as_deref()) {
         Ok(gone) => gone,
         Err(fault) => return Err(fault),
     };
-    match nodes_named(rt, names, GROUP, lists.group.as_deref()) {
+    match nodes_named(rt, names, named, GROUP, lists.group.as_deref()) {
         Ok(group) => Ok(ListedNodes { group, gone }),
         Err(fault) => Err(fault),
     }
@@ -122,6 +124,7 @@ fn nodes_of_lists(
 fn nodes_named(
     rt: &HostRuntime,
     names: &Names<'_>,
+    named: bool,
     option: &str,
     text: Option<&[u8]>,
 ) -> Result<Option<Vec<NodeId>>, CommandFault>
@@ -135,24 +138,33 @@ fn nodes_named(
     match ids_of_group(rt.alloc(), names, text) {
         Ok(ids) => Ok(Some(ids)),
         Err(GroupFault::OutOfMemory) => Err(without_memory(rt).into()),
-        Err(fault) => Err(no_nodes(rt, option, text, fault)),
+        Err(fault) => Err(no_nodes(rt, named, option, text, fault)),
     }
 }
 
 /// Ends since a list names no nodes. Prints why.
-fn no_nodes(rt: &HostRuntime, option: &str, text: &[u8], fault: GroupFault) -> CommandFault
+fn no_nodes(
+    rt: &HostRuntime,
+    named: bool,
+    option: &str,
+    text: &[u8],
+    fault: GroupFault,
+) -> CommandFault
     ensures { result ≡ Group fault }
 {
     let number = fault.number();
     let _ = eprintln!(rt; "refused {number}");
-    tell_list_fault(rt, option, text, &fault);
+    tell_list_fault(rt, named, option, text, &fault);
     CommandFault::Group(fault)
 }
 
 /// Prints why a list names no nodes.
-fn tell_list_fault(rt: &HostRuntime, option: &str, text: &[u8], fault: &GroupFault) {
+fn tell_list_fault(rt: &HostRuntime, named: bool, option: &str, text: &[u8], fault: &GroupFault) {
     match fault {
-        GroupFault::NoSuchName(place) => tell_part(rt, option, text, *place, "names no node"),
+        GroupFault::NoSuchName(place) => {
+            let wrong = no_node_words(text, *place, named);
+            tell_part(rt, option, text, *place, wrong);
+        }
         GroupFault::SharedName(place) => {
             tell_part(rt, option, text, *place, "is the name of two nodes");
         }
@@ -164,10 +176,28 @@ fn tell_list_fault(rt: &HostRuntime, option: &str, text: &[u8], fault: &GroupFau
     }
 }
 
+/// Why a part of the text of a list names no node.
+fn no_node_words(text: &[u8], place: usize, named: bool) -> &'static str {
+    match part_at(text, place) {
+        Some(part) if !named && !is_numeral(part) => "is no id, and names need --names",
+        _ => "names no node",
+    }
+}
+
+/// The part at a place of the text of a list.
+fn part_at(text: &[u8], place: usize) -> Option<&[u8]> {
+    text.split(|byte| *byte == b',').nth(place)
+}
+
+/// Whether a text has digits alone.
+fn is_numeral(text: &[u8]) -> bool {
+    text.iter().all(|byte| byte.is_ascii_digit())
+}
+
 /// Prints what is wrong with a part of the text of a list; or if the part is empty, with a comma beside it, or that the
 /// text is empty. Prints nothing if an allocation for it is refused.
 fn tell_part(rt: &HostRuntime, option: &str, text: &[u8], place: usize, wrong: &str) {
-    let Some(part) = text.split(|byte| *byte == b',').nth(place) else {
+    let Some(part) = part_at(text, place) else {
         return;
     };
     let (told, why) = match empty_part(text) {

@@ -7,7 +7,7 @@ use Rattle.ov_graph.specs.Links.{IsGraph, LinkGraph, Linked}
 use Rattle.ov_graph.proofs.EvenTest.Walks.{linked_sym}
 use Rattle.ov_graph.proofs.GraphValues.OneGraph.{linked_differ, same_graphs}
 use Rattle.ov_dump.specs.Code.Numbering.{Follows, NodeLists}
-use Rattle.ov_dump.specs.Dumps.{AreLinked, IsGraphOf, IsNameOf, IsTaken, Lists, numbers}
+use Rattle.ov_dump.specs.Dumps.{IsGraphOf, IsNameOf, IsTaken, Lists, numbers}
 use Rattle.ov_dump.specs.Names.{ComesBefore}
 use Rattle.ov_dump.specs.declared.dump_and_graph_types.Choice.{Choice}
 use Rattle.ov_dump.specs.declared.dump_and_graph_types.Dump.{Dump}

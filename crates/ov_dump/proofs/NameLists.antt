@@ -1,7 +1,7 @@
 -- Names that ascend, and whether a name is among them.
 use Rattle.std.proofs.Common.{◌≡◌, ◌∙◌, ◌↔◌, ◌⊎◌, ◌+◌, inl, inr, length, arith, List, [], ◌∷◌, ℕ, Bool, true, IsTrue}
 use Rattle.std.proofs.Common.{sym, ap, subst, nat_cmp}
-use Rattle.std.proofs.Common.{Ordering, Less, Equal, Greater, is_eq, refl}
+use Rattle.std.proofs.Common.{Less, Equal, Greater, is_eq, refl}
 use Rattle.std.proofs.lemmas.Cmp.{nat_list_cmp_total}
 use Rattle.std.proofs.lemmas.Map.Keys.{sorted_head, sorted_tail}
 use Rattle.std.proofs.lemmas.Map.Text.{is_eq-slice_cmp}

@@ -1,7 +1,7 @@
 -- The nodes of names.
 use Rattle.std.proofs.Common.{◌≡◌, ◌≢◌, ◌∙◌, ◌↔◌, ◌⊎◌, ◌+◌, ◌≤◌, ◌<◌, inl, inr, List, [], ◌∷◌, ◌++◌, ℕ, zero, suc}
-use Rattle.std.proofs.Common.{sym, ap, ap₂, subst, refl, length, get_or, slice_get, Some, unwrap_or, arith, map, pred}
-use Rattle.std.proofs.Common.{eq-or-lt_of_le, nat_cmp, is_eq, is_lt, Less, Equal, Greater, true, false, T}
+use Rattle.std.proofs.Common.{sym, ap, subst, refl, length, get_or, slice_get, Some, unwrap_or, arith, pred}
+use Rattle.std.proofs.Common.{eq-or-lt_of_le, nat_cmp, is_eq, is_lt, Less, Equal, Greater, true}
 use Rattle.std.proofs.lemmas.Bool.{both_ways}
 use Rattle.std.proofs.lemmas.Cmp.{nat_list_cmp_total}
 use Rattle.std.proofs.lemmas.List.Sorted.{searchable_from_sorted}

@@ -1,8 +1,8 @@
 -- An item of a list, with those before it and those behind it.
-use Rattle.std.proofs.Common.{◌≡◌, ◌∙◌, ◌<◌, ◌≤◌, List, [], ◌∷◌, ◌++◌, ℕ, zero, suc, sym, ap, arith, refl, length}
-use Rattle.std.proofs.Common.{get_or, take, drop, map, slice_get, Some, ◌⊎◌, inl, inr, unwrap_or, IfNone, None, Option}
+use Rattle.std.proofs.Common.{◌≡◌, ◌∙◌, ◌<◌, ◌≤◌, ◌+◌, List, [], ◌∷◌, ◌++◌, ℕ, zero, suc, sym, ap, arith, refl, length}
+use Rattle.std.proofs.Common.{get_or, take, drop, slice_get, Some, ◌⊎◌, inl, inr, unwrap_or, IfNone, None, Option}
+use Rattle.std.proofs.lemmas.List.{take_more}
 use Rattle.ov_ids.specs.Members.{Has, Ordered}
-use Rattle.ov_ids.proofs.Members.{all_member, all_from_members}
 use Rattle.std.specs.List.{AllByRecursion}
 
 -- a list is the items before a place, the item at it, and those behind it
@@ -11,6 +11,16 @@ pub parted : {X : Type 0} (xs : List X) (i : ℕ) (d : X) → i < length xs
 parted [] i d l = absurd (omega arith)
 parted (x ∷ xs) zero d l = refl
 parted (x ∷ xs) (suc i) d l = ap (λ ys. x ∷ ys) (parted xs i d (omega arith))
+
+-- the same, with the item that a loop has
+pub parted_at : {X : Type 0} (xs : List X) (i : ℕ) (x : X) → i < length xs → x ≡ get_or xs i x
+    → xs ≡ take i xs ++ x ∷ drop (suc i) xs
+parted_at xs i x l is = parted xs i x l ∙ ap (λ y. take i xs ++ y ∷ drop (suc i) xs) (sym is)
+
+-- the items before the next place are those before a place, and then the item at it
+pub taken_next : {X : Type 0} (xs : List X) (i : ℕ) (x : X) → i < length xs → x ≡ get_or xs i x
+    → take (i + 1) xs ≡ take i xs ++ x ∷ []
+taken_next xs i x l is = take_more xs i x l ∙ ap (λ y. take i xs ++ y ∷ []) (sym is)
 
 -- of a list in order, one more item to which each is related
 pub ordered_more : {X : Type 0} (R : X → X → Type 0) (xs : List X) (y : X) → Ordered R xs

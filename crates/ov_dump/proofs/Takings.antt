@@ -6,7 +6,7 @@ use Rattle.std.specs.List.{flat_map}
 use Rattle.ov_ids.specs.Members.{Has, Ordered}
 use Rattle.ov_ids.proofs.Members.{has_append_left, has_append_right, has_append_cases}
 use Rattle.ov_graph.specs.Links.{most_nodes}
-use Rattle.ov_dump.specs.Code.Taking.{Gains, IsFullWithout, RunsOver}
+use Rattle.ov_dump.specs.Code.Taking.{Gains, RunsOver}
 use Rattle.ov_dump.specs.Dumps.{HasEntry, IsNamed, IsTaken, ends_of, names_of}
 use Rattle.ov_dump.specs.Faults.{IsDumpFault, IsSound, Naming, entry_namings, listing_namings, namings}
 use Rattle.ov_dump.specs.Names.{ComesBefore}

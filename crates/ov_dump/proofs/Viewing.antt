@@ -251,7 +251,7 @@ peers_of_null (string t) e = absurd (cc)
 peers_of_null (array is) e = absurd (cc)
 peers_of_null (object ms) e = absurd (cc)
 
--- without its name, or for want of memory, an entry fails
+-- an entry fails without its name, or out of memory
 pub memory_fails : (at : ℕ) (name : List ℕ) (said : Option (List (List ℕ))) (fault : ReadingFault)
     → fault ≡ OutOfMemory → FailsAt at name said fault
 memory_fails at name said fault e = subst (FailsAt at name said) (sym e) tt

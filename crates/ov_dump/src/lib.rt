@@ -38,7 +38,7 @@ pub use name::Name;
 pub use names_in_graph_file_theorems::{
     names_are_read, names_come_back, names_differ, one_shown_name,
 };
-pub use operator_notes::{header_note, import_notes};
+pub use operator_notes::{import_notes, line_notes};
 pub use reading_fault::ReadingFault;
 pub use refusal_or_write_fault::ImportFault;
 pub use unread_edge_line_reason::Why;

@@ -22,6 +22,11 @@ const PASSED_OVER: &str = "a link of a name to itself is passed over\n";
 const ADJACENCY: &str = "a line `a: b c` of an adjacency list is no form of a dump here; \
     `tagzirk import` of the Python package reads it\n";
 
+/// How names are told apart in lines.
+const MARKS: &str =
+    "names stand with a space, a tab or a comma between them; any other mark, as ; -> ( or a quote, is \
+    part of a name here; `tagzirk import` of the Python package reads more forms\n";
+
 /// What an operator should know of a dump: that it has no name; how many listings the other end does not answer, how
 /// many names are listed and have no entry, as those of dead peers, how many list themselves, and how many end in a
 /// colon; the first ten of each, and what becomes of them. Empty if there is none of it. OutOfMemory (99) is returned if
@@ -43,21 +48,92 @@ pub fn import_notes(alloc: Global, dump: &Dump, choice: Choice) -> Result<String
 }
 
 /// What an operator should know of a dump of lines of two names: that the first of them looks like a header, since
-/// neither name stands in another line. Empty if it does not. OutOfMemory (99) is returned if an allocation was refused.
-pub fn header_note(alloc: Global, dump: &Dump) -> Result<String, OutOfMemory> {
-    let mut note = String::new(alloc);
+/// neither name stands in another line; and how many names have a mark that stands between names, or around them, in
+/// other forms, and the first ten. Empty if there is none of it. OutOfMemory (99) is returned if an allocation was
+/// refused.
+pub fn line_notes(alloc: Global, dump: &Dump) -> Result<String, OutOfMemory> {
+    let mut notes = String::new(alloc);
+    note_header(&mut notes, dump)?;
+    note_marks(alloc, &mut notes, dump)?;
+    Ok(notes)
+}
+
+/// Tells that the first line looks like a header, if it does.
+fn note_header(notes: &mut String, dump: &Dump) -> Result<(), AllocError> {
     let listings = dump.listings.as_slice();
     let Some(first) = listings.first() else {
-        return Ok(note);
+        return Ok(());
     };
     if stands_apart(first, listings) {
         let (at, from, to) = (first.at, &first.from, &first.to);
         writeln!(
-            note,
+            notes,
             "line {at}: {from} and {to} stand in no other line; if it is a header, remove it"
         )?;
     }
-    Ok(note)
+    Ok(())
+}
+
+/// Tells the names that have a mark of another form.
+fn note_marks(alloc: Global, notes: &mut String, dump: &Dump) -> Result<(), OutOfMemory> {
+    let mut found = NameSet::new(alloc);
+    for entry in dump.entries.as_slice() {
+        if has_mark(&entry.name) {
+            add(alloc, &mut found, &entry.name)?;
+        }
+    }
+    let names = found.into_names(alloc)?;
+    if names.is_empty() {
+        return Ok(());
+    }
+    note_names(
+        notes,
+        &names,
+        "has a mark of another form",
+        "has a mark of another form",
+    )?;
+    notes.push_str(MARKS)?;
+    Ok(())
+}
+
+/// Whether a name of a line has a mark that stands between names, or around them, in other forms: one of those
+/// below, a square bracket without the other, a `=` with something behind it; or marks alone.
+fn has_mark(name: &Name) -> bool {
+    let bytes = name.as_str().as_bytes();
+    if bytes.iter().any(|byte| is_mark(*byte)) {
+        return true;
+    }
+    has_byte(bytes, b'[') != has_byte(bytes, b']') || assigns(bytes) || !has_letter(bytes)
+}
+
+/// Whether a byte is a mark that stands between names, or around them, in other forms, and in no name of a host.
+fn is_mark(byte: u8) -> bool {
+    matches!(
+        byte,
+        b';' | b'|' | b'"' | b'\'' | b'`' | b'<' | b'>' | b'(' | b')' | b'{' | b'}'
+    )
+}
+
+fn has_byte(bytes: &[u8], wanted: u8) -> bool {
+    bytes.iter().any(|byte| *byte == wanted)
+}
+
+/// Whether something stands behind a `=`, which ends some keys.
+fn assigns(bytes: &[u8]) -> bool {
+    let mut has_sign = false;
+    for byte in bytes {
+        if *byte == b'=' {
+            has_sign = true;
+        } else if has_sign {
+            return true;
+        }
+    }
+    false
+}
+
+/// Whether there is a letter or a digit.
+fn has_letter(bytes: &[u8]) -> bool {
+    bytes.iter().any(|byte| *byte >= 128 || byte.is_ascii_digit() || byte.is_ascii_alphabetic())
 }
 
 /// Whether a part is more than half of a number.

@@ -4,7 +4,7 @@ use ov_grow_options::GrowOptions;
 use ov_io::{ReadFault, Source, shown_name, unopened_text, unread_text};
 use ov_sweep_rows::{Row, RowFault, read_rows};
 use std::fs::File;
-use std::io::Read;
+use std::io::{IsTerminal, Read};
 
 /// The rows of files, one file after the other. Prints why, if a file can't be read or has a line that is no row.
 pub(crate) fn rows_of_files(rt: &HostRuntime, files: &[String]) -> Result<Vec<Row>, GrowthFault> {
@@ -61,6 +61,7 @@ const STANDARD_INPUT: &str = "-";
 /// All bytes of a file, or of standard input.
 fn bytes_of_file(rt: &HostRuntime, name: &str) -> Result<Vec<u8>, GrowthFault> {
     if name == STANDARD_INPUT {
+        tell_typing(rt);
         return all_bytes(rt, name, rt.stdin());
     }
     match File::open(rt, name) {
@@ -73,6 +74,13 @@ fn bytes_of_file(rt: &HostRuntime, name: &str) -> Result<Vec<u8>, GrowthFault> {
             }
             Err(ended)
         }
+    }
+}
+
+/// Prints that rows are read from standard input, if that is a terminal.
+fn tell_typing(rt: &HostRuntime) {
+    if rt.stdin().is_terminal() {
+        let _ = eprintln!(rt; "reading rows from standard input, to its end (Ctrl-D)");
     }
 }
 

@@ -12,8 +12,8 @@ use std::thread::Threads;
 const FRONT: &[u8] = b"front\n";
 
 /// The file, for moment 3.
-const FILE: &[u8] =
-    br#"{"cut":[2,4],"fans":[{"j":3,"paths":[[3,2],[3,4,1]]},{"j":4,"paths":[[4,1],[4,3]]}],"far":3,"k":2,"links":[[1,2],[1,4],[2,3],[3,4]],"moment":3,"near":1,"nodes":[1,2,3,4],"pairs":[],"side":[1],"verdict":"split","version":1}"#;
+pub(crate) const FILE: &str =
+    r#"{"cut":[2,4],"fans":[{"j":3,"paths":[[3,2],[3,4,1]]},{"j":4,"paths":[[4,1],[4,3]]}],"far":3,"k":2,"links":[[1,2],[1,4],[2,3],[3,4]],"moment":3,"near":1,"nodes":[1,2,3,4],"pairs":[],"side":[1],"verdict":"split","version":1}"#;
 
 /// Room for all that is written, so that writing allocates nothing.
 const ROOM: usize = 4096;
@@ -29,7 +29,7 @@ impl Written {
     /// All was written.
     fn is_whole(&self) -> bool {
         let file = self.bytes.strip_prefix(FRONT);
-        self.answer.is_ok() && file == Some(FILE)
+        self.answer.is_ok() && file == Some(FILE.as_bytes())
     }
 
     /// Memory was refused, and nothing was written.

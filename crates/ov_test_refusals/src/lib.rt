@@ -1,5 +1,5 @@
-//! Stories of worlds, cores, desks, pieces, analyses, files and halls. `bin/refuse-allocations` refuses each of their
-//! allocations in turn.
+//! Stories of worlds, cores, desks, pieces, analyses, files that are written and read, and halls.
+//! `bin/refuse-allocations` refuses each of their allocations in turn.
 #![tactic(auto)]
 
 #[cfg(test)]
@@ -16,6 +16,8 @@ mod files;
 mod halls;
 #[cfg(test)]
 mod pieces;
+#[cfg(test)]
+mod readings;
 #[cfg(test)]
 mod square_groups;
 #[cfg(test)]

@@ -1,5 +1,5 @@
 -- One entry after those whose names were seen, and one listing.
-use Rattle.std.specs.Prelude.{◌≡◌, ◌≢◌, ◌⊎◌, ⊤, ℕ, List, []}
+use Rattle.std.specs.Prelude.{◌≡◌, ◌⊎◌, ⊤, ℕ, List, []}
 use Rattle.ov_ids.specs.Members.{Has}
 use Rattle.ov_dump.specs.declared.dump_and_graph_types.Entry.{Entry}
 use Rattle.ov_dump.specs.declared.dump_and_graph_types.Listing.{Listing}

@@ -1,7 +1,7 @@
 -- One name more.
 use Rattle.std.proofs.Common.{◌≡◌, ◌∙◌, ◌++◌, ◌∷◌, [], ℕ, List, IsUtf8, ap, map, rules, string_bytes, subst, sym, take}
-use Rattle.std.proofs.lemmas.List.{take_more}
 use Rattle.ov_dump.specs.ShownNames.{shown_text}
+use Rattle.ov_dump.proofs.Places.{taken_next}
 use Rattle.ov_dump.proofs.Shown.{all_more, shown_more}
 use Rattle.ov_dump.proofs.dump_importing.shown_names.Goals as goal
 
@@ -11,8 +11,7 @@ loop-name-preserved c =
     let i = c.loop-name.name-index in
     let n = c.name-item.result in
     let s = c.in_ok-shown_name.field-0 in
-    let next = take_more names i n c.loop-name-test.true
-    ∙ ap (λ (m : List ℕ). take i names ++ m ∷ []) (sym c.name-item.is) in
+    let next = taken_next names i n c.loop-name-test.true c.name-item.is in
     let pushed : c.push.new.self.items ≡ c.loop-name.shown.items ++ s ∷ [] = search rules in
     record {
       shown = subst (λ (ns : List (List ℕ)). map (λ name. string_bytes name) c.push.new.self.items ≡ map shown_text ns)

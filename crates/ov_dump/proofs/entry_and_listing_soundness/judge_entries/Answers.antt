@@ -1,9 +1,8 @@
 -- One entry more.
-use Rattle.std.proofs.Common.{◌≡◌, ◌∙◌, ◌++◌, ◌∷◌, [], List, suc, take, drop, ap, sym, subst}
-use Rattle.std.proofs.lemmas.List.{take_more}
+use Rattle.std.proofs.Common.{List, suc, take, drop, sym, subst}
 use Rattle.std.proofs.lemmas.Result.{err_from_is_err_and}
 use Rattle.ov_dump.specs.declared.dump_and_graph_types.Entry.{Entry}
-use Rattle.ov_dump.proofs.Places.{parted}
+use Rattle.ov_dump.proofs.Places.{parted_at, taken_next}
 use Rattle.ov_dump.proofs.Sounding.{SoundSoFar, begun, flaw, more}
 use Rattle.ov_dump.proofs.entry_and_listing_soundness.judge_entries.Goals as goal
 
@@ -15,8 +14,7 @@ loop-entry-preserved c =
     let entries = c.args.entries.now in
     let i = c.loop-entry.entry-index in
     let e = c.entry-item.result in
-    let next = take_more entries i e c.loop-entry-test.true
-    ∙ ap (λ (m : Entry). take i entries ++ m ∷ []) (sym c.entry-item.is) in
+    let next = taken_next entries i e c.loop-entry-test.true c.entry-item.is in
     let judged = c.in_ok-judge_entry.ensures in
     subst (λ (es : List Entry). SoundSoFar es c.judge_entry.new.seen) (sym next)
     (more (take i entries) e c.loop-entry.seen c.judge_entry.new.seen c.loop-entry.invariant judged.named judged.fresh
@@ -27,8 +25,7 @@ returns-in_err-judge_entry-clause-fault c =
     let entries = c.args.entries.now in
     let i = c.loop-entry.entry-index in
     let e = c.entry-item.result in
-    let split = parted entries i e c.loop-entry-test.true
-    ∙ ap (λ (m : Entry). take i entries ++ m ∷ drop (suc i) entries) (sym c.entry-item.is) in
+    let split = parted_at entries i e c.loop-entry-test.true c.entry-item.is in
     let p = err_from_is_err_and c.from_residual.result c.from_residual.ensures.1 in
     rw (p.1, p.2) (flaw entries (take i entries) (drop (suc i) entries) e c.loop-entry.seen
     c.in_err-judge_entry.field-0.0 c.loop-entry.invariant split c.in_err-judge_entry.ensures.fault)

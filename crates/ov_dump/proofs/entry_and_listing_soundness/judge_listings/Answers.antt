@@ -1,10 +1,8 @@
 -- One listing more.
-use Rattle.std.proofs.Common.{◌≡◌, ◌∙◌, ◌++◌, ◌∷◌, [], suc, take, drop, ap, sym, subst}
-use Rattle.std.proofs.lemmas.List.{take_more}
+use Rattle.std.proofs.Common.{suc, take, drop, sym, subst}
 use Rattle.std.proofs.lemmas.Result.{err_from_is_err_and}
 use Rattle.ov_dump.specs.Faults.{AreSoundListings}
-use Rattle.ov_dump.specs.declared.dump_and_graph_types.Listing.{Listing}
-use Rattle.ov_dump.proofs.Places.{parted}
+use Rattle.ov_dump.proofs.Places.{parted_at, taken_next}
 use Rattle.ov_dump.proofs.Sounding.{flaw_listed, more_listed}
 use Rattle.ov_dump.proofs.entry_and_listing_soundness.judge_listings.Goals as goal
 
@@ -13,8 +11,7 @@ loop-listing-preserved c =
     let listings = c.args.listings.now in
     let i = c.loop-listing.listing-index in
     let l = c.listing-item.result in
-    let next = take_more listings i l c.loop-listing-test.true
-    ∙ ap (λ (m : Listing). take i listings ++ m ∷ []) (sym c.listing-item.is) in
+    let next = taken_next listings i l c.loop-listing-test.true c.listing-item.is in
     subst AreSoundListings (sym next)
     (more_listed (take i listings) l c.loop-listing.invariant c.in_ok-judge_listing.ensures.sound)
 
@@ -23,8 +20,7 @@ returns-in_err-judge_listing-clause-fault c =
     let listings = c.args.listings.now in
     let i = c.loop-listing.listing-index in
     let l = c.listing-item.result in
-    let split = parted listings i l c.loop-listing-test.true
-    ∙ ap (λ (m : Listing). take i listings ++ m ∷ drop (suc i) listings) (sym c.listing-item.is) in
+    let split = parted_at listings i l c.loop-listing-test.true c.listing-item.is in
     let p = err_from_is_err_and c.from_residual.result c.from_residual.ensures.1 in
     rw (p.1, p.2) (flaw_listed listings (take i listings) (drop (suc i) listings) l c.in_err-judge_listing.field-0.0
     c.loop-listing.invariant split c.in_err-judge_listing.ensures.fault)

@@ -1,8 +1,8 @@
 -- One listing more, and all.
-use Rattle.std.proofs.Common.{◌≢◌, ◌∙◌, ◌↔◌, ◌++◌, ◌∷◌, [], ℕ, List, take, take_all, ap, sym, subst}
-use Rattle.std.proofs.lemmas.List.{take_more}
+use Rattle.std.proofs.Common.{◌≢◌, ◌↔◌, ℕ, List, take, take_all, sym, subst}
 use Rattle.ov_dump.specs.Code.Numbering.{Follows, NodeLists}
 use Rattle.ov_dump.specs.declared.dump_and_graph_types.Listing.{Listing}
+use Rattle.ov_dump.proofs.Places.{taken_next}
 use Rattle.ov_dump.proofs.Linking.{FollowsSoFar, follows_begun, follows_more}
 use Rattle.ov_dump.proofs.listing_graphs.listing_graphs.Goals as goal
 
@@ -15,8 +15,7 @@ loop-listing-preserved c =
     let listings = c.args.listings.now in
     let i = c.loop-listing.listing-index in
     let l = c.listing-item.result in
-    let next = take_more listings i l c.loop-listing-test.true
-    ∙ ap (λ (m : Listing). take i listings ++ m ∷ []) (sym c.listing-item.is) in
+    let next = taken_next listings i l c.loop-listing-test.true c.listing-item.is in
     let added = c.add_listing.ensures in
     subst (λ (ls : List Listing). FollowsSoFar c.args.names.now ls c.add_listing.new.up c.add_listing.new.down)
     (sym next)

@@ -1,12 +1,9 @@
 -- One entry more.
-use Rattle.std.proofs.Common.{◌≡◌, ◌∙◌, ◌++◌, ◌∷◌, [], List, suc, take, drop, ap, sym, subst}
-use Rattle.std.specs.List.{flat_map}
-use Rattle.std.proofs.lemmas.List.{take_more}
+use Rattle.std.proofs.Common.{◌∙◌, ◌∷◌, [], List, suc, take, drop, ap, sym, subst}
 use Rattle.std.proofs.lemmas.Result.{err_from_is_err_and}
 use Rattle.ov_dump.specs.Code.Taking.{Gains}
-use Rattle.ov_dump.specs.Faults.{Naming, entry_namings, listing_namings}
-use Rattle.ov_dump.specs.declared.dump_and_graph_types.Entry.{Entry}
-use Rattle.ov_dump.proofs.Places.{parted}
+use Rattle.ov_dump.specs.Faults.{Naming, entry_namings}
+use Rattle.ov_dump.proofs.Places.{parted_at, taken_next}
 use Rattle.ov_dump.proofs.Takings.{entries_append, gains_more, gains_none, runs_after}
 use Rattle.ov_dump.proofs.node_names_by_choice.take_entries.Goals as goal
 
@@ -18,8 +15,7 @@ loop-entry-preserved c =
     let all = c.args.entries.now in
     let i = c.loop-entry.entry-index in
     let e = c.entry-item.result in
-    let next = take_more all i e c.loop-entry-test.true
-    ∙ ap (λ (m : Entry). take i all ++ m ∷ []) (sym c.entry-item.is) in
+    let next = taken_next all i e c.loop-entry-test.true c.entry-item.is in
     subst (λ (ms : List Naming). Gains c.args.names.now ms c.take_name.new.names)
     (sym (entries_append (take i all) (e ∷ [])) ∙ ap (λ es. entry_namings (es)) (sym next))
     (gains_more c.args.names.now c.loop-entry.names c.take_name.new.names (entry_namings (take i all))
@@ -31,8 +27,7 @@ returns-in_err-take_name-clause-fault c =
     let all = c.args.entries.now in
     let i = c.loop-entry.entry-index in
     let e = c.entry-item.result in
-    let split = parted all i e c.loop-entry-test.true
-    ∙ ap (λ (m : Entry). take i all ++ m ∷ drop (suc i) all) (sym c.entry-item.is) in
+    let split = parted_at all i e c.loop-entry-test.true c.entry-item.is in
     let p = err_from_is_err_and c.from_residual.result c.from_residual.ensures.1 in
     rw (p.1, p.2) (runs_after c.args.names.now c.loop-entry.names (entry_namings (all)) (entry_namings (take i all))
     ((e.at, e.name) ∷ [])

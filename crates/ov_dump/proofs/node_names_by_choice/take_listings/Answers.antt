@@ -1,12 +1,10 @@
 -- One listing more.
-use Rattle.std.proofs.Common.{◌≡◌, ◌∙◌, ◌++◌, ◌∷◌, [], List, suc, take, drop, ap, sym, subst}
+use Rattle.std.proofs.Common.{◌∙◌, ◌∷◌, [], List, suc, take, drop, ap, sym, subst}
 use Rattle.std.specs.List.{flat_map}
-use Rattle.std.proofs.lemmas.List.{take_more}
 use Rattle.std.proofs.lemmas.Result.{err_from_is_err_and}
 use Rattle.ov_dump.specs.Code.Taking.{Gains}
-use Rattle.ov_dump.specs.Faults.{Naming, entry_namings, listing_namings}
-use Rattle.ov_dump.specs.declared.dump_and_graph_types.Listing.{Listing}
-use Rattle.ov_dump.proofs.Places.{parted}
+use Rattle.ov_dump.specs.Faults.{Naming, listing_namings}
+use Rattle.ov_dump.proofs.Places.{parted_at, taken_next}
 use Rattle.ov_dump.proofs.Takings.{listings_append, gains_more, gains_none, runs_after}
 use Rattle.ov_dump.proofs.node_names_by_choice.take_listings.Goals as goal
 
@@ -18,8 +16,7 @@ loop-listing-preserved c =
     let all = c.args.listings.now in
     let i = c.loop-listing.listing-index in
     let e = c.listing-item.result in
-    let next = take_more all i e c.loop-listing-test.true
-    ∙ ap (λ (m : Listing). take i all ++ m ∷ []) (sym c.listing-item.is) in
+    let next = taken_next all i e c.loop-listing-test.true c.listing-item.is in
     subst (λ (ms : List Naming). Gains c.args.names.now ms c.take_ends.new.names)
     (sym (listings_append (take i all) (e ∷ [])) ∙ ap (λ es. flat_map listing_namings (es)) (sym next))
     (gains_more c.args.names.now c.loop-listing.names c.take_ends.new.names (flat_map listing_namings (take i all))
@@ -31,8 +28,7 @@ returns-in_err-take_ends-clause-fault c =
     let all = c.args.listings.now in
     let i = c.loop-listing.listing-index in
     let e = c.listing-item.result in
-    let split = parted all i e c.loop-listing-test.true
-    ∙ ap (λ (m : Listing). take i all ++ m ∷ drop (suc i) all) (sym c.listing-item.is) in
+    let split = parted_at all i e c.loop-listing-test.true c.listing-item.is in
     let p = err_from_is_err_and c.from_residual.result c.from_residual.ensures.1 in
     rw (p.1, p.2) (runs_after c.args.names.now c.loop-listing.names (flat_map listing_namings (all))
     (flat_map listing_namings (take i all)) (listing_namings e)

@@ -1,5 +1,5 @@
 -- The name is one too many.
-use Rattle.std.proofs.Common.{◌≡◌, ◌≤◌, length, rules}
+use Rattle.std.proofs.Common.{◌≤◌, length, rules}
 use Rattle.std.proofs.lemmas.Bool.{both_ways}
 use Rattle.ov_graph.specs.Links.{most_nodes}
 use Rattle.ov_dump.proofs.Takings.{runs_here}

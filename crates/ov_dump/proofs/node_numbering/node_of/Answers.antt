@@ -1,5 +1,5 @@
 -- The place that a search found, or that there is none.
-use Rattle.std.proofs.Common.{◌≡◌, suc, arith, rules}
+use Rattle.std.proofs.Common.{rules}
 use Rattle.ov_dump.proofs.Numbered.{found_at, not_there}
 use Rattle.ov_dump.proofs.node_numbering.node_of.Goals as goal
 

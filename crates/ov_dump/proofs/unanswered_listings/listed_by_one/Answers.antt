@@ -1,8 +1,7 @@
 -- One listing more, and all.
-use Rattle.std.proofs.Common.{◌≡◌, ◌∙◌, ◌++◌, ◌∷◌, ◌≤◌, [], Some, length, take, ap, rules, sym}
+use Rattle.std.proofs.Common.{◌≡◌, ◌∙◌, ◌++◌, ◌∷◌, [], Some, ap, rules, sym}
 use Rattle.std.proofs.lemmas.Bool.{both_ways}
-use Rattle.std.proofs.lemmas.List.{take_more}
-use Rattle.ov_dump.specs.declared.dump_and_graph_types.Listing.{Listing}
+use Rattle.ov_dump.proofs.Places.{taken_next}
 use Rattle.ov_dump.proofs.Answering.{answered, begun, here, told_all, told_before, told_more}
 use Rattle.ov_dump.proofs.unanswered_listings.listed_by_one.Goals as goal
 
@@ -18,8 +17,7 @@ loop-place-preserved-then-contains c =
     let l = c.index-listings-place.result in
     let is = c.index-listings-place.is in
     let at = here listings i l c.loop-place-test.true ∙ ap Some (sym is) in
-    let next = take_more listings i l c.loop-place-test.true
-    ∙ ap (λ (m : Listing). take i listings ++ m ∷ []) (sym is) in
+    let next = taken_next listings i l c.loop-place-test.true is in
     let back = (c.in_ok-said.ensures (l.to, l.from)).0 (c.contains.ensures.0 c.if-contains.true) in
     answered listings i l c.loop-place.told c.loop-place.places.items c.loop-place.invariant at next back
 
@@ -30,8 +28,7 @@ loop-place-preserved-then-not-fresh c =
     let l = c.index-listings-place.result in
     let is = c.index-listings-place.is in
     let at = here listings i l c.loop-place-test.true ∙ ap Some (sym is) in
-    let next = take_more listings i l c.loop-place-test.true
-    ∙ ap (λ (m : Listing). take i listings ++ m ∷ []) (sym is) in
+    let next = taken_next listings i l c.loop-place-test.true is in
     told_before listings i l c.loop-place.told c.insert.new.self c.loop-place.places.items c.loop-place.invariant at
     next
     (λ h. both_ways _ c.if-contains.false (c.contains.ensures.1 ((c.in_ok-said.ensures (l.to, l.from)).1 h)))
@@ -44,8 +41,7 @@ loop-place-preserved c =
     let l = c.index-listings-place.result in
     let is = c.index-listings-place.is in
     let at = here listings i l c.loop-place-test.true ∙ ap Some (sym is) in
-    let next = take_more listings i l c.loop-place-test.true
-    ∙ ap (λ (m : Listing). take i listings ++ m ∷ []) (sym is) in
+    let next = taken_next listings i l c.loop-place-test.true is in
     let pushed : c.push.new.self.items ≡ c.loop-place.places.items ++ i ∷ [] = search rules in
     told_more listings i l c.loop-place.told c.insert.new.self c.loop-place.places.items c.push.new.self.items
     c.loop-place.invariant at next

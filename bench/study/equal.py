@@ -1,0 +1,75 @@
+#!/usr/bin/env python3
+"""equal.py --overlay PROGRAM --simulate PROGRAM [--further [--costs]] [--count N] [--first SEED]: grows N overlays of
+up to 250 nodes with options drawn at random, by `overlay grow` and `overlay sweep` and by the simulation, and compares
+what they print byte for byte: the scenario, and the row of the sweep. Both must refuse the same overlays.
+
+With --further the further options of docs/GROWING.md are drawn too, and scenarios alone are compared; with --costs also
+the rows of the sweep with what broadcasts cost, and with --sequential the row of each broadcast.
+
+It ends with status 1 at the first difference. The same seeds give the same options.
+"""
+
+import argparse
+import random
+import sys
+from collections import Counter
+
+from compare import drawn, first_difference, run
+from compare_further import drawn_further
+
+
+def options_of(seed, further):
+    """Options, drawn at random."""
+    options = drawn_further(seed) if further else drawn(seed)
+    options.nodes = random.Random(f"nodes {seed}").randint(1, 250)
+    if options.sender is not None:
+        options.sender = min(options.sender, options.nodes)
+    return options
+
+
+def asked_for(given, options):
+    """The rows that both are asked for: the words of one and of the other."""
+    if not given.further:
+        yield ["sweep", "--runs", "1"], ["--csv"]
+    if given.costs:
+        yield ["sweep", "--runs", "1", "--costs"], ["--csv", "--costs"]
+    if given.costs and options.sequential:
+        yield ["sweep", "--runs", "1", "--messages"], ["--messages"]
+
+
+def differences(given, options):
+    """What is compared, and how it differs, in words."""
+    words = options.heading().split(" ")[2:]
+    one, other = run(given.overlay, ["grow", *words]), run(given.simulate, [*words, "--scenario"])
+    status = None if one[0] == other[0] else f"the status is {one[0]} and {other[0]}"
+    yield "refused" if one[0] else "overlay grow", status or first_difference(one[1], other[1])
+    if one[0]:
+        return
+    for ours, theirs in asked_for(given, options):
+        rows = run(given.overlay, [*ours, *words])[1], run(given.simulate, [*words, *theirs])[1]
+        yield " ".join(["overlay", *ours]), first_difference(*rows)
+
+
+def main():
+    parser = argparse.ArgumentParser(description=__doc__, formatter_class=argparse.RawDescriptionHelpFormatter)
+    parser.add_argument("--overlay", required=True)
+    parser.add_argument("--simulate", required=True)
+    parser.add_argument("--further", action="store_true")
+    parser.add_argument("--costs", action="store_true")
+    parser.add_argument("--count", type=int, default=50)
+    parser.add_argument("--first", type=int, default=0)
+    given = parser.parse_args()
+    held = Counter()
+    for seed in range(given.first, given.first + given.count):
+        options = options_of(seed, given.further)
+        for where, difference in differences(given, options):
+            held[where] += 1
+            if difference:
+                print(f"{options.heading()}\n{where}: {difference}")
+                return 1
+    print(", ".join(f"{count} times {where}" for where, count in held.items()), "agreed")
+    return 0
+
+
+if __name__ == "__main__":
+    sys.exit(main())

@@ -1,0 +1,109 @@
+-- The status of an analysis is that of what was answered.
+use Rattle.std.proofs.Common.{◌≡◌, ℕ, Bool, List, [], Option, Some, None, Result, Ok, Err, IfOk, option_map, refl}
+use Rattle.std.proofs.Common.{subst, string_bytes, sym}
+use Rattle.ov_graph.specs.Links.{LinkGraph}
+use Rattle.ov_graphfile.specs.NamesState.{NamesState}
+use Rattle.ov_ids.specs.Sets.{without_all}
+use Rattle.ov_io.specs.Device.{SinkState}
+use Rattle.ov_answers.specs.Analysing.{IsAnalysis, IsAnalysisOf, PrintsAnswer}
+use Rattle.ov_answers.specs.Telling.{IsTelling, TellsAnswer}
+use Rattle.ov_answers.specs.declared.report_or_refusal.Answered.{Answered}
+use Rattle.ov_answers.specs.declared.report_or_refusal.Answered.TheVariants.{Report, NoNodes, BadGroup}
+use Rattle.ov_answers.proofs.Fewer.{loses_nobody}
+use Rattle.ov_arguments.specs.declared.arguments.AnalysisRequest.{AnalysisRequest}
+use Rattle.ov_commands.specs.Alarms.{IsAnswered, IsAnsweredOf, IsAskedBy, IsStatusAsked, IsStatusFor}
+use Rattle.ov_commands.specs.Naming.{AnalysisAsked, AreGone, AreListed, IsGoneGiven, IsGroupLeft, IsListGiven, WasTold}
+use Rattle.ov_commands.specs.Naming.{asked_of, picked}
+use Rattle.ov_commands.specs.Statuses.{HasAnalysed, alarm_status}
+use Rattle.ov_commands.specs.declared.command_fault.CommandFault.{CommandFault}
+use Rattle.ov_commands.specs.declared.node_lists.NodeLists.{NodeLists}
+
+-- what was printed is what was answered
+printed : (g : LinkGraph) (q : List ℕ) (certificate : Bool) (answered : Answered) (text : List ℕ)
+    → PrintsAnswer g q certificate answered text → IsAnswered g q answered
+printed g q certificate (Report k) text is = (is.0, is.1, is.2, is.3)
+printed g q certificate NoNodes text is = is.0
+printed g q certificate BadGroup text is = (is.0, is.1)
+
+-- and so is what was told
+told : (g : LinkGraph) (q : List ℕ) (names : NamesState) (certificate named : Bool) (answered : Answered)
+    (text : List ℕ) → TellsAnswer g q names certificate named answered text → IsAnswered g q answered
+told g q names certificate named (Report k) text is = (is.0, is.2, is.3, is.4)
+told g q names certificate named NoNodes text is = is.0
+told g q names certificate named BadGroup text is = (is.0, is.1)
+
+-- without lists nobody is gone, and the group is that of the ids
+all_left : (ids : Option (List ℕ)) → ids ≡ option_map (without_all []) (picked None ids)
+all_left None = refl
+all_left (Some members) = refl
+
+-- an analysis without lists answers as is asked
+plain : (bytes text : List ℕ) (asked : AnalysisAsked) (certificate : Bool) (answered : Answered)
+    → asked.gone ≡ None → asked.group ≡ None → IsAnalysis bytes asked.ids certificate answered text
+    → IsAnsweredOf bytes asked answered
+plain bytes text asked certificate answered no_gone no_group is = record {
+  graph = is.graph;
+  says = is.says;
+  gone = [];
+  without = (None, subst (λ t. AreListed bytes asked.named t None) (sym no_gone) refl, refl);
+  left = is.graph;
+  loses = loses_nobody is.graph is.says.graph;
+  group = asked.ids;
+  members = (None, subst (λ t. AreListed bytes asked.named t None) (sym no_group) refl, all_left asked.ids);
+  answers = printed is.graph _ certificate answered text is.prints;
+}
+
+-- one that tells more does
+more : (bytes text : List ℕ) (asked : AnalysisAsked) (gone : List ℕ) (group : Option (List ℕ)) (answered : Answered)
+    → AreGone bytes asked gone → IsGroupLeft bytes asked gone group
+    → IsTelling bytes gone group asked.certificate asked.named answered text
+    → IsAnsweredOf bytes asked answered
+more bytes text asked gone group answered are left is = record {
+  graph = is.graph;
+  says = is.says;
+  gone = gone;
+  without = are;
+  left = is.left;
+  loses = is.loses;
+  group = group;
+  members = left;
+  answers = told is.left _ is.names asked.certificate asked.named answered text is.tells;
+}
+
+-- these lists are those that the arguments give
+pub asked_by : (analysis : AnalysisRequest) (lists : NodeLists)
+    → IsGoneGiven (option_map (λ text. string_bytes text) analysis.gone) (option_map (λ text. text.items) lists.gone)
+    → IsListGiven (option_map (λ text. string_bytes text) analysis.group_list)
+    (option_map (λ text. text.items) lists.group)
+    → IsAskedBy analysis (asked_of analysis lists)
+asked_by analysis lists gone group = record {
+  ids = refl;
+  group = group;
+  gone = gone;
+  certificate = refl;
+  named = refl;
+  least = refl;
+}
+
+-- the status of an analysis without lists, of a reader whose bytes may be known
+pub status_printed : {W : Type 0} (analysis : AnalysisRequest) (asked : AnalysisAsked) (reader : Option (List ℕ))
+    (contents : W → Option (List ℕ)) (old new : SinkState W) (result : Result ℕ CommandFault)
+    → IsAskedBy analysis asked → asked.gone ≡ None → asked.group ≡ None
+    → HasAnalysed asked.least (IsAnalysisOf reader contents old asked.ids asked.certificate new) result
+    → IfOk result (IsStatusAsked analysis)
+status_printed analysis asked reader contents old new (Ok status) by no_gone no_group (Ok answered, is, same) =
+    let p = is.prints in
+    let answers = plain p.0 p.1 asked asked.certificate answered no_gone no_group p.3 in
+    let same_status : status ≡ alarm_status asked.least answered = cc in
+    (p.0, asked, by, (answered, answers, same_status))
+status_printed analysis asked reader contents old new (Ok status) by no_gone no_group (Err f, is, same) = absurd cc
+status_printed analysis asked reader contents old new (Err f) by no_gone no_group is = tt
+
+-- the status of an analysis that tells more
+pub status_told : {W : Type 0} (analysis : AnalysisRequest) (bytes : List ℕ) (asked : AnalysisAsked)
+    (contents : W → Option (List ℕ)) (old new : SinkState W) (result : Result ℕ CommandFault)
+    → IsAskedBy analysis asked → WasTold bytes asked contents old new result → IfOk result (IsStatusAsked analysis)
+status_told analysis bytes asked contents old new (Ok status) by (gone, group, did, are, left, is, same) =
+    let t = is.tells in
+    (bytes, asked, by, (did.answered, more bytes t.0 asked gone group did.answered are left t.1, same))
+status_told analysis bytes asked contents old new (Err f) by is = tt
