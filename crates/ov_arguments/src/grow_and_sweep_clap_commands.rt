@@ -253,7 +253,8 @@ fn word<'a>(alloc: Global, option: &'static OptionForm, value: &'static str) -> 
 
 /// An option of this name, with a text.
 fn text<'a>(alloc: Global, name: &'static str, value: &'static str, help: &'static str) -> Arg<'a> {
-    text_argument(alloc, name, help).value_name(value)
+    let argument = text_argument(alloc, name, help);
+    argument.value_name(value)
 }
 
 /// The files of rows that are read.
