@@ -300,7 +300,7 @@ impl<'a> OptionRow<'a> {
 }
 
 /// An option of this name, with a text. Help says this of it.
-pub(crate) fn text_argument<'a>(alloc: Global, name: &'a str, help: &'a str) -> Arg<'a>
+fn text_argument<'a>(alloc: Global, name: &'a str, help: &'a str) -> Arg<'a>
     ensures rule { rule_of result ≡ option name.entry.now }
     ensures local { result.global ≡ false }
 {

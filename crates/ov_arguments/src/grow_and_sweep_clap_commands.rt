@@ -1,8 +1,8 @@
-use crate::clap_commands_and_help::{self, flag_argument as flag, text_argument, with_command};
+use crate::clap_commands_and_help::{self, flag_argument as flag, with_command};
 use crate::growing_option_table::{
     CRASH_CUT, OPTIONS, OptionForm, QUESTION_OPTIONS, SWEEP_OPTIONS, Takes, words_of,
 };
-use clap::{Arg, Command};
+use clap::{Arg, ArgAction, Command};
 use std::alloc::{AllocError, Global};
 
 /// The names of the two commands that grow overlays.
@@ -253,8 +253,11 @@ fn word<'a>(alloc: Global, option: &'static OptionForm, value: &'static str) -> 
 
 /// An option of this name, with a text.
 fn text<'a>(alloc: Global, name: &'static str, value: &'static str, help: &'static str) -> Arg<'a> {
-    let argument = text_argument(alloc, name, help);
-    argument.value_name(value)
+    Arg::new(alloc, name)
+        .long(name)
+        .action(ArgAction::Set)
+        .value_name(value)
+        .help(help)
 }
 
 /// The files of rows that are read.
