@@ -46,7 +46,10 @@ const PARTS: [(&str, Option<usize>); 9] = [
     // of each of two settings after each phase, with a bar for its interval
     ("h0", Some(21)),
     ("stroke-width=\"2\"", Some(6)),
-    (">overlay sweep --nodes 60 --crash 10 --active 4,3<", Some(1)),
+    (
+        ">overlay sweep --nodes 60 --crash 10 --active 4,3<",
+        Some(1),
+    ),
     ("&lt;", Some(0)),
     ("width=\"1200\"", None),
     ("prefers-color-scheme:dark", None),
