@@ -1,7 +1,6 @@
-ghost use Rattle.std.specs.Prelude.{◌≡◌, ◌<◌, ◌+◌, IfErr, IfOk};
-ghost use Rattle.std.specs.Io.KnownBytes.{Appends};
+ghost use Rattle.std.specs.Prelude.{◌≡◌, ◌<◌, ◌+◌, IfErr};
 ghost use Rattle.ov_io.specs.Device.{most_faults};
-ghost use Rattle.ov_grow_commands.specs.Growing.{WasPrinted, certificate_lines};
+ghost use Rattle.ov_grow_commands.specs.Growing.{WasPrinted};
 ghost use Rattle.ov_grow_commands.specs.declared.grow_command_fault.GrowthFault.TheVariants.{Growing};
 ghost use Rattle.ov_grow_commands.specs.declared.grow_command_fault.GrowthFault.TheVariants.{Write as write_failed};
 
@@ -16,16 +15,28 @@ use std::io::Write;
 /// Grows an overlay, and prints its scenario, with the lines for its certificates if they are asked for. Prints nothing
 /// if growing is refused, but why on standard error.
 pub(crate) fn grow_asked(rt: &HostRuntime, request: &GrowRequest) -> Result<(), GrowthFault> {
-    let options = match &request.row {
-        Some(row) => options_of_row(rt, row.as_str())?,
-        None => request.options,
-    };
+    match &request.row {
+        Some(row) => match options_of_row(rt, row.as_str()) {
+            Ok(options) => print_grown(rt, &options, request.certificates),
+            Err(fault) => Err(fault),
+        },
+        None => print_grown(rt, &request.options, request.certificates),
+    }
+}
+
+/// Grows an overlay with these options, and prints its scenario, and the lines for its certificates if they are asked
+/// for.
+fn print_grown(
+    rt: &HostRuntime,
+    options: &GrowOptions,
+    certificates: bool,
+) -> Result<(), GrowthFault> {
     let mut sink = Sink::new(rt.stdout());
-    let moments = print_scenario(rt, &options, &mut sink)?;
-    if !request.certificates {
+    let moments = print_scenario(rt, options, &mut sink)?;
+    if !certificates {
         return Ok(());
     }
-    print_certificate_lines(rt, moments, &mut sink)
+    print_certificate_lines(rt, moments)
 }
 
 /// Grows an overlay with these options, and writes its scenario. Writes nothing if growing is refused. The moments at
@@ -55,17 +66,10 @@ fn print_scenario<W: Write>(
     }
 }
 
-/// Writes the lines by which a scenario asks for the certificates of the reports of these moments. Prints why it ended
+/// Prints the lines by which a scenario asks for the certificates of the reports of these moments. Prints why it ended
 /// before its end.
-fn print_certificate_lines<W: Write>(
-    rt: &HostRuntime,
-    moments: [u32; 3],
-    sink: &mut Sink<W>,
-) -> Result<(), GrowthFault>
-    requires { sink.old.faults < most_faults }
-    ensures { IfOk result (λ _. Appends (W.contents sink.old.writer) (W.contents sink.new.writer)
-        (certificate_lines moments)) }
-{
+fn print_certificate_lines(rt: &HostRuntime, moments: [u32; 3]) -> Result<(), GrowthFault> {
+    let mut sink = Sink::new(rt.stdout());
     let [settled, crashed, healed] = moments;
     match format!(in rt.alloc();
         "certificate {settled}\ncertificate {crashed}\ncertificate {healed}\n"

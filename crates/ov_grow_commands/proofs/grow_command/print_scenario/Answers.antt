@@ -25,6 +25,7 @@ is_grown o text core settled crashed healed grows replays = record {
 }
 
 pub returns-in-Ok-write_all-clause-printed : goal.returns-in-Ok-write_all-clause-printed
+unfolding is_grown
 returns-in-Ok-write_all-clause-printed g c =
     let grown = c.in-Ok.grown in (
       grown.text.items,
