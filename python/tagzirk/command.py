@@ -27,10 +27,14 @@ from .wide import Wide, widest
 
 MOST_NAMES = 8
 
-READS = """FILE is a dump of what each host lists, in a form of `overlay import`, or as JSON of nodes and links
+DUMP_FORMS = """FILE is a dump of what each host lists, in a form of `overlay import`, or as JSON of nodes and links
 (networkx, d3, NetJSON, cytoscape), objects or lists of hosts with their peers, JSON lines, GraphML, GEXF, GML, YAML,
-CSV with a header, lines with weights, `;` or arrows, or lists of neighbours. Several files, or a folder, are one file a
+CSV with a header, lines with weights, `;` or arrows, or lists of neighbours. """
+READS = f"""{DUMP_FORMS}Several files, or a folder, are one file a
 host, whose name is the host's. Without FILE, or with -, standard input is read. Notes on the dump go to standard error.
+"""
+READS_MANY = f"""{DUMP_FORMS}Each FILE is a dump; one folder stands
+for the dumps in it. Notes on the dumps go to standard error.
 """
 
 
@@ -251,10 +255,16 @@ def parser() -> argparse.ArgumentParser:
     def command(
         name: str, run: Callable[[argparse.Namespace], int], files: str, text: str, *parents: argparse.ArgumentParser
     ) -> argparse.ArgumentParser:
+        many = files == "+"
         made = commands.add_parser(
-            name, help=text, description=f"{text[0].upper()}{text[1:]}.", epilog=READS, parents=[dump, *parents]
+            name,
+            help=text,
+            description=f"{text[0].upper()}{text[1:]}.",
+            epilog=READS_MANY if many else READS,
+            parents=[dump, *parents],
         )
-        made.add_argument("files", nargs=files, metavar="FILE", help="the dump, or one file a host")
+        shown = "a dump, or a folder of dumps" if many else "the dump, or one file a host"
+        made.add_argument("files", nargs=files, metavar="FILE", help=shown)
         made.set_defaults(run=run, name=name)
         return made
 
