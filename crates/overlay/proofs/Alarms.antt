@@ -17,7 +17,7 @@ least_given (Some t) (Some k) status is (inr three) = inr (three, λ none. absur
 pub status_given : (arguments : List (List ℕ)) (r : Request) (status : ℕ) → IsOfGiven arguments r
     → IsStatusOf r status → IsStatusGiven arguments status
 status_given arguments (Analyse file analysis) status given is =
-    elim (least_given (text_given arguments (codes "at-least")) analysis.at_least status given.5 is) [
+    elim (least_given (text_given arguments (codes "at-least")) analysis.at_least status given.5 is.1) [
       | inl zero ↦ inl zero
       | inr three ↦ inr (three.0, given.0, three.1)
     ]
