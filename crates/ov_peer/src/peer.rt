@@ -1,5 +1,6 @@
 ghost use Rattle.std.specs.Prelude.{◌≡◌, ◌≤◌, ℕ, List, length, vec_len, None, false, IfOk, IfErr, IsOk};
-ghost use Rattle.std.specs.Prelude.{OnOk, OnErr};
+ghost use Rattle.std.specs.Prelude.{OnOk, OnErr, option_map};
+ghost use Rattle.std.specs.FinMap as map;
 ghost use Rattle.std.specs.FinSet as set;
 ghost use Rattle.ov_ids.specs.FaultOrder.{IsRefusedBy};
 ghost use Rattle.ov_wire.specs.Messages.{AreInRange, AreSendsInRange};
@@ -154,6 +155,14 @@ impl Peer {
         ensures { result ≡ set.contains self.now.tree.running id }
     {
         self.plum.has_timer(id)
+    }
+
+    /// The round with which the node holds this message, if it holds it: 0 if it made the message, and else how many
+    /// links the message came over, up to 65,535.
+    pub fn held_round(&self, id: MsgId) -> Option<u16>
+        ensures { result ≡ option_map (λ h. h.round) (map.get self.now.tree.held id) }
+    {
+        self.plum.held_round(id)
     }
 
     /// Plans one step, in which the node takes an input. Random choices are drawn from the words. The node is not

@@ -1,5 +1,6 @@
 ghost use Rattle.std.specs.Prelude.{◌≡◌, ◌<◌, ◌≤◌, ◌+◌, ◌↔◌, [], false, length, vec_len};
-ghost use Rattle.std.specs.Prelude.{None, Ok, Err, IfOk, IsOk, OnOk, OnErr};
+ghost use Rattle.std.specs.Prelude.{None, Ok, Err, IfOk, IsOk, OnOk, OnErr, option_map};
+ghost use Rattle.std.specs.FinMap as map;
 ghost use Rattle.std.specs.FinSet as set;
 ghost use Rattle.ov_wire.specs.Messages.{most_payload, say};
 ghost use Rattle.ov_wire.specs.declared.message.Body.TheVariants.{Gossip, IHave, Graft, Prune};
@@ -105,6 +106,17 @@ impl Plum {
         ensures kept { IsPlum self.now }
     {
         self.waiting.runs(&id)
+    }
+
+    /// The round with which the node holds a message, if it holds it: 0 if it made the message, and else how many links
+    /// the message came over, up to 65,535.
+    pub fn held_round(&self, id: MsgId) -> Option<u16>
+        ensures { result ≡ option_map (λ h. h.round) (map.get self.now.held id) }
+    {
+        match self.held.get(&id) {
+            Some(held) => Some(held.round()),
+            None => None,
+        }
     }
 
     /// Plans a broadcast of the node's own, of at most 1,024 bytes, which is not its 4,097th: it is to be held,
