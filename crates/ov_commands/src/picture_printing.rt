@@ -8,9 +8,9 @@ ghost use Rattle.ov_commands.specs.Pictures.{outcome_number};
 ghost use Rattle.ov_commands.specs.Code.Endings.{IsNotHeld, IsNotNamed};
 ghost use Rattle.ov_commands.specs.declared.conversion_fault.FileCommandFault.TheVariants as ended;
 
-use crate::certificate_graph_printing::{told, written};
 use crate::conversion_fault::FileCommandFault;
 use crate::existing_entries_tip::entries_of;
+use crate::graph_file_out_of_certificate_file::{told, written};
 use ov_arguments::{AskedEntry, PictureRequest};
 use ov_cert::Cert;
 use ov_certfile::Filed;

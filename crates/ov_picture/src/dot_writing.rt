@@ -2,7 +2,7 @@ ghost use Rattle.std.specs.Prelude.{◌≡◌, ◌++◌, ℕ, List, codes, strin
 
 use crate::class_names::{link_class_name, node_class_name};
 use crate::component_colours::{pale_colour, strong_colour};
-use crate::components::{Component, Components};
+use crate::component_ranking::{Component, Components};
 use crate::escaped_texts::push_dot;
 use crate::headings::{push_some, small_lines};
 use crate::labels::Labels;

@@ -1,5 +1,5 @@
 use crate::Drawing;
-use crate::components::Components;
+use crate::component_ranking::Components;
 use crate::labels::{Labels, letters_of};
 use crate::node_position::number;
 use crate::sentences::{components_of, counts_of, members_of, paths_of, sentence_of};

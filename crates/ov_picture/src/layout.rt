@@ -1,5 +1,5 @@
 use crate::Drawing;
-use crate::components::Components;
+use crate::component_ranking::Components;
 use crate::labels::Labels;
 use crate::node_columns::Columns;
 use crate::node_position::{LEFT, Place, RIGHT, UP};

@@ -5,7 +5,7 @@
 mod chosen_entry;
 mod class_names;
 mod component_colours;
-mod components;
+mod component_ranking;
 mod dot_writing;
 mod drawing;
 mod escaped_texts;

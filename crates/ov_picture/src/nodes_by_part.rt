@@ -1,4 +1,4 @@
-use crate::components::Components;
+use crate::component_ranking::Components;
 use crate::{Band, DrawnNode, NodeClass};
 use std::alloc::{AllocError, Global};
 use std::ops::Range;

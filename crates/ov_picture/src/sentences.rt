@@ -1,4 +1,4 @@
-use crate::components::Components;
+use crate::component_ranking::Components;
 use crate::labels::Labels;
 use crate::{ChosenEntry, Drawing, DrawnNode, NodeClass};
 use ov_ids::NodeId;

@@ -1,5 +1,5 @@
 use crate::component_colours::{COMPONENT_COLOURS, MOST_COLOURED};
-use crate::components::{Component, Components, Main};
+use crate::component_ranking::{Component, Components, Main};
 use crate::layout::Layout;
 use crate::node_position::{Place, RIGHT, number};
 use crate::path_colours::{colour_of, dashes_of};

@@ -1,6 +1,6 @@
 use crate::class_names::link_class_name;
 use crate::component_colours::colour_class;
-use crate::components::{Component, Components, place_of};
+use crate::component_ranking::{Component, Components, place_of};
 use crate::layout::{Layout, at};
 use crate::node_position::Place;
 use crate::path_colours::{colour_of, dashes_of};

@@ -1,6 +1,6 @@
 use crate::class_names::node_class_name;
 use crate::component_colours::colour_class;
-use crate::components::{Component, Components};
+use crate::component_ranking::{Component, Components};
 use crate::escaped_texts::push_xml;
 use crate::labels::Labels;
 use crate::layout::Layout;

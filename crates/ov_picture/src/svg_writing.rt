@@ -1,6 +1,6 @@
 ghost use Rattle.std.specs.Prelude.{◌≡◌, ◌++◌, ℕ, List, codes, string_bytes, IfOk};
 
-use crate::components::Components;
+use crate::component_ranking::Components;
 use crate::escaped_texts::push_xml;
 use crate::headings::{EDGE, FIRST, Heading, LINES};
 use crate::labels::Labels;
