@@ -1,4 +1,4 @@
-use crate::{Drawing, DrawnLink, DrawnNode, LinkClass, NodeClass};
+use ov_drawing::{Drawing, DrawnLink, DrawnNode, LinkClass, NodeClass};
 use std::alloc::{AllocError, Global};
 
 /// A connected component that the crash leaves.

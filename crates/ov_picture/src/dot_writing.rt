@@ -10,7 +10,7 @@ use crate::layout::{Layout, Plan};
 use crate::path_colours::light_colour;
 use crate::sentences::{components_of, members_of, sentence_of};
 use crate::svg_links::component_of;
-use crate::{Drawing, DrawnLink, DrawnNode, LinkClass, NodeClass};
+use ov_drawing::{Drawing, DrawnLink, DrawnNode, LinkClass, NodeClass};
 use ov_ids::OutOfMemory;
 use std::alloc::{AllocError, Global};
 use std::fmt::Write;

@@ -5,7 +5,7 @@ use crate::node_position::{Place, RIGHT, number};
 use crate::path_colours::{colour_of, dashes_of};
 use crate::sentences::{count_of, outside};
 use crate::svg_nodes::push_node;
-use crate::{Drawing, DrawnNode, NodeClass};
+use ov_drawing::{Drawing, DrawnNode, NodeClass};
 use ov_ids::NodeId;
 use std::alloc::AllocError;
 use std::fmt::Write;

@@ -5,7 +5,7 @@ use crate::layout::{Layout, at};
 use crate::node_position::Place;
 use crate::path_colours::{colour_of, dashes_of};
 use crate::svg_bends::bend_of;
-use crate::{Drawing, DrawnLink, DrawnNode, LinkClass};
+use ov_drawing::{Drawing, DrawnLink, DrawnNode, LinkClass};
 use std::alloc::AllocError;
 use std::fmt::Write;
 

@@ -6,7 +6,7 @@ use crate::labels::Labels;
 use crate::layout::Layout;
 use crate::node_position::{LEFT, Place, RIGHT, TURN};
 use crate::sentences::is_end;
-use crate::{Drawing, DrawnNode, NodeClass};
+use ov_drawing::{Drawing, DrawnNode, NodeClass};
 use std::alloc::AllocError;
 use std::fmt::Write;
 
