@@ -1,7 +1,7 @@
-use crate::name_set::NameSet;
 use crate::names_listing_themselves::{are_same, listing_themselves};
 use crate::names_without_entry::{add, without_entry};
 use crate::pair_set::PairSet;
+use crate::sorted_set_of_names::NameSet;
 use crate::unanswered_listings::listed_by_one;
 use crate::{Choice, Dump, Entry, Listing, Name};
 use ov_ids::OutOfMemory;

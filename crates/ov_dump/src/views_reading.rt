@@ -5,7 +5,7 @@ ghost use Rattle.ov_dump.specs.Views.{listings_of, names_in, peers};
 ghost use Rattle.ov_dump.specs.Code.Reading.{DumpOf, FailsAt, FailsFrom, as_items, as_members, names_read};
 ghost use Rattle.ov_dump.specs.declared.reading_fault.ReadingFault.TheVariants.{OutOfMemory as out_of_memory};
 
-use crate::name_and_listing_making::{listing_of, name_of};
+use crate::name_and_listing_from_text::{listing_of, name_of};
 use crate::reading_fault::ReadingFault;
 use crate::{Dump, Entry, Listing};
 use json::{Error, Scratch, Value};

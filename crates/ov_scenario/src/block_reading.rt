@@ -5,7 +5,7 @@ ghost use Rattle.ov_scenario.specs.Code.RunnableLines.{AreReadable, TakesIn, Tak
 ghost use Rattle.ov_scenario.specs.Code.RunnableLines.{to_run};
 ghost use Rattle.ov_scenario.specs.declared.scenario.Line.TheVariants as line;
 
-use crate::event_words_reading::GivenWords;
+use crate::given_random_words_reading::GivenWords;
 use crate::line_of_section::{Deed, SectionLine};
 use crate::statement::{Stated, Statement};
 use crate::statement_reading::state;

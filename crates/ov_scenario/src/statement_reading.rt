@@ -13,7 +13,7 @@ ghost use Rattle.ov_scenario.specs.declared.scenario.Look.TheVariants as look;
 ghost use Rattle.ov_scenario.specs.declared.statement.Statement.TheVariants as says;
 ghost use Rattle.ov_scenario.specs.declared.statement_reading.Unstated.TheVariants as unstated;
 
-use crate::event_words_reading::GivenWords;
+use crate::given_random_words_reading::GivenWords;
 use crate::numbered_events::Numbered;
 use crate::scenario::{Look, Subject};
 use crate::statement::{Stated, Statement};
