@@ -31,8 +31,8 @@ pub(crate) enum Listed<'a> {
 }
 
 /// Reads a dump that is a JSON object (RFC 8259). Each key is a name with an entry, and its value is the list of the
-/// names that it lists: texts, and whole numbers as they are written. `null` lists nobody, and is passed over in a list.
-/// A key that is there twice gives two entries.
+/// names that it lists: texts, and whole numbers as they are written. `null` lists nobody, and is passed over in a
+/// list. A key that is there twice gives two entries.
 ///
 /// NotJson (60): the bytes are no UTF-8 or no JSON. NotViews (83): they are another JSON value than an object. NoView
 /// (83) says the first entry whose value is no list of names. OutOfMemory (99) is returned if an allocation was

@@ -60,8 +60,8 @@ impl<'a> BlockSoFar<'a> {
         line: KeptLine<'a>,
         draws: &mut SeedWords,
     ) -> Result<bool, OutOfMemory>
-        ensures { IfOk result (λ is_last. TakesIn (stream_now draws.old) self.old (line.entry.number, line.entry.text.now)
-            is_last (stream_now draws.new) self.new) }
+        ensures { IfOk result (λ is_last. TakesIn (stream_now draws.old) self.old
+            (line.entry.number, line.entry.text.now) is_last (stream_now draws.new) self.new) }
     {
         let KeptLine { number, text } = line;
         let stated = state(alloc, number, text)?;

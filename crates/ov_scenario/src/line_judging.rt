@@ -12,8 +12,8 @@ use crate::scenario_fault::{LineFault, Setting};
 use crate::statement::{Stated, Statement};
 use ov_ids::Params;
 
-/// What is known of the lines before a line: the numbers of the first event, the first parameters, the first seed and the
-/// first rule at DISCONNECT, whether or not these are at fault, and the block that is open.
+/// What is known of the lines before a line: the numbers of the first event, the first parameters, the first seed and
+/// the first rule at DISCONNECT, whether or not these are at fault, and the block that is open.
 #[derive(Clone, Copy)]
 pub(crate) struct Before {
     event: Option<usize>,

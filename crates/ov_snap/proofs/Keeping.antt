@@ -1,7 +1,7 @@
 -- A core stays sound, whatever happens and whatever is filed.
 use Rattle.std.proofs.Common.{◌≡◌, ◌≢◌, ◌⊎◌, ℕ, ◌<◌, List, [], ◌∷◌, ◌++◌, length, length-append, Option, Some, None}
-use Rattle.std.proofs.Common.{IfSome, IfNone, Result, Ok, Err, IfOk, OnOk, OnErr, true≢false, Bool, IsTrue, ◌↔◌, false, inl}
-use Rattle.std.proofs.Common.{◌≤◌, slice_get, inr, refl, sym, ap, ap₂, ◌∙◌, subst, arith}
+use Rattle.std.proofs.Common.{IfSome, IfNone, Result, Ok, Err, IfOk, OnOk, OnErr, true≢false, Bool, IsTrue, ◌↔◌, false}
+use Rattle.std.proofs.Common.{inl, ◌≤◌, slice_get, inr, refl, sym, ap, ap₂, ◌∙◌, subst, arith}
 use Rattle.std.proofs.lemmas.Option.{none-some}
 use Rattle.ov_ids.specs.ParamsState.{ParamsState}
 use Rattle.ov_ids.specs.Members.{Has, Ordered}
