@@ -41,4 +41,5 @@ returns-clause-happened c =
     subst (λ (b : CoreState). OnOk c.take_event.result ((e : Entry) × Happened b c.args.event c.args.words.now e after))
     c.self.view_is
     (other_happened i.world c.take_event.new.self i.snapshots.items i.desks.items i.reports c.args.event
-    c.args.words.now c.take_event.result c.is_snapshot.result c.if-is_snapshot.false c.is_snapshot.ensures s.judged s.step)
+    c.args.words.now c.take_event.result c.is_snapshot.result c.if-is_snapshot.false c.is_snapshot.ensures
+    s.judged s.step)
