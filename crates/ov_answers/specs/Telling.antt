@@ -66,8 +66,8 @@ pub record IsTelling (bytes gone : List ℕ) (group : Option (List ℕ)) (certif
 
 -- An analysis of the graph file of these bytes that tells more, from a sink before it to what it is after it.
 -- `contents` are the bytes that a writer holds, if they are known. The analysis is of the graph without the nodes that
--- are gone, for this group, or for all nodes that are left, `certificate` asks for the certificate file too, and `named`
--- for the lines with names.
+-- are gone, for this group, or for all nodes that are left, `certificate` asks for the certificate file too, and
+-- `named` for the lines with names.
 pub record IsToldOf {W : Type 0} (bytes : List ℕ) (contents : W → Option (List ℕ)) (sink_before : SinkState W)
     (gone : List ℕ) (group : Option (List ℕ)) (certificate named : Bool) (sink_after : SinkState W)
     (result : Result Told RunFault) : Type 0 where

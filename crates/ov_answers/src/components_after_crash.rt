@@ -2,9 +2,9 @@ ghost use Rattle.std.specs.Prelude.{◌≡◌, ℕ, ◌<◌, [], ◌∷◌, ◌+
 ghost use Rattle.ov_graph.specs.Row.{HasBit, picked};
 ghost use Rattle.ov_answers.specs.Components.{AreComponents};
 
+use crate::bits_of_nodes_outside_cut::row_of_survivors;
 use crate::component_list::Components;
 use crate::flood_fill::take_component;
-use crate::survivor_rows::row_of_survivors;
 use ov_graph::Graph;
 use ov_graph::bit_rows::{WORDS, first_from, has};
 use ov_ids::{NodeId, OutOfMemory};

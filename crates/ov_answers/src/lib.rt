@@ -4,6 +4,7 @@
 
 mod answer_making;
 mod answer_writing;
+mod bits_of_nodes_outside_cut;
 mod component_list;
 mod component_texts;
 mod components_after_crash;
@@ -15,7 +16,6 @@ mod name_lines;
 mod report_or_refusal;
 mod request;
 mod sentences;
-mod survivor_rows;
 mod survivors_and_least_linked_members;
 mod unique_components_theorem;
 

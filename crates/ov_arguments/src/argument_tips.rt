@@ -1,5 +1,5 @@
 //! What a person may mean who wrote arguments that are refused, or a file that can't be opened.
-use crate::command_names::is_command;
+use crate::command_name_check::is_command;
 use crate::grow_and_sweep_clap_commands::{CommandName, command_tree};
 use clap::Command;
 use ov_io::shown_name;

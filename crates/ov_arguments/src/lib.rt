@@ -4,12 +4,12 @@
 mod argument_tips;
 mod arguments;
 mod certificate_option_tip;
+mod choice_of_grow_or_sweep;
 mod clap_commands_and_help;
 mod clap_parsing_and_faults;
-mod command_names;
+mod command_name_check;
 mod grow_and_sweep_clap_commands;
 mod grow_arguments_fault;
-mod grow_or_sweep_request;
 mod grow_request;
 mod growing_option_table;
 mod import_and_picture_requests;
@@ -25,9 +25,9 @@ mod value_slips;
 
 pub use argument_tips::unopened_tip;
 pub use arguments::{AnalysisRequest, ArgumentsFault, Request, RunRequest, read_arguments};
-pub use command_names::is_command;
+pub use choice_of_grow_or_sweep::{GrowingRequest, read_growing};
+pub use command_name_check::is_command;
 pub use grow_arguments_fault::GrowArgumentsFault;
-pub use grow_or_sweep_request::{GrowingRequest, read_growing};
 pub use grow_request::{GrowRequest, read_grow_arguments};
 pub use import_and_picture_requests::{AskedEntry, DumpFormat, ImportRequest, PictureRequest};
 pub use refused_argument_texts::argument_reasons;

@@ -2,7 +2,7 @@ use crate::argument_tips::{joined_list, push_list, with_tip};
 use crate::arguments::{is_read_later, read_least};
 use crate::certificate_option_tip::certificate_tip;
 use crate::clap_commands_and_help::command;
-use crate::command_names::is_command;
+use crate::command_name_check::is_command;
 use crate::grow_and_sweep_clap_commands::command_tree;
 use clap::error::ErrorKind;
 use clap::{ArgMatches, Command};

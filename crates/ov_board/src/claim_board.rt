@@ -8,7 +8,7 @@ use crate::atomic_exchange_rules::{
     Apart, Claiming, Entering, Failing, Lawful, Looking, Number, Together,
 };
 use crate::ghost_views::{BoardSize, SeatView};
-use crate::seat::Seat;
+use crate::worker_seat::Seat;
 use atomic_table::{Seat as TableSeat, Table};
 use ov_ids::{OutOfMemory, Workers};
 use std::alloc::Global;

@@ -7,10 +7,10 @@ mod claim_board;
 mod claim_desk;
 mod ghost_views;
 mod legal_claims_theorems;
-mod seat;
 mod worker_claims;
+mod worker_seat;
 
 pub use claim_board::Board;
 pub use claim_desk::Desk;
 pub use legal_claims_theorems::{ends_done, stays_legal};
-pub use seat::Seat;
+pub use worker_seat::Seat;

@@ -3,8 +3,8 @@ use Rattle.std.specs.Prelude.{◌≡◌, ◌++◌, ℕ, suc, List, [], ◌∷◌
 use Rattle.ov_graph.specs.Links.{LinkGraph}
 use Rattle.ov_graph.specs.Even.{later_members}
 use Rattle.ov_cert.specs.declared.cert.Split.{Split}
-use Rattle.ov_cert.specs.declared.expected_entry.Expected.{Expected}
-use Rattle.ov_cert.specs.declared.expected_entry.Expected.TheVariants.{Pair, Fan}
+use Rattle.ov_cert.specs.declared.expected_entry_with_place_and_fault.Expected.{Expected}
+use Rattle.ov_cert.specs.declared.expected_entry_with_place_and_fault.Expected.TheVariants.{Pair, Fan}
 use Rattle.ov_cert.specs.declared.fault.CheckFault.{CheckFault}
 use Rattle.ov_cert.specs.declared.fault.CheckFault.TheVariants as fault
 use Rattle.ov_cert.specs.Valid.{AreUnlinkedPairs}

@@ -10,7 +10,7 @@ ghost use Rattle.ov_cert.specs.Code.Tests.{unlinked_before, pairs_after, expecte
 
 use crate::cert::Split;
 use crate::entry_judging::{fan_flaw, pair_flaw};
-use crate::expected_entry::Expected;
+use crate::expected_entry_with_place_and_fault::Expected;
 use crate::fault::CheckFault;
 use crate::first_and_later_members::{first_members, later_members};
 use crate::path_and_entry_flaws::EntryFlaw;

@@ -6,8 +6,8 @@ mod cert;
 mod checker;
 mod checks_apart_from_paths;
 mod entry_judging;
-mod expected_entry;
 mod expected_entry_listing_and_judging;
+mod expected_entry_with_place_and_fault;
 mod fault;
 mod first_and_later_members;
 mod flaw_types_apart_from_paths;
@@ -24,10 +24,10 @@ pub use all_linked::are_all_linked;
 pub use cert::{Cert, FanPaths, PairPaths, Split};
 pub use checker::{check, check_group};
 pub use checks_apart_from_paths::{check_frame, check_group_frame, frame_flaw};
-pub use expected_entry::Expected;
 pub use expected_entry_listing_and_judging::{
     entry_flaw, expected, expected_group, judge_entry, judge_group_entry,
 };
+pub use expected_entry_with_place_and_fault::Expected;
 pub use fault::CheckFault;
 pub use flaw_types_apart_from_paths::{EndFlaw, FrameFlaw, SetFlaw, SideFlaw};
 pub use graph_with_valid_certificate::Checked;

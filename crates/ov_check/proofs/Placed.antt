@@ -7,8 +7,8 @@ use Rattle.ov_graph.specs.Even.{later_members}
 use Rattle.ov_cert.specs.declared.cert.Cert.TheVariants as cert
 use Rattle.ov_cert.specs.declared.cert.Split.{Split}
 use Rattle.ov_cert.specs.declared.fault.CheckFault.TheVariants.{Extra}
-use Rattle.ov_cert.specs.declared.expected_entry.Expected.{Expected}
-use Rattle.ov_cert.specs.declared.expected_entry.Expected.TheVariants.{Pair, Fan}
+use Rattle.ov_cert.specs.declared.expected_entry_with_place_and_fault.Expected.{Expected}
+use Rattle.ov_cert.specs.declared.expected_entry_with_place_and_fault.Expected.TheVariants.{Pair, Fan}
 use Rattle.ov_cert.specs.Valid.{AreUnlinkedPairs}
 use Rattle.ov_cert.specs.Verdict.{AllHold, IsFirstAtFault, PassesFrame, HoldsPair, HoldsFan, IsEntryFault}
 use Rattle.ov_cert.specs.Verdict.{JudgedForGroup}

@@ -3,7 +3,7 @@ use Rattle.std.specs.Prelude.{◌≡◌, ◌≢◌, ◌+◌, ℕ, List, Option, 
 use Rattle.std.specs.Io.KnownBytes.{Appends, IsAtEnd}
 use Rattle.ov_io.specs.Device.{SourceState, SinkState, read_faults, write_faults, ReaderFailed}
 use Rattle.ov_io.specs.Device.{AppendsPrefixOf}
-use Rattle.ov_check.specs.declared.engine.Judged.{Judged}
+use Rattle.ov_check.specs.declared.read_judge_and_print_outcome.Judged.{Judged}
 use Rattle.ov_check.specs.declared.outcome_of_file_bytes.Outcome.{Outcome}
 use Rattle.ov_check.specs.declared.read_or_write_fault.JudgeFault.{JudgeFault}
 use Rattle.ov_check.specs.declared.read_or_write_fault.JudgeFault.TheVariants.{Read, Write, OutOfMemory}

@@ -7,14 +7,14 @@ mod bad_values;
 mod count_cut_and_side_words;
 mod explain;
 mod fault_phrases;
-mod files_of_other_forms;
 mod found_values;
 mod graph_words;
 mod near_keys;
+mod packed_and_utf_16_files;
 mod path_words;
 mod refused_file_words;
 mod sentence_parts;
 mod wrong_entries;
 
 pub use explain::reasons;
-pub use files_of_other_forms::{form_tip, has_other_form};
+pub use packed_and_utf_16_files::{form_tip, has_other_form};

@@ -6,11 +6,11 @@ use Rattle.ov_cert.specs.declared.cert.Cert.{Cert}
 use Rattle.ov_certfile.specs.declared.reading.Filed.{Filed}
 use Rattle.ov_check.specs.Outcome.{IsOutcome}
 use Rattle.ov_check.specs.declared.outcome_of_file_bytes.Outcome.TheVariants.{Holds}
-use Rattle.ov_picture.specs.Chosen.{shown_paths}
-use Rattle.ov_picture.specs.Faults.{PictureJudged}
-use Rattle.ov_picture.specs.declared.chosen_entry.ChosenEntry.{ChosenEntry}
-use Rattle.ov_picture.specs.declared.fault.PictureFault.{PictureFault}
-use Rattle.ov_picture.specs.declared.fault.PictureFault.TheVariants as drawing
+use Rattle.ov_drawing.specs.Chosen.{shown_paths}
+use Rattle.ov_drawing.specs.Faults.{PictureJudged}
+use Rattle.ov_drawing.specs.declared.chosen_entry.ChosenEntry.{ChosenEntry}
+use Rattle.ov_drawing.specs.declared.fault.PictureFault.{PictureFault}
+use Rattle.ov_drawing.specs.declared.fault.PictureFault.TheVariants as drawing
 use Rattle.ov_commands.specs.Printing.{IsGraphTextOf, WasGraphPrinted}
 use Rattle.ov_commands.specs.Pictures.{EndsAsAsked, IsDrawable, WasPicturePrinted}
 use Rattle.ov_commands.specs.Code.Endings.{IsNotNamed, WasWritten}

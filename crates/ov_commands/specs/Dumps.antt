@@ -10,7 +10,7 @@ use Rattle.ov_dump.specs.Faults.{IsDumpFault}
 use Rattle.ov_dump.specs.Faults as dump
 use Rattle.ov_dump.specs.declared.dump_and_graph_types.Choice.{Choice}
 use Rattle.ov_dump.specs.declared.dump_and_graph_types.Dump.{Dump}
-use Rattle.ov_dump.specs.declared.fault.DumpFault.TheVariants as dump_fault
+use Rattle.ov_dump.specs.declared.graph_making_fault.DumpFault.TheVariants as dump_fault
 use Rattle.ov_dump.specs.Edges.{SaysEdges, IsEdgesFault}
 use Rattle.ov_dump.specs.FaultNumbers as reading
 use Rattle.ov_dump.specs.Views.{SaysViews, IsViewsFault}

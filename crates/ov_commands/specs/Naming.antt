@@ -56,8 +56,8 @@ IsGoneGiven (Some argument) None = NamesFile argument × IsListText argument []
 IsGoneGiven (Some argument) (Some text) = IsListText argument text × (NamesFile argument → text ≢ [])
 
 -- what is asked of an analysis, besides its graph file: the ids of the group, or the text of the list that names it;
--- the text of the list of the nodes that are gone; whether the certificate file and the lines with names are asked for; and
--- the least number k
+-- the text of the list of the nodes that are gone; whether the certificate file and the lines with names are asked for;
+-- and the least number k
 pub record AnalysisAsked : Type 0 where
   pub ids : Option (List ℕ)
   pub group : Option (List ℕ)

@@ -16,9 +16,9 @@ use Rattle.ov_graphfile.specs.GraphFiles.{IsGraphFile, IsGraphFileFault}
 use Rattle.ov_graphfile.specs.declared.fault.GraphFileFault.{GraphFileFault}
 use Rattle.ov_graphfile.specs.declared.fault.GraphFileFault.TheVariants as graph_file_fault
 use Rattle.ov_io.specs.Device.{AppendsPrefixOf}
-use Rattle.ov_picture.specs.Chosen.{shown_paths}
-use Rattle.ov_picture.specs.declared.chosen_entry.ChosenEntry.{ChosenEntry}
-use Rattle.ov_picture.specs.declared.chosen_entry.ChosenEntry.TheVariants.{Pair, Fan}
+use Rattle.ov_drawing.specs.Chosen.{shown_paths}
+use Rattle.ov_drawing.specs.declared.chosen_entry.ChosenEntry.{ChosenEntry}
+use Rattle.ov_drawing.specs.declared.chosen_entry.ChosenEntry.TheVariants.{Pair, Fan}
 use Rattle.ov_commands.specs.declared.conversion_fault.FileCommandFault.{FileCommandFault}
 use Rattle.ov_commands.specs.declared.conversion_fault.FileCommandFault.TheVariants.{Refused, Write, OutOfMemory}
 

@@ -22,9 +22,9 @@ use ov_run_meaning::RunFault;
 use std::io::{Read, Write};
 use std::thread::Threads;
 
-/// Analyses the graph of a file, or of standard input, without the nodes that are gone, as is asked. The status is 3 if a
-/// least number is asked for and the answer is below it, or there is no answer, since no node is left or the ids are no
-/// group; otherwise it is 0.
+/// Analyses the graph of a file, or of standard input, without the nodes that are gone, as is asked. The status is 3 if
+/// a least number is asked for and the answer is below it, or there is no answer, since no node is left or the ids are
+/// no group; otherwise it is 0.
 pub fn analyse_asked<T: Threads + Sync>(
     rt: &HostRuntime,
     threads: &T,

@@ -7,9 +7,9 @@ ghost use Rattle.ov_lines.specs.FileKinds.{behind_mark};
 ghost use Rattle.ov_io.specs.Device.{most_faults};
 ghost use Rattle.ov_commands.specs.Statuses.{HasDone, command_status};
 
-use crate::certificate_graph_printing::print_graph;
 use crate::command_fault::CommandFault;
 use crate::conversion_fault::FileCommandFault;
+use crate::graph_file_out_of_certificate_file::print_graph;
 use crate::import_command::print_dump;
 use crate::picture_printing::print_picture;
 use ov_arguments::{ImportRequest, PictureRequest};

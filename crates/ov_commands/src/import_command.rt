@@ -4,8 +4,8 @@ ghost use Rattle.ov_commands.specs.Dumps.{IsForm, IsUnreadDump, SaysDump, WasDum
 ghost use Rattle.ov_commands.specs.Dumps.{command_fault, form_of_kind, number_of_unread};
 ghost use Rattle.ov_commands.specs.declared.conversion_fault.FileCommandFault.TheVariants.{Refused};
 
-use crate::certificate_graph_printing::{tell_no_json, told};
 use crate::conversion_fault::FileCommandFault;
+use crate::graph_file_out_of_certificate_file::{tell_no_json, told};
 use ov_arguments::{DumpFormat, ImportRequest};
 use ov_dot::{DotFault, read_dot};
 use ov_dump::{

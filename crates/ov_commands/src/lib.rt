@@ -5,12 +5,12 @@
 mod analyse_command;
 mod analyse_in_names_or_words;
 mod analysis_progress;
-mod certificate_graph_printing;
 mod command_fault;
 mod conversion_fault;
 mod existing_entries_tip;
 mod file_conversion_commands;
 mod file_instead_of_command_tip;
+mod graph_file_out_of_certificate_file;
 mod import_command;
 mod least_number_alarm;
 mod listed_nodes;
@@ -18,10 +18,10 @@ mod node_lists;
 mod picture_printing;
 
 pub use analyse_command::analyse_asked;
-pub use certificate_graph_printing::print_graph;
 pub use command_fault::CommandFault;
 pub use conversion_fault::FileCommandFault;
 pub use file_conversion_commands::{graph_asked, import_asked, picture_asked};
 pub use file_instead_of_command_tip::print_command_tip;
+pub use graph_file_out_of_certificate_file::print_graph;
 pub use import_command::print_dump;
 pub use picture_printing::print_picture;

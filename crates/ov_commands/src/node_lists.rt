@@ -1,6 +1,6 @@
 //! Lists of nodes that an analysis is asked for, as texts: in the command line, or in files.
-ghost use Rattle.std.specs.Prelude.{◌≡◌, ◌↔◌, ℕ, List, [], ◌∷◌, drop, option_map, string_bytes, IfOk, IsTrue, MatchOption};
-ghost use Rattle.std.specs.Prelude.{None, Some, Ok};
+ghost use Rattle.std.specs.Prelude.{◌≡◌, ◌↔◌, ℕ, List, [], ◌∷◌, drop, option_map, string_bytes, IfOk, IsTrue};
+ghost use Rattle.std.specs.Prelude.{MatchOption, None, Some, Ok};
 ghost use Rattle.ov_commands.specs.Naming.{list_text, NamesFile, NamesFileGiven, IsListText, IsListGiven, IsGoneGiven};
 
 use ov_arguments::AnalysisRequest;

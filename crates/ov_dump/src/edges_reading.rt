@@ -4,9 +4,9 @@ ghost use Rattle.ov_dump.specs.Edges.{IsEdgesFault, SaysEdges, listings_of};
 ghost use Rattle.ov_dump.specs.Code.Reading.{FailsAtLine, TakesEnds, TakesEntry};
 
 use crate::edge_line::{EdgeLine, read_edge_line};
-use crate::name_and_listing_making::{listing_of, name_of};
-use crate::name_set::NameSet;
+use crate::name_and_listing_from_text::{listing_of, name_of};
 use crate::reading_fault::ReadingFault;
+use crate::sorted_set_of_names::NameSet;
 use crate::unread_edge_line_reason::why_unread;
 use crate::{Dump, Entry, Listing};
 use ov_ids::{OutOfMemory, Seq};

@@ -3,11 +3,11 @@ ghost use Rattle.ov_ids.specs.Members.{Has};
 ghost use Rattle.ov_dump.specs.Faults.{AreSoundEntries, AreSoundListings, IsSound, IsSoundListing};
 ghost use Rattle.ov_dump.specs.Faults.{IsEntryFlaw, IsFlaw, IsListingFlaw};
 ghost use Rattle.ov_dump.specs.Code.Judging.{EntryFails, ListingFails};
-ghost use Rattle.ov_dump.specs.declared.fault.DumpFault.TheVariants.{OutOfMemory as out_of_memory};
+ghost use Rattle.ov_dump.specs.declared.graph_making_fault.DumpFault.TheVariants.{OutOfMemory as out_of_memory};
 
 use crate::dump_and_graph_types::{Dump, Entry, Listing};
-use crate::fault::DumpFault;
-use crate::name_set::NameSet;
+use crate::graph_making_fault::DumpFault;
+use crate::sorted_set_of_names::NameSet;
 use std::alloc::Global;
 
 /// Whether a dump is sound, or what is wrong with the first entry or listing that is not.

@@ -8,7 +8,7 @@ ghost use Rattle.ov_dump.specs.Code.Numbering.{Follows, NodeLists};
 
 use crate::dump_and_graph_types::{Choice, Dump, Listing, NamedGraph};
 use crate::entry_and_listing_soundness::judge;
-use crate::fault::DumpFault;
+use crate::graph_making_fault::DumpFault;
 use crate::listing_graphs::{ListingGraphs, listing_graphs};
 use crate::name::Name;
 use crate::node_names_by_choice::taken_names;

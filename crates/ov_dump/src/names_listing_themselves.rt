@@ -5,8 +5,8 @@ ghost use Rattle.ov_dump.specs.Code.Listed.{ListThemselves};
 
 use crate::dump_and_graph_types::{Dump, Listing};
 use crate::name::Name;
-use crate::name_set::NameSet;
 use crate::names_without_entry::add;
+use crate::sorted_set_of_names::NameSet;
 use ov_ids::OutOfMemory;
 use std::alloc::Global;
 

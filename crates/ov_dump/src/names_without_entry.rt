@@ -5,7 +5,7 @@ ghost use Rattle.ov_dump.specs.Code.Listed.{AreWithoutEntry, Missing};
 
 use crate::dump_and_graph_types::{Dump, Entry, Listing};
 use crate::name::Name;
-use crate::name_set::NameSet;
+use crate::sorted_set_of_names::NameSet;
 use ov_ids::OutOfMemory;
 use std::alloc::Global;
 

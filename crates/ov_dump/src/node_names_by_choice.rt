@@ -8,9 +8,9 @@ ghost use Rattle.ov_dump.specs.Names.{ComesBefore};
 ghost use Rattle.ov_dump.specs.Code.Taking.{Gains, RunsOver};
 
 use crate::dump_and_graph_types::{Choice, Dump, Entry, Listing};
-use crate::fault::DumpFault;
+use crate::graph_making_fault::DumpFault;
 use crate::name::Name;
-use crate::name_set::NameSet;
+use crate::sorted_set_of_names::NameSet;
 use ov_graph::Graph;
 use std::alloc::Global;
 

@@ -1,7 +1,7 @@
-use crate::name_set::NameSet;
 use crate::names_listing_themselves::{are_same, listing_themselves};
 use crate::names_without_entry::{add, without_entry};
 use crate::pair_set::PairSet;
+use crate::sorted_set_of_names::NameSet;
 use crate::unanswered_listings::listed_by_one;
 use crate::{Choice, Dump, Entry, Listing, Name};
 use ov_ids::OutOfMemory;
@@ -29,8 +29,8 @@ const MARKS: &str =
 
 /// What an operator should know of a dump: that it has no name; how many listings the other end does not answer, how
 /// many names are listed and have no entry, as those of dead peers, how many list themselves, and how many end in a
-/// colon; the first ten of each, and what becomes of them. Empty if there is none of it. OutOfMemory (99) is returned if
-/// an allocation was refused.
+/// colon; the first ten of each, and what becomes of them. Empty if there is none of it. OutOfMemory (99) is returned
+/// if an allocation was refused.
 pub fn import_notes(alloc: Global, dump: &Dump, choice: Choice) -> Result<String, OutOfMemory> {
     let mut notes = String::new(alloc);
     if dump.entries.as_slice().is_empty() && dump.listings.as_slice().is_empty() {

@@ -5,7 +5,7 @@ ghost use Rattle.ov_dump.specs.Views.{listings_of, names_in, peers};
 ghost use Rattle.ov_dump.specs.Code.Reading.{DumpOf, FailsAt, FailsFrom, as_items, as_members, names_read};
 ghost use Rattle.ov_dump.specs.declared.reading_fault.ReadingFault.TheVariants.{OutOfMemory as out_of_memory};
 
-use crate::name_and_listing_making::{listing_of, name_of};
+use crate::name_and_listing_from_text::{listing_of, name_of};
 use crate::reading_fault::ReadingFault;
 use crate::{Dump, Entry, Listing};
 use json::{Error, Scratch, Value};
@@ -31,8 +31,8 @@ pub(crate) enum Listed<'a> {
 }
 
 /// Reads a dump that is a JSON object (RFC 8259). Each key is a name with an entry, and its value is the list of the
-/// names that it lists: texts, and whole numbers as they are written. `null` lists nobody, and is passed over in a list.
-/// A key that is there twice gives two entries.
+/// names that it lists: texts, and whole numbers as they are written. `null` lists nobody, and is passed over in a
+/// list. A key that is there twice gives two entries.
 ///
 /// NotJson (60): the bytes are no UTF-8 or no JSON. NotViews (83): they are another JSON value than an object. NoView
 /// (83) says the first entry whose value is no list of names. OutOfMemory (99) is returned if an allocation was

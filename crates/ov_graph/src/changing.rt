@@ -10,8 +10,8 @@ ghost use Rattle.ov_graph.specs.Code.Shifts.{HasOpened, HasClosed};
 ghost use Rattle.ov_graph.specs.Code.Kept.{row_at, graph_kept, IsKept};
 ghost use Rattle.ov_graph.specs.declared.bit_rows.TheConstants.{EMPTY};
 
-use crate::adjacency_rows::{mark, unmark};
 use crate::bit_rows::{EMPTY, Row, WORDS, words_for};
+use crate::bit_rows_from_links::{mark, unmark};
 use crate::node_places_by_id::{place_for, place_in};
 use crate::row_place_shifting::{closed, opened};
 use ov_ids::{NodeId, OutOfMemory};

@@ -10,8 +10,8 @@ ghost use Rattle.ov_graph.specs.declared.fault.GraphFault.TheVariants.{OutOfMemo
 ghost use Rattle.ov_ids.specs.FaultOrder.{IsRefusedBy};
 ghost use Rattle.ov_ids.specs.Members.{Has};
 
-use crate::adjacency_rows::rows_of;
 use crate::bit_rows::{Row, WORDS, has, words_for};
+use crate::bit_rows_from_links::rows_of;
 use crate::changing::{join, part, put_in, take_out};
 use crate::fault::GraphFault;
 use crate::first_fault::first_fault;

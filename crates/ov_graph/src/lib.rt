@@ -1,8 +1,8 @@
 //! Graphs: nodes, which are ids, and the links between them.
 #![tactic(auto)]
 
-mod adjacency_rows;
 pub mod bit_rows;
+mod bit_rows_from_links;
 mod changing;
 mod even_test_and_unique_number;
 mod fault;

@@ -11,7 +11,7 @@ use Rattle.ov_grow.specs.declared.recordable_event.Act.{Act}
 use Rattle.ov_grow.specs.Recordings.{HasOneLineMore}
 use Rattle.ov_grow.specs.Growth.{Does, Writes}
 use Rattle.ov_grow.specs.Code.Standing.{Goes}
-use Rattle.ov_grow.specs.declared.growing.Growing.{Growing}
+use Rattle.ov_grow.specs.declared.growth_in_progress.Growing.{Growing}
 use Rattle.ov_grow.proofs.Going.{kept_same}
 
 -- an act was taken and written

@@ -12,7 +12,7 @@ use Rattle.ov_net.specs.World.{Stands}
 use Rattle.ov_snap.specs.CoreState.{CoreState, HasReport, HasReportOfAll, IsSound, KeepsReports}
 use Rattle.ov_snap.specs.ReportState.{IsTrueReport, ReportState}
 use Rattle.ov_snap.specs.Snapshots.{IsMoment}
-use Rattle.ov_snap.specs.declared.core_fault.CoreFault.TheVariants.{AlreadyFiled, NoNodes, NoSuchMoment}
+use Rattle.ov_snap.specs.declared.refused_core_call.CoreFault.TheVariants.{AlreadyFiled, NoNodes, NoSuchMoment}
 use Rattle.ov_run_meaning.specs.Subjects.{IsReported, WasAnalysed}
 use Rattle.ov_scenario.specs.declared.scenario.Line.{Line}
 use Rattle.ov_peer.specs.PeerState.{PeerState}
@@ -22,7 +22,7 @@ use Rattle.ov_grow.specs.Recordings.{HasOneLineMore, all_of}
 use Rattle.ov_grow.specs.Growth.{Growth, SomebodyLives, Writes}
 use Rattle.ov_grow.specs.Phases.{IsCutAt, cut_of}
 use Rattle.ov_grow.specs.Code.Standing.{Goes, IsAnswered, growth_of}
-use Rattle.ov_grow.specs.declared.growing.Growing.{Growing}
+use Rattle.ov_grow.specs.declared.growth_in_progress.Growing.{Growing}
 
 -- an analysis was filed and written
 pub analysis_goes : (b u : Growing) (m : ℕ) (r : ReportState) (asked : Line) → u.choices ≡ b.choices

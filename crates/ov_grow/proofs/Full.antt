@@ -37,7 +37,7 @@ use Rattle.ov_grow.specs.declared.fault.GrowFault.TheVariants.{OutOfMemory}
 use Rattle.ov_grow.specs.Turns.{MayBeRepeated}
 use Rattle.ov_grow.specs.Code.Standing.{AreBorn, Fails, IsRefusedAct, MayBeTold, MayMake, growth_of}
 use Rattle.ov_grow.specs.declared.fault.GrowFault.{GrowFault}
-use Rattle.ov_grow.specs.declared.growing.Growing.{Growing}
+use Rattle.ov_grow.specs.declared.growth_in_progress.Growing.{Growing}
 use Rattle.ov_grow.specs.declared.phase_rules.PhaseRules.{PhaseRules}
 
 -- the end of a chain has no fault

@@ -9,7 +9,7 @@ use Rattle.ov_grow.specs.Choices.{one_of, comes_true, after_chance, later}
 use Rattle.ov_grow.specs.Growth.{Growth, Chooses, Tries}
 use Rattle.ov_grow.specs.Code.Standing.{Goes, IsNoWay, growth_of}
 use Rattle.ov_grow.specs.declared.fault.GrowFault.{GrowFault}
-use Rattle.ov_grow.specs.declared.growing.Growing.{Growing}
+use Rattle.ov_grow.specs.declared.growth_in_progress.Growing.{Growing}
 
 -- the same reports are kept
 pub kept_same : (b u : CoreState) → u.reports ≡ b.reports → KeepsReports b u

@@ -10,7 +10,7 @@ use Rattle.ov_grow.specs.Broadcasts.{AtOnce, BroadcastBy, Broadcasts, Broadcasts
 use Rattle.ov_grow.specs.Broadcasts.{FiresIfItRuns, IsSender, OneByOne, TimerRuns, TimersFire}
 use Rattle.ov_grow.specs.Code.Standing.{Goes, IsNoWay, growth_of}
 use Rattle.ov_grow.specs.declared.fault.GrowFault.{GrowFault}
-use Rattle.ov_grow.specs.declared.growing.Growing.{Growing}
+use Rattle.ov_grow.specs.declared.growth_in_progress.Growing.{Growing}
 use Rattle.ov_grow.specs.declared.phase_rules.PhaseRules.{PhaseRules}
 use Rattle.ov_grow.proofs.Broadcasting.{fire_at_next, fire_each_next}
 use Rattle.ov_grow.proofs.Going.{IsOn, no_way_by, on_nowhere}

@@ -6,7 +6,7 @@ use Rattle.ov_grow.specs.Phases.{CrashNodes, Heal, Join, Settle}
 use Rattle.ov_grow.specs.Growing.{EndsGrowing, Grows, beginning}
 use Rattle.ov_grow.specs.Code.Standing.{Goes, IsNoWay, growth_of}
 use Rattle.ov_grow.specs.declared.fault.GrowFault.{GrowFault}
-use Rattle.ov_grow.specs.declared.growing.Growing.{Growing}
+use Rattle.ov_grow.specs.declared.growth_in_progress.Growing.{Growing}
 use Rattle.ov_grow.specs.declared.phase_moment_and_deliveries.Phase.{Phase}
 use Rattle.ov_grow.proofs.OnePhase.{one_crash, one_join, one_settling}
 

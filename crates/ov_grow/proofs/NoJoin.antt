@@ -10,7 +10,7 @@ use Rattle.ov_grow.specs.Rounds.{AreLiveInOrder, DoesEach, Round}
 use Rattle.ov_grow.specs.Phases.{Births, Join, joining, turns_between}
 use Rattle.ov_grow.specs.Code.Standing.{Goes, IsNoWay, growth_of}
 use Rattle.ov_grow.specs.declared.fault.GrowFault.{GrowFault}
-use Rattle.ov_grow.specs.declared.growing.Growing.{Growing}
+use Rattle.ov_grow.specs.declared.growth_in_progress.Growing.{Growing}
 use Rattle.ov_grow.specs.declared.phase_rules.PhaseRules.{PhaseRules}
 use Rattle.ov_grow.proofs.Going.{no_way_by}
 use Rattle.ov_grow.proofs.OnePhase.{birth_follows, births_follow, births_rest, join_follows, join_rest, round_rest}

@@ -13,9 +13,9 @@ use Rattle.ov_net.specs.declared.event.Event.TheVariants as event
 use Rattle.ov_snap.specs.CoreState.{CoreState, IsSound}
 use Rattle.ov_snap.specs.Run.{Happened}
 use Rattle.ov_snap.specs.Snapshots.{IsMoment}
-use Rattle.ov_snap.specs.declared.core_fault.CoreFault.{CoreFault}
-use Rattle.ov_snap.specs.declared.core_fault.CoreFault.TheVariants.{AlreadyFiled, NoNodes, NoSuchMoment}
-use Rattle.ov_snap.specs.declared.core_fault.CoreFault.TheVariants as core_fault
+use Rattle.ov_snap.specs.declared.refused_core_call.CoreFault.{CoreFault}
+use Rattle.ov_snap.specs.declared.refused_core_call.CoreFault.TheVariants.{AlreadyFiled, NoNodes, NoSuchMoment}
+use Rattle.ov_snap.specs.declared.refused_core_call.CoreFault.TheVariants as core_fault
 use Rattle.ov_snap.proofs.Moments.{moment_new, moment_within}
 use Rattle.ov_run_meaning.specs.Subjects.{AnalysisJudged, IsReported}
 use Rattle.ov_grow.specs.Recordings.{all_of}
@@ -32,7 +32,7 @@ use Rattle.ov_grow.specs.Faults.{of_analysis}
 use Rattle.ov_grow.specs.Code.Standing.{Goes, IsFresh, IsNoWay, growth_of}
 use Rattle.ov_grow.specs.declared.fault.GrowFault.{GrowFault}
 use Rattle.ov_grow.specs.declared.fault.GrowFault.TheVariants.{OutOfMemory}
-use Rattle.ov_grow.specs.declared.growing.Growing.{Growing}
+use Rattle.ov_grow.specs.declared.growth_in_progress.Growing.{Growing}
 use Rattle.ov_grow.specs.declared.phase_moment_and_deliveries.Phase.{Phase}
 use Rattle.ov_grow.specs.declared.phase_rules.PhaseRules.{PhaseRules}
 use Rattle.ov_grow.proofs.Going.{IsOn, no_way_by, on_nowhere}

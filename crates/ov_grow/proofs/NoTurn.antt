@@ -19,7 +19,7 @@ use Rattle.ov_grow.specs.Turns.{Arrives, HasFailed, IsDelivered, IsTurnOf, MayBe
 use Rattle.ov_grow.specs.Code.Standing.{Fails, Goes, IsNoWay, IsTold, growth_of}
 use Rattle.ov_grow.specs.declared.fault.GrowFault.{GrowFault}
 use Rattle.ov_grow.specs.declared.fault.GrowFault.TheVariants.{OutOfMemory}
-use Rattle.ov_grow.specs.declared.growing.Growing.{Growing}
+use Rattle.ov_grow.specs.declared.growth_in_progress.Growing.{Growing}
 use Rattle.ov_grow.specs.declared.phase_rules.PhaseRules.{PhaseRules}
 use Rattle.ov_grow.proofs.Going.{no_way_by, tried}
 use Rattle.ov_grow.proofs.OneGrowth.{delivery_rest, repetition_rest, turn_rest}

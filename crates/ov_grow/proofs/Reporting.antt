@@ -3,7 +3,7 @@ use Rattle.std.proofs.Common.{◌≡◌, ℕ, true, false, Bor, Option, Some, No
 use Rattle.ov_ids.specs.FaultOrder.{IsRefusedBy}
 use Rattle.ov_snap.specs.CoreState.{CoreState, HasReportOfAll}
 use Rattle.ov_snap.specs.ReportState.{ReportState, IsTrueReport}
-use Rattle.ov_snap.specs.declared.core_fault.CoreFault.TheVariants.{AlreadyFiled, OutOfMemory}
+use Rattle.ov_snap.specs.declared.refused_core_call.CoreFault.TheVariants.{AlreadyFiled, OutOfMemory}
 use Rattle.ov_run_meaning.specs.Subjects.{AnalysisJudged, IsReportOf}
 use Rattle.ov_run_meaning.proofs.Reports.Filed.{filed_refused}
 use Rattle.ov_grow.specs.Recordings.{all_of}

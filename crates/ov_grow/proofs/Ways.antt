@@ -18,7 +18,7 @@ use Rattle.ov_grow.specs.Phases.{AreFirst, AreToCrash, Births, CrashNodes, EndsP
 use Rattle.ov_grow.specs.Phases.{AreTold, ReportCrashes, Settle, crashing, deliveries_in, healing, joining, settling}
 use Rattle.ov_grow.specs.Phases.{turns_between}
 use Rattle.ov_grow.specs.Code.Standing.{Goes, growth_of}
-use Rattle.ov_grow.specs.declared.growing.Growing.{Growing}
+use Rattle.ov_grow.specs.declared.growth_in_progress.Growing.{Growing}
 use Rattle.ov_grow.specs.declared.phase_moment_and_deliveries.Phase.{Phase}
 use Rattle.ov_grow.specs.declared.phase_rules.PhaseRules.{PhaseRules}
 use Rattle.ov_grow.proofs.Going.{kept_trans, tried}

@@ -2,7 +2,7 @@
 use Rattle.std.specs.Prelude.{◌≡◌, ◌⊎◌, ℕ, List, ◌∷◌, ◌++◌}
 use Rattle.ov_snap.specs.CoreState.{CoreState, opening_core}
 use Rattle.ov_snap.specs.Refusals.{number_of}
-use Rattle.ov_snap.specs.declared.core_fault.CoreFault.TheVariants.{OutOfMemory}
+use Rattle.ov_snap.specs.declared.refused_core_call.CoreFault.TheVariants.{OutOfMemory}
 use Rattle.ov_scenario.specs.declared.scenario.Line.{Line}
 use Rattle.ov_run_meaning.specs.Ending.{IsBegun}
 use Rattle.ov_run_meaning.specs.Printed.{refused_line}

@@ -10,7 +10,7 @@ ghost use Rattle.ov_grow.specs.Growth.{IsLive, SomebodyLives};
 ghost use Rattle.ov_grow.specs.Code.Standing.{AllLive, Goes, IsNoWay, MayMake, growth_of};
 
 use crate::fault::GrowFault;
-use crate::growing::Growing;
+use crate::growth_in_progress::Growing;
 use crate::phase_rules::PhaseRules;
 use crate::recordable_event::Act;
 use ov_ids::{MsgId, NodeId};

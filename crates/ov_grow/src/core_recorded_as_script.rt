@@ -7,7 +7,7 @@ ghost use Rattle.ov_scenario.specs.declared.scenario.Line.TheVariants as line;
 ghost use Rattle.ov_snap.specs.CoreState.{opening_core};
 ghost use Rattle.ov_snap.specs.ReportState.{ReportState};
 ghost use Rattle.ov_snap.specs.Run.{Happened};
-ghost use Rattle.ov_snap.specs.declared.core_fault.CoreFault.TheVariants.{OutOfMemory as out_of_memory};
+ghost use Rattle.ov_snap.specs.declared.refused_core_call.CoreFault.TheVariants.{OutOfMemory as out_of_memory};
 ghost use Rattle.ov_run_meaning.specs.Subjects.{AnalysisJudged, WasAnalysed};
 ghost use Rattle.ov_grow.specs.Acts.{act_line, event_of};
 ghost use Rattle.ov_grow.specs.Scripts.{line_room, opening, scenario_of};

@@ -11,7 +11,7 @@ ghost use Rattle.ov_grow.specs.Code.Standing.{Goes, HasCrashed, HaveMade, HaveNo
 ghost use Rattle.ov_grow.specs.Code.Standing.{TakeNoCrashed, TakesNoCrashed, growth_of};
 
 use crate::fault::GrowFault;
-use crate::growing::Growing;
+use crate::growth_in_progress::Growing;
 use crate::phase_moment_and_deliveries::Phase;
 use crate::phase_rules::PhaseRules;
 use crate::recordable_event::Act;

@@ -6,7 +6,7 @@ ghost use Rattle.ov_grow.specs.Phases.{Births, Join, joining, turns_between};
 ghost use Rattle.ov_grow.specs.Code.Standing.{AreBorn, Goes, IsNoWay, growth_of};
 
 use crate::fault::GrowFault;
-use crate::growing::Growing;
+use crate::growth_in_progress::Growing;
 use crate::phase_rules::PhaseRules;
 use crate::recordable_event::Act;
 use ov_grow_options::{GrowOptions, Pace};

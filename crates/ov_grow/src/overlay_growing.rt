@@ -6,7 +6,7 @@ ghost use Rattle.ov_grow.specs.Growing.{Grows, IsGrowRefusal};
 
 use crate::core_recorded_as_script::Recorded;
 use crate::fault::GrowFault;
-use crate::growing::Growing;
+use crate::growth_in_progress::Growing;
 use crate::phase_moment_and_deliveries::Phase;
 use ov_grow_options::GrowOptions;
 use ov_snap::Core;

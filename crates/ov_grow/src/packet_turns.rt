@@ -5,7 +5,7 @@ ghost use Rattle.ov_grow.specs.Turns.{TurnsUpTo};
 ghost use Rattle.ov_grow.specs.Code.Standing.{Fails, Goes, IsNoWay, IsTold, MayBeTold, growth_of};
 
 use crate::fault::GrowFault;
-use crate::growing::Growing;
+use crate::growth_in_progress::Growing;
 use crate::phase_rules::PhaseRules;
 use crate::recordable_event::Act;
 use ov_grow_options::Order;

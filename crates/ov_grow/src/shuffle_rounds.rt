@@ -5,7 +5,7 @@ ghost use Rattle.ov_grow.specs.Rounds.{AreLiveInOrder, DoesEach, Round, Rounds};
 ghost use Rattle.ov_grow.specs.Code.Standing.{AllLive, Goes, IsNoWay, growth_of};
 
 use crate::fault::GrowFault;
-use crate::growing::Growing;
+use crate::growth_in_progress::Growing;
 use crate::phase_rules::PhaseRules;
 use crate::recordable_event::Act;
 use ov_ids::{NodeId, OutOfMemory};

@@ -9,7 +9,7 @@ use Rattle.atomic_table.specs.Table.{State, Me, step, keeps, Allows, Splits, Joi
 use Rattle.ov_snap.specs.CoreState.{CoreState}
 use Rattle.ov_snap.specs.declared.ghost_log_of_drivers.Mark.{Mark}
 use Rattle.ov_snap.specs.declared.ghost_log_of_drivers.Ticket.{Ticket}
-use Rattle.ov_hall.specs.declared.ghost_views.View.{View}
+use Rattle.ov_hall.specs.declared.ghost_knowledge_of_driver_seat.View.{View}
 use Rattle.ov_snap.specs.Parts.{Each, hit}
 use Rattle.ov_snap.specs.Logs.{Begins, mark}
 use Rattle.ov_hall.specs.Passes.{AllBegin, having_seen, seen_alike, standing_for}

@@ -4,14 +4,14 @@ ghost use Rattle.ov_net.specs.Refusals.{IsRefusal};
 ghost use Rattle.ov_net.specs.declared.event.Event.TheVariants as told;
 ghost use Rattle.ov_net.specs.declared.journal_entry_and_changes.Entry.{Entry as EntryOf};
 ghost use Rattle.ov_snap.specs.Refusals.{FilingJudged};
-ghost use Rattle.ov_snap.specs.declared.core_fault.CoreFault.TheVariants.{OutOfMemory as out_of_memory};
+ghost use Rattle.ov_snap.specs.declared.refused_core_call.CoreFault.TheVariants.{OutOfMemory as out_of_memory};
 ghost use Rattle.ov_hall.specs.Histories.{IsHistory};
 ghost use Rattle.ov_snap.specs.Logs.{IsLog, core_made};
 ghost use Rattle.ov_snap.specs.DriverSteps.{HasFiled, HasLooked, HasStepped, HasTakenSnapshot};
 
 use crate::driver_passes::Pass;
+use crate::ghost_knowledge_of_driver_seat::View;
 use crate::ghost_log_rule::{HallName, Law};
-use crate::ghost_views::View;
 use crate::locked_state::State;
 use atomic_table::Table;
 use ov_net::{Entry, Event, NetFault};

@@ -4,7 +4,7 @@ ghost use Rattle.ov_snap.specs.Logs.{mark};
 ghost use Rattle.ov_hall.specs.Passes.{AllBegin, standing_for, having_seen};
 ghost use Rattle.ov_hall.specs.Code.Rules.{Grows, keeper, log_in, standing};
 
-use crate::ghost_views::View;
+use crate::ghost_knowledge_of_driver_seat::View;
 use atomic_table::{Join, Play, Seat, Shared, Split, TableRule};
 use ov_snap::Core;
 use std::marker::{Brand, PhantomData};

@@ -6,15 +6,15 @@ ghost use Rattle.ov_net.specs.declared.journal_entry_and_changes.Entry.{Entry as
 ghost use Rattle.ov_snap.specs.Filing.{WasFiled};
 ghost use Rattle.ov_snap.specs.Refusals.{FilingJudged};
 ghost use Rattle.ov_snap.specs.Run.{Happened, TookSnapshot};
-ghost use Rattle.ov_snap.specs.declared.core_fault.CoreFault.TheVariants.{OutOfMemory as out_of_memory};
+ghost use Rattle.ov_snap.specs.declared.refused_core_call.CoreFault.TheVariants.{OutOfMemory as out_of_memory};
 ghost use Rattle.ov_hall.specs.Histories.{IsHistory};
 ghost use Rattle.ov_snap.specs.Logs.{IsLog, core_made, mark};
 ghost use Rattle.ov_hall.specs.Passes.{AreDrivers, seen_alike};
 
 use crate::core_shared_by_drivers::{Gathered, Hall};
 use crate::driver_passes::{Pass, Stand};
+use crate::ghost_knowledge_of_driver_seat::View;
 use crate::ghost_log_rule::{HallName, Law, Leave};
-use crate::ghost_views::View;
 use crate::hall_opening::Opening;
 use crate::locked_state::State;
 use atomic_table::Table;

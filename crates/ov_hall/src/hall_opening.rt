@@ -1,7 +1,7 @@
 ghost use Rattle.std.specs.Prelude.{◌≡◌, ◌<◌, ◌≤◌, IfOk};
 
+use crate::ghost_knowledge_of_driver_seat::View;
 use crate::ghost_log_rule::{Law, Place};
-use crate::ghost_views::View;
 use atomic_table::Table;
 use ov_ids::OutOfMemory;
 use std::alloc::Global;

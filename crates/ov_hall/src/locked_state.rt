@@ -6,7 +6,7 @@ ghost use Rattle.ov_snap.specs.CoreState.{CoreState};
 ghost use Rattle.ov_snap.specs.Filing.{WasFiled};
 ghost use Rattle.ov_snap.specs.Refusals.{FilingJudged};
 ghost use Rattle.ov_snap.specs.Run.{Happened};
-ghost use Rattle.ov_snap.specs.declared.core_fault.CoreFault.TheVariants.{OutOfMemory as out_of_memory};
+ghost use Rattle.ov_snap.specs.declared.refused_core_call.CoreFault.TheVariants.{OutOfMemory as out_of_memory};
 ghost use Rattle.ov_snap.specs.Logs.{IsLog, core_made, mark};
 ghost use Rattle.ov_hall.specs.Passes.{AllBegin, having_seen, standing_for};
 

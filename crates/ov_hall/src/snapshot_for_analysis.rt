@@ -1,7 +1,7 @@
 ghost use Rattle.std.specs.Prelude.{IfOk, IfErr};
 ghost use Rattle.ov_ids.specs.FaultOrder.{IsRefusedBy};
 ghost use Rattle.ov_snap.specs.Refusals.{BeginJudged, GroupBeginJudged};
-ghost use Rattle.ov_snap.specs.declared.core_fault.CoreFault.TheVariants.{OutOfMemory as out_of_memory};
+ghost use Rattle.ov_snap.specs.declared.refused_core_call.CoreFault.TheVariants.{OutOfMemory as out_of_memory};
 ghost use Rattle.ov_snap.specs.Logs.{IsLog, core_made};
 ghost use Rattle.ov_snap.specs.DriverSteps.{HasBegun, HasBegunForGroup, HasLooked};
 

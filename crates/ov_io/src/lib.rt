@@ -4,11 +4,11 @@
 
 mod counted_reader_and_writer;
 mod fault;
-mod fault_counting_source;
 mod file_name_texts;
+mod input_reading_to_end;
 mod sink;
 
 pub use fault::{ReadFault, WriteFault};
-pub use fault_counting_source::Source;
 pub use file_name_texts::{shown_name, unopened_text, unread_text};
+pub use input_reading_to_end::Source;
 pub use sink::Sink;

@@ -5,10 +5,10 @@
 #![tactic(auto)]
 
 mod comma_hints;
-mod file_kind_lookup;
 mod file_kinds;
 mod file_tips;
 mod id_list_reading;
+mod kind_of_named_file;
 mod line_and_word_splitting;
 mod numeral;
 mod text_start;
@@ -18,10 +18,10 @@ mod word_cursor;
 mod worker_count_reading;
 
 pub use comma_hints::comma_hint;
-pub use file_kind_lookup::{is_folder, kind_of_file};
 pub use file_kinds::{FileKind, looks_like};
 pub use file_tips::{command_tip, file_tip, folder_tip};
 pub use id_list_reading::read_ids;
+pub use kind_of_named_file::{is_folder, kind_of_file};
 pub use line_and_word_splitting::split_line;
 pub use numeral::read_number;
 pub use text_start::behind_mark;

@@ -6,7 +6,7 @@
 mod block;
 mod block_list_with_fast_removal;
 mod block_sequence;
-mod id_range;
+mod ids_of_one_path;
 mod item_iter;
 mod path_iter;
 mod path_list;

@@ -2,7 +2,7 @@ ghost use Rattle.std.specs.Prelude.{◌≡◌, length};
 ghost use Rattle.std.specs.Iterator.{YieldsFirstRef, item_count};
 ghost use Rattle.ov_lists.specs.Code.Cut.{paths_from, AreEnds};
 
-use crate::id_range::id_range;
+use crate::ids_of_one_path::id_range;
 use ov_ids::NodeId;
 use std::marker::Model;
 

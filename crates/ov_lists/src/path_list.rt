@@ -2,7 +2,7 @@ ghost use Rattle.std.specs.Prelude.{◌≡◌, ◌==◌, ◌<◌, ◌^◌, [], �
 ghost use Rattle.std.specs.Prelude.{OnErr, OnOk};
 ghost use Rattle.ov_lists.specs.Code.Cut.{paths_from, AreEnds};
 
-use crate::id_range::{id_range, start_of};
+use crate::ids_of_one_path::{id_range, start_of};
 use crate::path_iter::PathIter;
 use ov_ids::{NodeId, OutOfMemory};
 use std::alloc::Global;

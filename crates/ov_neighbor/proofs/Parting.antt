@@ -9,8 +9,8 @@ use Rattle.ov_views.specs.Changes.{AddsPassive, RemovesActive}
 use Rattle.ov_views.specs.NeighborRows.{AttemptState, AllowedDisconnect, GoesOnAsking, starts_attempt}
 use Rattle.ov_views.specs.declared.change.ViewChange.{ViewChange}
 
--- s was active and goes down, u are the views without it, and the rule starts an attempt: the node draws for its passive
--- view first, and then for the attempt
+-- s was active and goes down, u are the views without it, and the rule starts an attempt: the node draws for its
+-- passive view first, and then for the attempt
 pub attempt_starts : (v : ViewsState) (a : AttemptState) (s : ℕ) (u : ViewsState) (first next : List Choice)
     (w : ViewsState) (b : AttemptState) (changes : List ViewChange) (sends : List (ℕ × Message)) →
     eqb s v.me ≡ false → has v.active s ≡ true → RemovesActive v s u changes →

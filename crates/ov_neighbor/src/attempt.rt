@@ -265,9 +265,9 @@ fn starts_attempt(views: &Views) -> bool
 
 /// The effects of DISCONNECT from a node. If the node is active, it goes down and then becomes passive. Where the rule
 /// of the parameters says so, a new attempt then begins with nobody tried, in place of one that waits; by the profile's
-/// rule none does, and nothing is sent. At most two random words are used. OutOfMemory (99) if an allocation is refused,
-/// and then nothing has changed. (HyParView: Leitão, Pereira, Rodrigues, DSN 2007, Algorithm 1; the rules are chosen
-/// here.)
+/// rule none does, and nothing is sent. At most two random words are used. OutOfMemory (99) if an allocation is
+/// refused, and then nothing has changed. (HyParView: Leitão, Pereira, Rodrigues, DSN 2007, Algorithm 1; the rules are
+/// chosen here.)
 pub fn on_disconnect(
     alloc: Global,
     views: &mut Views,

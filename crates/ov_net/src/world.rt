@@ -253,8 +253,8 @@ impl World {
     }
 }
 
-/// Reserves room for an entry and `count` packets, adds the node that is born at the event to the graph, and changes the
-/// named node, if there are any. Out of memory, nothing changes.
+/// Reserves room for an entry and `count` packets, adds the node that is born at the event to the graph, and changes
+/// the named node, if there are any. Out of memory, nothing changes.
 fn reserve_and_change(
     nodes: &mut Nodes,
     graph: &mut Graph,

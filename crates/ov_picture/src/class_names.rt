@@ -1,4 +1,4 @@
-use crate::{LinkClass, NodeClass};
+use ov_drawing::{LinkClass, NodeClass};
 
 /// The name of a class of nodes, in SVG and in DOT.
 pub(crate) fn node_class_name(class: NodeClass) -> &'static str {

@@ -1,4 +1,4 @@
-use crate::components::Component;
+use crate::component_ranking::Component;
 
 /// How many components have a colour of their own.
 pub(crate) const MOST_COLOURED: usize = 6;

@@ -2,7 +2,7 @@ ghost use Rattle.std.specs.Prelude.{◌≡◌, ◌++◌, ℕ, List, codes, strin
 
 use crate::class_names::{link_class_name, node_class_name};
 use crate::component_colours::{pale_colour, strong_colour};
-use crate::components::{Component, Components};
+use crate::component_ranking::{Component, Components};
 use crate::escaped_texts::push_dot;
 use crate::headings::{push_some, small_lines};
 use crate::labels::Labels;
@@ -10,7 +10,7 @@ use crate::layout::{Layout, Plan};
 use crate::path_colours::light_colour;
 use crate::sentences::{components_of, members_of, sentence_of};
 use crate::svg_links::component_of;
-use crate::{Drawing, DrawnLink, DrawnNode, LinkClass, NodeClass};
+use ov_drawing::{Drawing, DrawnLink, DrawnNode, LinkClass, NodeClass};
 use ov_ids::OutOfMemory;
 use std::alloc::{AllocError, Global};
 use std::fmt::Write;

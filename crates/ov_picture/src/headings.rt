@@ -1,8 +1,8 @@
-use crate::Drawing;
-use crate::components::Components;
+use crate::component_ranking::Components;
 use crate::labels::{Labels, letters_of};
 use crate::node_position::number;
 use crate::sentences::{components_of, counts_of, members_of, paths_of, sentence_of};
+use ov_drawing::Drawing;
 use std::alloc::{AllocError, Global};
 use std::mem;
 

@@ -1,6 +1,6 @@
 use crate::node_position::number;
 use crate::sentences::{count_of, is_end};
-use crate::{Drawing, DrawnNode, NodeClass};
+use ov_drawing::{Drawing, DrawnNode, NodeClass};
 use ov_io::shown_name;
 use std::alloc::{AllocError, Global};
 use std::fmt::Write;

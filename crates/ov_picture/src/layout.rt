@@ -1,10 +1,10 @@
-use crate::Drawing;
-use crate::components::Components;
+use crate::component_ranking::Components;
 use crate::labels::Labels;
 use crate::node_columns::Columns;
 use crate::node_position::{LEFT, Place, RIGHT, UP};
 use crate::nodes_by_part::Bands;
 use crate::rings::Ring;
+use ov_drawing::Drawing;
 use std::alloc::{AllocError, Global};
 
 /// How far the parts are from each other, without their labels.

@@ -1,5 +1,5 @@
-use crate::components::Components;
-use crate::{Band, DrawnNode, NodeClass};
+use crate::component_ranking::Components;
+use ov_drawing::{Band, DrawnNode, NodeClass};
 use std::alloc::{AllocError, Global};
 use std::ops::Range;
 

@@ -1,6 +1,6 @@
-use crate::components::Components;
+use crate::component_ranking::Components;
 use crate::labels::Labels;
-use crate::{ChosenEntry, Drawing, DrawnNode, NodeClass};
+use ov_drawing::{ChosenEntry, Drawing, DrawnNode, NodeClass};
 use ov_ids::NodeId;
 use std::alloc::{AllocError, Global};
 use std::fmt::Write;

@@ -1,7 +1,7 @@
 use crate::layout::Layout;
 use crate::node_position::Place;
 use crate::svg_nodes::reach_of;
-use crate::{Drawing, DrawnLink};
+use ov_drawing::{Drawing, DrawnLink};
 
 /// How far a line keeps from the edge of a node, as a part of how far nodes reach.
 const CLEAR: f64 = 0.45;

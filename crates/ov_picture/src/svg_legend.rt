@@ -1,11 +1,11 @@
 use crate::component_colours::{COMPONENT_COLOURS, MOST_COLOURED};
-use crate::components::{Component, Components, Main};
+use crate::component_ranking::{Component, Components, Main};
 use crate::layout::Layout;
 use crate::node_position::{Place, RIGHT, number};
 use crate::path_colours::{colour_of, dashes_of};
 use crate::sentences::{count_of, outside};
 use crate::svg_nodes::push_node;
-use crate::{Drawing, DrawnNode, NodeClass};
+use ov_drawing::{Drawing, DrawnNode, NodeClass};
 use ov_ids::NodeId;
 use std::alloc::AllocError;
 use std::fmt::Write;

@@ -1,11 +1,11 @@
 use crate::class_names::link_class_name;
 use crate::component_colours::colour_class;
-use crate::components::{Component, Components, place_of};
+use crate::component_ranking::{Component, Components, place_of};
 use crate::layout::{Layout, at};
 use crate::node_position::Place;
 use crate::path_colours::{colour_of, dashes_of};
 use crate::svg_bends::bend_of;
-use crate::{Drawing, DrawnLink, DrawnNode, LinkClass};
+use ov_drawing::{Drawing, DrawnLink, DrawnNode, LinkClass};
 use std::alloc::AllocError;
 use std::fmt::Write;
 

@@ -1,12 +1,12 @@
 use crate::class_names::node_class_name;
 use crate::component_colours::colour_class;
-use crate::components::{Component, Components};
+use crate::component_ranking::{Component, Components};
 use crate::escaped_texts::push_xml;
 use crate::labels::Labels;
 use crate::layout::Layout;
 use crate::node_position::{LEFT, Place, RIGHT, TURN};
 use crate::sentences::is_end;
-use crate::{Drawing, DrawnNode, NodeClass};
+use ov_drawing::{Drawing, DrawnNode, NodeClass};
 use std::alloc::AllocError;
 use std::fmt::Write;
 

@@ -1,6 +1,6 @@
 ghost use Rattle.std.specs.Prelude.{◌≡◌, ◌++◌, ℕ, List, codes, string_bytes, IfOk};
 
-use crate::components::Components;
+use crate::component_ranking::Components;
 use crate::escaped_texts::push_xml;
 use crate::headings::{EDGE, FIRST, Heading, LINES};
 use crate::labels::Labels;
@@ -10,7 +10,7 @@ use crate::svg_legend::{legend_height, push_class_items, push_path_items};
 use crate::svg_links::{Layer, push_path_links, push_plain_links};
 use crate::svg_nodes::{push_labels, push_shapes};
 use crate::svg_style::push_style;
-use crate::{Drawing, NodeClass};
+use ov_drawing::{Drawing, NodeClass};
 use ov_ids::OutOfMemory;
 use std::alloc::{AllocError, Global};
 use std::fmt::Write;

@@ -8,7 +8,7 @@ ghost use Rattle.ov_snap.specs.CoreState.{opening_core};
 ghost use Rattle.ov_snap.specs.Filing.{WasFiled};
 ghost use Rattle.ov_snap.specs.Refusals.{FilingJudged};
 ghost use Rattle.ov_snap.specs.Run.{Happened};
-ghost use Rattle.ov_snap.specs.declared.core_fault.CoreFault.TheVariants.{OutOfMemory as out_of_memory};
+ghost use Rattle.ov_snap.specs.declared.refused_core_call.CoreFault.TheVariants.{OutOfMemory as out_of_memory};
 
 use ov_hall::{HallName, Opening, Whole};
 use ov_ids::Params;

@@ -5,7 +5,7 @@ mod engine;
 mod hall_outside_sections;
 mod line_outcome;
 mod line_running;
-mod recent_reports;
+mod recent_analyses_to_reuse;
 mod report_making_and_filing;
 mod run_watcher;
 mod section_jobs_by_thread;

@@ -14,7 +14,7 @@ ghost use Rattle.ov_scenario.specs.declared.scenario.Line.TheVariants as kind;
 
 use crate::hall_outside_sections::RunHall;
 use crate::line_outcome::{BlockTold, Came, ToldLine, write_rest};
-use crate::recent_reports::RecentReports;
+use crate::recent_analyses_to_reuse::RecentReports;
 use crate::report_making_and_filing::file_analysis;
 use crate::run_watcher::{RanLine, RunWatcher};
 use crate::sections_at_once::{BlockRan, run_together};

@@ -8,10 +8,10 @@ ghost use Rattle.ov_snap.specs.Refusals.{FilingJudged};
 ghost use Rattle.ov_run.specs.Code.Recent.{HasAnswer};
 ghost use Rattle.ov_run_meaning.specs.Printed.{report_line};
 ghost use Rattle.ov_run_meaning.specs.Subjects.{members_of, IsReportOf, AnalysisJudged, WasAnalysed};
-ghost use Rattle.ov_snap.specs.declared.core_fault.CoreFault.TheVariants.{OutOfMemory as out_of_memory};
+ghost use Rattle.ov_snap.specs.declared.refused_core_call.CoreFault.TheVariants.{OutOfMemory as out_of_memory};
 
 use crate::hall_outside_sections::RunHall;
-use crate::recent_reports::RecentReports;
+use crate::recent_analyses_to_reuse::RecentReports;
 use ov_crew::{OpenGate, analyse_group_watched};
 use ov_even::Unwatched;
 use ov_graph::Graph;

@@ -5,7 +5,7 @@ ghost use Rattle.ov_snap.specs.DriverSteps.{HasFiled, HasLooked};
 ghost use Rattle.ov_ids.specs.FaultOrder.{IsRefusedBy};
 ghost use Rattle.ov_snap.specs.Refusals.{FilingJudged};
 ghost use Rattle.ov_snap.specs.ReportState.{ReportState};
-ghost use Rattle.ov_snap.specs.declared.core_fault.CoreFault.TheVariants.{OutOfMemory as out_of_memory};
+ghost use Rattle.ov_snap.specs.declared.refused_core_call.CoreFault.TheVariants.{OutOfMemory as out_of_memory};
 ghost use Rattle.ov_run_meaning.specs.Sections.{HasAnalysed, IsRefusedAnalysis, IsReportOn, RunsLine, is_event};
 ghost use Rattle.ov_run_meaning.specs.Sections.{told_of};
 ghost use Rattle.ov_run.specs.Code.Jobs.{HasRun};
@@ -13,7 +13,7 @@ ghost use Rattle.ov_run_meaning.specs.declared.line_run_outcome.Outcome.{Outcome
 ghost use Rattle.ov_scenario.specs.declared.line_of_section.Deed.TheVariants as deed;
 
 use crate::line_outcome::ToldLine;
-use crate::recent_reports::RecentReports;
+use crate::recent_analyses_to_reuse::RecentReports;
 use crate::report_making_and_filing::report_about;
 use crate::run_watcher::RanLine;
 use ov_hall::{Hall, HallName, Pass};

@@ -14,7 +14,7 @@ use Rattle.ov_scenario.specs.declared.scenario.Subject.{Subject}
 use Rattle.ov_snap.specs.CoreState.{CoreState}
 use Rattle.ov_snap.specs.ReportState.{ReportState}
 use Rattle.ov_snap.specs.Run.{Happened}
-use Rattle.ov_snap.specs.declared.core_fault.CoreFault.TheVariants.{NoSuchMoment, OutOfMemory}
+use Rattle.ov_snap.specs.declared.refused_core_call.CoreFault.TheVariants.{NoSuchMoment, OutOfMemory}
 use Rattle.ov_run_meaning.specs.Printed.{entry_line, file_text, node_line, report_line}
 use Rattle.ov_run_meaning.specs.Running.{PrintsPackets}
 use Rattle.ov_run_meaning.specs.Subjects.{AnalysisJudged, IsReportOf, WasAnalysed}

@@ -15,10 +15,10 @@ use Rattle.ov_net.specs.declared.fault.NetFault.TheVariants.{UnknownNode, Crashe
 use Rattle.ov_snap.specs.CoreState.{CoreState, opening_core}
 use Rattle.ov_snap.specs.ReportState.{ReportState}
 use Rattle.ov_snap.specs.Refusals as core
-use Rattle.ov_snap.specs.declared.core_fault.CoreFault.TheVariants.{NoSuchMoment, OutOfMemory}
+use Rattle.ov_snap.specs.declared.refused_core_call.CoreFault.TheVariants.{NoSuchMoment, OutOfMemory}
 use Rattle.ov_ids.specs.FaultOrder.{IsRefusedBy}
 use Rattle.ov_snap.specs.Run.{Happened}
-use Rattle.ov_snap.specs.declared.core_fault.CoreFault.{CoreFault}
+use Rattle.ov_snap.specs.declared.refused_core_call.CoreFault.{CoreFault}
 use Rattle.ov_run_meaning.specs.Printed.{entry_line, refused_line, report_line, file_text, node_line, packet_line}
 use Rattle.ov_run_meaning.specs.Printed.{together_line}
 use Rattle.ov_run_meaning.specs.Sections.{RunTogether, ToldLine, accepted_in, refused_in}

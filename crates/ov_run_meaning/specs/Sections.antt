@@ -11,8 +11,8 @@ use Rattle.ov_net.specs.declared.journal_entry_and_changes.Entry.{Entry}
 use Rattle.ov_snap.specs.CoreState.{CoreState}
 use Rattle.ov_snap.specs.Refusals.{BeginJudged, FilingJudged}
 use Rattle.ov_snap.specs.ReportState.{ReportState}
-use Rattle.ov_snap.specs.declared.core_fault.CoreFault.{CoreFault}
-use Rattle.ov_snap.specs.declared.core_fault.CoreFault.TheVariants.{OutOfMemory}
+use Rattle.ov_snap.specs.declared.refused_core_call.CoreFault.{CoreFault}
+use Rattle.ov_snap.specs.declared.refused_core_call.CoreFault.TheVariants.{OutOfMemory}
 use Rattle.ov_snap.specs.declared.kept_snapshots.Snapshot.{Snapshot}
 use Rattle.ov_snap.specs.Logs.{Begins, IsLog, core_made, of_driver}
 use Rattle.ov_snap.specs.Parts.{total}

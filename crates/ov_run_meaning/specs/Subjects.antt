@@ -8,8 +8,8 @@ use Rattle.ov_snap.specs.CoreState.{CoreState, HasReport}
 use Rattle.ov_snap.specs.ReportState.{ReportState}
 use Rattle.ov_snap.specs.Filing.{WasFiled}
 use Rattle.ov_snap.specs.Refusals.{SomebodyLivedThen, GroupThen}
-use Rattle.ov_snap.specs.declared.core_fault.CoreFault.{CoreFault}
-use Rattle.ov_snap.specs.declared.core_fault.CoreFault.TheVariants.{AlreadyFiled}
+use Rattle.ov_snap.specs.declared.refused_core_call.CoreFault.{CoreFault}
+use Rattle.ov_snap.specs.declared.refused_core_call.CoreFault.TheVariants.{AlreadyFiled}
 use Rattle.ov_scenario.specs.declared.scenario.Subject.{Subject}
 
 -- the group that is asked for, or all nodes if none is

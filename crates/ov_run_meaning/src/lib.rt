@@ -2,9 +2,9 @@
 #![tactic(auto)]
 
 mod change_texts;
+mod event_block_node_and_packet_lines;
 mod line_output_writing;
 mod line_run_outcome;
-mod line_texts;
 mod refusal;
 mod report_and_refusal_lines;
 mod run_fault;
@@ -12,9 +12,9 @@ mod strictness;
 mod subjects;
 mod true_printed_reports_theorem;
 
+pub use event_block_node_and_packet_lines::{entry_line, node_line, packet_line, together_line};
 pub use line_output_writing::{write_done, write_entry, write_look};
 pub use line_run_outcome::Outcome;
-pub use line_texts::{entry_line, node_line, packet_line, together_line};
 pub use refusal::Refusal;
 pub use report_and_refusal_lines::{cert_line, refused_line, report_line};
 pub use run_fault::RunFault;

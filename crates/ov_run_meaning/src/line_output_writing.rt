@@ -14,8 +14,8 @@ ghost use Rattle.ov_run_meaning.specs.Printed.{entry_line, file_text, node_line}
 ghost use Rattle.ov_run_meaning.specs.Running.{PrintsPackets};
 ghost use Rattle.ov_run_meaning.specs.Writing.{IsOfWriting, Writes, WritesOutcome, WritesPrefix};
 
+use crate::event_block_node_and_packet_lines::{entry_line, node_line, packet_line};
 use crate::line_run_outcome::Outcome;
-use crate::line_texts::{entry_line, node_line, packet_line};
 use crate::refusal::Refusal;
 use crate::run_fault::RunFault;
 use crate::subjects::filed_report;

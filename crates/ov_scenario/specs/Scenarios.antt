@@ -237,8 +237,8 @@ IsFirstFault lines refused.OutOfMemory = Unit {0}
 abbrev pub IsReadingFault : List ℕ → ScenarioFault → Type 0
 IsReadingFault bytes fault = IsFirstFault (stated_lines bytes) fault
 
--- these are the parameters of these lines, whatever the rule at DISCONNECT: those that one of them gives, or the default
--- ones if none gives any
+-- these are the parameters of these lines, whatever the rule at DISCONNECT: those that one of them gives, or the
+-- default ones if none gives any
 unfoldable pub AreParamsOf : List Stated → ParamsState → Type 0
 AreParamsOf lines p =
     ((line : Stated) × (numbers : List ℕ) × Has lines line × (line.says ≡ Some (says.Params numbers))

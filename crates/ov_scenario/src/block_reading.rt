@@ -5,7 +5,7 @@ ghost use Rattle.ov_scenario.specs.Code.RunnableLines.{AreReadable, TakesIn, Tak
 ghost use Rattle.ov_scenario.specs.Code.RunnableLines.{to_run};
 ghost use Rattle.ov_scenario.specs.declared.scenario.Line.TheVariants as line;
 
-use crate::event_words_reading::GivenWords;
+use crate::given_random_words_reading::GivenWords;
 use crate::line_of_section::{Deed, SectionLine};
 use crate::statement::{Stated, Statement};
 use crate::statement_reading::state;
@@ -60,8 +60,8 @@ impl<'a> BlockSoFar<'a> {
         line: KeptLine<'a>,
         draws: &mut SeedWords,
     ) -> Result<bool, OutOfMemory>
-        ensures { IfOk result (λ is_last. TakesIn (stream_now draws.old) self.old (line.entry.number, line.entry.text.now)
-            is_last (stream_now draws.new) self.new) }
+        ensures { IfOk result (λ is_last. TakesIn (stream_now draws.old) self.old
+            (line.entry.number, line.entry.text.now) is_last (stream_now draws.new) self.new) }
     {
         let KeptLine { number, text } = line;
         let stated = state(alloc, number, text)?;

@@ -2,11 +2,12 @@
 #![tactic(auto)]
 
 mod block_reading;
-mod event_words_reading;
 mod fault_listing;
 mod first_fault_theorem;
+mod given_random_words_reading;
 mod judged_line_iterator;
 mod line_judging;
+mod line_judging_inside_together_block;
 mod line_of_section;
 mod lines_ahead;
 mod lines_to_run;
@@ -15,7 +16,6 @@ mod open_block;
 mod scenario;
 mod scenario_fault;
 mod scenario_reading;
-mod section_judging;
 mod statement;
 mod statement_reading;
 mod whole_run_settings;

@@ -5,15 +5,15 @@ ghost use Rattle.ov_scenario.specs.Code.Judging.{Tells, with_next};
 ghost use Rattle.ov_scenario.specs.declared.scenario_fault.LineFault.TheVariants as fault;
 ghost use Rattle.ov_scenario.specs.declared.statement.Statement.TheVariants as says;
 
+use crate::line_judging_inside_together_block::fault_of_words;
 use crate::lines_ahead::LinesAhead;
 use crate::open_block::{OpenBlock, block_after};
 use crate::scenario_fault::{LineFault, Setting};
-use crate::section_judging::fault_of_words;
 use crate::statement::{Stated, Statement};
 use ov_ids::Params;
 
-/// What is known of the lines before a line: the numbers of the first event, the first parameters, the first seed and the
-/// first rule at DISCONNECT, whether or not these are at fault, and the block that is open.
+/// What is known of the lines before a line: the numbers of the first event, the first parameters, the first seed and
+/// the first rule at DISCONNECT, whether or not these are at fault, and the block that is open.
 #[derive(Clone, Copy)]
 pub(crate) struct Before {
     event: Option<usize>,

@@ -8,7 +8,7 @@ ghost use Rattle.ov_scenario.specs.Code.RunnableLines.{AreReadable, TakesLine, s
 ghost use Rattle.ov_lines.specs.Lines.{kept_lines};
 
 use crate::block_reading::read_sections;
-use crate::event_words_reading::GivenWords;
+use crate::given_random_words_reading::GivenWords;
 use crate::scenario::Line;
 use crate::statement::{Stated, Statement};
 use crate::statement_reading::{Unstated, read_statement, state};

@@ -1,7 +1,7 @@
 ghost use Rattle.std.specs.Prelude.{◌≡◌};
 ghost use Rattle.ov_scenario.specs.Sections.{is_end, is_together};
 
-use crate::event_words_reading::GivenWords;
+use crate::given_random_words_reading::GivenWords;
 use crate::scenario::{Look, Subject};
 use ov_ids::{Refill, Workers};
 use ov_lines::Unread;

@@ -5,7 +5,8 @@ ghost use Rattle.ov_scenario.specs.EventWords.{event_words};
 ghost use Rattle.ov_scenario.specs.RunLines.{HasIds, ReadingNeedsMemory};
 ghost use Rattle.ov_scenario.specs.Scenarios.{stated_at};
 ghost use Rattle.ov_scenario.specs.Statements.{seven_numbers, one_rule, crash_report_of, timer_of, boot_of};
-ghost use Rattle.ov_scenario.specs.Statements.{analysis_of, broadcast_of, group_at, subject_at, subject_of, workers_named};
+ghost use Rattle.ov_scenario.specs.Statements.{analysis_of, broadcast_of, group_at, subject_at, subject_of};
+ghost use Rattle.ov_scenario.specs.Statements.{workers_named};
 ghost use Rattle.ov_scenario.specs.Statements.{event_rows, look_rows, section_rows, line_rows, line_names};
 ghost use Rattle.ov_scenario.specs.Statements.{alone, statement_of};
 ghost use Rattle.ov_scenario.specs.Code.Reading.{Reads, numbered};
@@ -13,7 +14,7 @@ ghost use Rattle.ov_scenario.specs.declared.scenario.Look.TheVariants as look;
 ghost use Rattle.ov_scenario.specs.declared.statement.Statement.TheVariants as says;
 ghost use Rattle.ov_scenario.specs.declared.statement_reading.Unstated.TheVariants as unstated;
 
-use crate::event_words_reading::GivenWords;
+use crate::given_random_words_reading::GivenWords;
 use crate::numbered_events::Numbered;
 use crate::scenario::{Look, Subject};
 use crate::statement::{Stated, Statement};

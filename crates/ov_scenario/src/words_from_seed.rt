@@ -5,7 +5,7 @@ ghost use Rattle.ov_scenario.specs.Code.RunnableLines.{AreEventWords, stream_now
 ghost use Rattle.ov_scenario.specs.Draws.{AreDraws, seeded};
 ghost use Rattle.ov_words.specs.Stream.{words_per_event};
 
-use crate::event_words_reading::GivenWords;
+use crate::given_random_words_reading::GivenWords;
 use ov_ids::OutOfMemory;
 use ov_words::Words;
 use rand_core::SeedableRng;

@@ -182,7 +182,8 @@ first_reached g p row graph l one q = (
       let w = h.1 in
       let none = w.1 in
       let z : w.0 ≡ 0 = omega (arith, none) in
-      let s = walk_stays g (node_at g p) (node_at g q) (subst (λ (k : ℕ). WalksBy g k (node_at g p) (node_at g q)) z w.2)
+      let s = walk_stays g (node_at g p) (node_at g q)
+      (subst (λ (k : ℕ). WalksBy g k (node_at g p) (node_at g q)) z w.2)
       in
       (one q).1 (sym (one_place g.nodes p q graph.nodes_ascend l h.0 s))),
 )

@@ -74,7 +74,8 @@ passing_more g row count from p total far f graph is first found before =
     ((two.each (node_at g p)).1 (joined_node g (node_at g p) node)) in
     let there : Has whole found.farthest = subst (λ (xs : List ℕ). Has xs found.farthest) same
     ((two.each found.farthest).1 ends) in
-    let most : (q y e : ℕ) → q < p + 1 → HasBit row q → IsDistance g (node_at g q) y e → e ≤ max far f.far = λ q y e l h d.
+    let most : (q y e : ℕ) → q < p + 1 → HasBit row q → IsDistance g (node_at g q) y e → e ≤ max far f.far =
+    λ q y e l h d.
     elim (cases_lt q from) [
       | inl k ↦ let m = before.most q y e k h d in omega (arith, m)
       | inr ge ↦ elim (cases_eq q p) [

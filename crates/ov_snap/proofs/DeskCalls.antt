@@ -16,8 +16,8 @@ use Rattle.ov_snap.specs.DeskSteps.{ClaimedAt, HasTurned, LookedAt, SettledAt}
 use Rattle.ov_snap.specs.ReportState.{ReportState}
 use Rattle.ov_snap.specs.Refusals.{DeskFilingJudged, FilingJudged, HoldsAt, IsFiled, TurnJudged}
 use Rattle.ov_snap.specs.Snapshots.{IsMoment}
-use Rattle.ov_snap.specs.declared.core_fault.CoreFault.{CoreFault}
-use Rattle.ov_snap.specs.declared.core_fault.CoreFault.TheVariants.{AlreadyFiled, NoSuchDesk, NotEnded}
+use Rattle.ov_snap.specs.declared.refused_core_call.CoreFault.{CoreFault}
+use Rattle.ov_snap.specs.declared.refused_core_call.CoreFault.TheVariants.{AlreadyFiled, NoSuchDesk, NotEnded}
 use Rattle.ov_snap.specs.declared.kept_snapshots.Snapshot.{Snapshot}
 use Rattle.ov_snap.proofs.DeskKeeping.{desk_sound, sound_claimed_at, sound_looked_at, sound_more, sound_settled_at}
 

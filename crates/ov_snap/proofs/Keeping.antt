@@ -1,7 +1,7 @@
 -- A core stays sound, whatever happens and whatever is filed.
 use Rattle.std.proofs.Common.{◌≡◌, ◌≢◌, ◌⊎◌, ℕ, ◌<◌, List, [], ◌∷◌, ◌++◌, length, length-append, Option, Some, None}
-use Rattle.std.proofs.Common.{IfSome, IfNone, Result, Ok, Err, IfOk, OnOk, OnErr, true≢false, Bool, IsTrue, ◌↔◌, false, inl}
-use Rattle.std.proofs.Common.{◌≤◌, slice_get, inr, refl, sym, ap, ap₂, ◌∙◌, subst, arith}
+use Rattle.std.proofs.Common.{IfSome, IfNone, Result, Ok, Err, IfOk, OnOk, OnErr, true≢false, Bool, IsTrue, ◌↔◌, false}
+use Rattle.std.proofs.Common.{inl, ◌≤◌, slice_get, inr, refl, sym, ap, ap₂, ◌∙◌, subst, arith}
 use Rattle.std.proofs.lemmas.Option.{none-some}
 use Rattle.ov_ids.specs.ParamsState.{ParamsState}
 use Rattle.ov_ids.specs.Members.{Has, Ordered}
@@ -32,8 +32,8 @@ use Rattle.ov_snap.specs.Refusals.{FilingJudged, IsFiled}
 use Rattle.ov_snap.specs.Filing.{WasFiled}
 use Rattle.ov_snap.specs.Run.{Happened}
 use Rattle.ov_snap.specs.Snapshots.{AreSnapshots, IsMoment, IsSnapshot, SnapshotsAfter, WasBefore}
-use Rattle.ov_snap.specs.declared.core_fault.CoreFault.{CoreFault}
-use Rattle.ov_snap.specs.declared.core_fault.CoreFault.TheVariants.{NoSuchMoment, OtherGraph, AlreadyFiled}
+use Rattle.ov_snap.specs.declared.refused_core_call.CoreFault.{CoreFault}
+use Rattle.ov_snap.specs.declared.refused_core_call.CoreFault.TheVariants.{NoSuchMoment, OtherGraph, AlreadyFiled}
 use Rattle.ov_snap.specs.declared.kept_snapshots.Snapshot.{Snapshot}
 use Rattle.ov_snap.proofs.Moments.{moment_cases, moment_new, moment_stays, moment_within, ordered_more}
 

@@ -14,9 +14,9 @@ use Rattle.ov_snap.specs.ReportState.{ReportState}
 use Rattle.ov_snap.specs.Refusals.{BeginJudged, FilingJudged, GroupBeginJudged, GroupThen, IsGroupAt}
 use Rattle.ov_snap.specs.Refusals.{SomebodyLivedThen, WorkersJudged}
 use Rattle.ov_snap.specs.Snapshots.{IsMoment}
-use Rattle.ov_snap.specs.declared.core_fault.CoreFault.{CoreFault}
-use Rattle.ov_snap.specs.declared.core_fault.CoreFault.TheVariants.{NoSuchMoment, NoNodes, BadGroup, OtherGraph}
-use Rattle.ov_snap.specs.declared.core_fault.CoreFault.TheVariants.{AlreadyFiled, NoSuchWorker, TooManyDesks}
+use Rattle.ov_snap.specs.declared.refused_core_call.CoreFault.{CoreFault}
+use Rattle.ov_snap.specs.declared.refused_core_call.CoreFault.TheVariants.{NoSuchMoment, NoNodes, BadGroup, OtherGraph}
+use Rattle.ov_snap.specs.declared.refused_core_call.CoreFault.TheVariants.{AlreadyFiled, NoSuchWorker, TooManyDesks}
 
 some_node : (ns : List ℕ) (b : Bool) → b ≡ eqb (length ns) 0 → b ≡ false → (a : ℕ) × Has ns a
 some_node [] b is isnt = absurd (true≢false (sym is ∙ isnt))

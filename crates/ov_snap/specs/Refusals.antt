@@ -12,10 +12,12 @@ use Rattle.ov_desk.specs.Turns.{IsWorkerOf}
 use Rattle.ov_snap.specs.CoreState.{CoreState, HasReport, HasDesk, most_desks}
 use Rattle.ov_snap.specs.ReportState.{ReportState}
 use Rattle.ov_snap.specs.Snapshots.{IsMoment}
-use Rattle.ov_snap.specs.declared.core_fault.CoreFault.{CoreFault}
-use Rattle.ov_snap.specs.declared.core_fault.CoreFault.TheVariants.{NoSuchMoment, NoNodes, BadGroup, TooManyDesks}
-use Rattle.ov_snap.specs.declared.core_fault.CoreFault.TheVariants.{NoSuchDesk, NoSuchWorker, WrongTurn, NotEnded}
-use Rattle.ov_snap.specs.declared.core_fault.CoreFault.TheVariants.{OtherGraph, AlreadyFiled, OutOfMemory}
+use Rattle.ov_snap.specs.declared.refused_core_call.CoreFault.{CoreFault}
+use Rattle.ov_snap.specs.declared.refused_core_call.CoreFault.TheVariants.{NoSuchMoment, NoNodes}
+use Rattle.ov_snap.specs.declared.refused_core_call.CoreFault.TheVariants.{BadGroup, TooManyDesks}
+use Rattle.ov_snap.specs.declared.refused_core_call.CoreFault.TheVariants.{NoSuchDesk, NoSuchWorker}
+use Rattle.ov_snap.specs.declared.refused_core_call.CoreFault.TheVariants.{WrongTurn, NotEnded}
+use Rattle.ov_snap.specs.declared.refused_core_call.CoreFault.TheVariants.{OtherGraph, AlreadyFiled, OutOfMemory}
 
 -- the number of each fault
 abbrev pub number_of : CoreFault → ℕ

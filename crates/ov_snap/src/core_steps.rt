@@ -2,10 +2,10 @@ ghost use Rattle.std.specs.Prelude.{◌≡◌, ◌≢◌, IfErr, IfOk, MatchResu
 ghost use Rattle.ov_ids.specs.Members.{Has};
 ghost use Rattle.ov_snap.specs.ReportState.{IsTrueReport, ReportState};
 ghost use Rattle.ov_snap.specs.Run.{CoreRun, MayRunOut, RanOut, Takes};
-ghost use Rattle.ov_snap.specs.declared.core_fault.CoreFault.TheVariants.{OutOfMemory as out_of_memory};
+ghost use Rattle.ov_snap.specs.declared.refused_core_call.CoreFault.TheVariants.{OutOfMemory as out_of_memory};
 
 use crate::analysis_report::Report;
-use crate::core_fault::CoreFault;
+use crate::refused_core_call::CoreFault;
 use crate::snapshot_core::Core;
 use ov_ids::{NodeId, OutOfMemory, Params};
 use ov_net::{Event, NetFault};

@@ -12,11 +12,12 @@ ghost use Rattle.ov_snap.specs.Filing.{WasFiled};
 ghost use Rattle.ov_snap.specs.Refusals.{BeginJudged, FilingJudged, GroupBeginJudged};
 ghost use Rattle.ov_snap.specs.Run.{Happened, TookSnapshot};
 ghost use Rattle.ov_snap.specs.Snapshots.{AreSnapshots, IsMoment};
-ghost use Rattle.ov_snap.specs.declared.core_fault.CoreFault.TheVariants.{NoSuchMoment, OutOfMemory as out_of_memory};
+ghost use Rattle.ov_snap.specs.declared.refused_core_call.CoreFault.TheVariants.{NoSuchMoment};
+ghost use Rattle.ov_snap.specs.declared.refused_core_call.CoreFault.TheVariants.{OutOfMemory as out_of_memory};
 
 use crate::analysis_report::Report;
-use crate::core_fault::CoreFault;
 use crate::kept_snapshots::{Snapshot, find, make_room};
+use crate::refused_core_call::CoreFault;
 use crate::reports_by_moment_and_group::Reports;
 use ov_cert::SharedGraph;
 use ov_desk::GroupDesk;

@@ -16,12 +16,12 @@ ghost use Rattle.ov_snap.specs.DeskSteps.{WasOpened, WasOpenedForGroup, ClaimedA
 ghost use Rattle.ov_snap.specs.Refusals.{OpeningJudged, GroupOpeningJudged, TurnJudged, DeskFilingJudged};
 ghost use Rattle.ov_snap.specs.Refusals.{FilingJudged, HoldsAt, WorkersJudged, WorkerThen};
 ghost use Rattle.ov_snap.specs.Snapshots.{WasBefore};
-ghost use Rattle.ov_snap.specs.declared.core_fault.CoreFault.TheVariants as fault;
+ghost use Rattle.ov_snap.specs.declared.refused_core_call.CoreFault.TheVariants as fault;
 ghost use Rattle.ov_snap.specs.declared.kept_snapshots.Snapshot.{Snapshot as Kept};
 
 use crate::analysis_report::Report;
-use crate::core_fault::CoreFault;
 use crate::kept_snapshots::{Snapshot, find};
+use crate::refused_core_call::CoreFault;
 use crate::snapshot_core::Core;
 use ov_desk::GroupDesk;
 use ov_ids::{NodeId, OutOfMemory, Workers};

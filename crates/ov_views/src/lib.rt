@@ -12,11 +12,11 @@
 #![tactic(auto)]
 
 mod change;
-mod id_sample_container;
+mod id_sample;
 mod step_effects;
 mod views;
 
 pub use change::{Changes, ViewChange};
-pub use id_sample_container::Sample;
+pub use id_sample::Sample;
 pub use step_effects::Moves;
 pub use views::{View, Views};

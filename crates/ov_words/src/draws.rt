@@ -5,7 +5,7 @@ ghost use Rattle.ov_words.specs.Pick.{AreDrawn};
 ghost use Rattle.ov_words.specs.Stream.{words_per_event};
 
 use crate::Words;
-use crate::random_words_of_event::copied;
+use crate::event_random_word_list::copied;
 use ov_ids::NodeId;
 use rand_core::utils::NextWord;
 use rand_pcg::Pcg64;

@@ -2,7 +2,7 @@ ghost use Rattle.std.specs.Prelude.{◌≡◌, length, IfOk};
 ghost use Rattle.ov_words.specs.Stream.{words_per_event};
 ghost use Rattle.ov_words.specs.Code.Making.{all_words};
 
-use crate::random_words_of_event::copied;
+use crate::event_random_word_list::copied;
 use ov_ids::OutOfMemory;
 use rand_pcg::Pcg64;
 use std::alloc::Global;

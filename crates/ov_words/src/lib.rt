@@ -2,9 +2,9 @@
 #![tactic(auto)]
 
 mod draws;
+mod event_random_word_list;
 mod kept_words;
-mod random_words_of_event;
 
 pub use draws::Draws;
+pub use event_random_word_list::{WORDS_PER_EVENT, Words};
 pub use kept_words::KeptWords;
-pub use random_words_of_event::{WORDS_PER_EVENT, Words};

@@ -10,8 +10,8 @@ use Rattle.ov_graph.specs.Joined.{IsNodeSet}
 use Rattle.ov_graph.specs.Even.{IsUnlinkedPair}
 use Rattle.ov_graph.specs.Code.Tests.{are_joined}
 use Rattle.ov_cert.specs.declared.cert.Split.{Split}
-use Rattle.ov_cert.specs.declared.expected_entry.Expected.{Expected}
-use Rattle.ov_cert.specs.declared.expected_entry.Expected.TheVariants.{Pair, Fan}
+use Rattle.ov_cert.specs.declared.expected_entry_with_place_and_fault.Expected.{Expected}
+use Rattle.ov_cert.specs.declared.expected_entry_with_place_and_fault.Expected.TheVariants.{Pair, Fan}
 use Rattle.ov_cert.specs.declared.path_and_entry_flaws.EntryFlaw.{EntryFlaw}
 use Rattle.ov_cert.specs.Flaws.{HasEntryFlaw}
 use Rattle.ov_cert.specs.Code.Flaws.{pair_entry_flaw, fan_entry_flaw}

@@ -12,8 +12,8 @@ use Rattle.ov_cert.specs.declared.flaw_types_apart_from_paths.SetFlaw.TheVariant
 use Rattle.ov_cert.specs.declared.flaw_types_apart_from_paths.EndFlaw.{EndFlaw}
 use Rattle.ov_cert.specs.declared.flaw_types_apart_from_paths.EndFlaw.TheVariants as end
 use Rattle.ov_cert.specs.declared.flaw_types_apart_from_paths.SideFlaw.{SideFlaw}
-use Rattle.ov_cert.specs.declared.flaw_types_apart_from_paths.SideFlaw.TheVariants.{Near, Far, NoSet, InCut, NearOff, FarOn}
-use Rattle.ov_cert.specs.declared.flaw_types_apart_from_paths.SideFlaw.TheVariants.{WayOut}
+use Rattle.ov_cert.specs.declared.flaw_types_apart_from_paths.SideFlaw.TheVariants.{Near, Far, NoSet, InCut, NearOff}
+use Rattle.ov_cert.specs.declared.flaw_types_apart_from_paths.SideFlaw.TheVariants.{FarOn, WayOut}
 use Rattle.ov_cert.specs.declared.flaw_types_apart_from_paths.FrameFlaw.{FrameFlaw}
 use Rattle.ov_cert.specs.declared.flaw_types_apart_from_paths.FrameFlaw.TheVariants.{NoNodes, NoMember, Group, Count}
 use Rattle.ov_cert.specs.declared.flaw_types_apart_from_paths.FrameFlaw.TheVariants.{NotLinked, Cut}

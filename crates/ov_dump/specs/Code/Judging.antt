@@ -3,8 +3,8 @@ use Rattle.std.specs.Prelude.{◌≡◌, ◌⊎◌, ⊤, ℕ, List, []}
 use Rattle.ov_ids.specs.Members.{Has}
 use Rattle.ov_dump.specs.declared.dump_and_graph_types.Entry.{Entry}
 use Rattle.ov_dump.specs.declared.dump_and_graph_types.Listing.{Listing}
-use Rattle.ov_dump.specs.declared.fault.DumpFault.{DumpFault}
-use Rattle.ov_dump.specs.declared.fault.DumpFault.TheVariants.{NameTwice, EmptyName, OutOfMemory}
+use Rattle.ov_dump.specs.declared.graph_making_fault.DumpFault.{DumpFault}
+use Rattle.ov_dump.specs.declared.graph_making_fault.DumpFault.TheVariants.{NameTwice, EmptyName, OutOfMemory}
 
 -- what is wrong with an entry behind these names
 abbrev pub EntryFails : List (List ℕ) → Entry → DumpFault → Type 0

@@ -4,8 +4,8 @@ use Rattle.ov_ids.specs.Members.{Has, Ordered}
 use Rattle.ov_graph.specs.Links.{most_nodes}
 use Rattle.ov_dump.specs.Faults.{Naming}
 use Rattle.ov_dump.specs.Names.{ComesBefore}
-use Rattle.ov_dump.specs.declared.fault.DumpFault.{DumpFault}
-use Rattle.ov_dump.specs.declared.fault.DumpFault.TheVariants.{TooManyNodes, OutOfMemory}
+use Rattle.ov_dump.specs.declared.graph_making_fault.DumpFault.{DumpFault}
+use Rattle.ov_dump.specs.declared.graph_making_fault.DumpFault.TheVariants.{TooManyNodes, OutOfMemory}
 
 -- the set `new` has the names of `old` and these
 pub record Gains (old : List (List ℕ)) (more : List Naming) (new : List (List ℕ)) : Type 0 where

@@ -29,7 +29,7 @@ use Rattle.ov_grow.specs.Phases.{IsCrashedNeighbour}
 use Rattle.ov_grow.specs.Turns.{HasFailed}
 use Rattle.ov_grow.specs.declared.fault.GrowFault.{GrowFault}
 use Rattle.ov_grow.specs.declared.fault.GrowFault.TheVariants.{OutOfMemory}
-use Rattle.ov_grow.specs.declared.growing.Growing.{Growing}
+use Rattle.ov_grow.specs.declared.growth_in_progress.Growing.{Growing}
 
 -- where growing stands
 abbrev pub growth_of : Growing → Growth

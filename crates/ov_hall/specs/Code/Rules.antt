@@ -8,7 +8,7 @@ use Rattle.ov_hall.specs.Passes.{AllBegin, having_seen, seen_alike, standing_for
 use Rattle.ov_snap.specs.DriverSteps.{ticket}
 use Rattle.ov_snap.specs.declared.ghost_log_of_drivers.Mark.{Mark}
 use Rattle.ov_snap.specs.declared.ghost_log_of_drivers.Ticket.{Ticket}
-use Rattle.ov_hall.specs.declared.ghost_views.View.{View}
+use Rattle.ov_hall.specs.declared.ghost_knowledge_of_driver_seat.View.{View}
 
 -- the name of no table
 abbrev pub no_table : TableId

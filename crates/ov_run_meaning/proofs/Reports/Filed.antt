@@ -4,7 +4,7 @@ use Rattle.std.proofs.Common.{inl, inr, refl, sym, ap, subst, arith}
 use Rattle.std.proofs.lemmas.Option.{none-some}
 use Rattle.std.proofs.lemmas.Result.{IfOk-weaker, IfErr-weaker}
 use Rattle.ov_ids.specs.Members.{Has}
-use Rattle.ov_snap.specs.declared.core_fault.CoreFault.TheVariants.{OutOfMemory}
+use Rattle.ov_snap.specs.declared.refused_core_call.CoreFault.TheVariants.{OutOfMemory}
 use Rattle.ov_ids.specs.FaultOrder.{IsRefusedBy, Passed, HoldsThen}
 use Rattle.ov_ids.proofs.Stepping.{step_none, step_passes}
 use Rattle.ov_graph.specs.Links.{LinkGraph, IsGroup}
@@ -18,9 +18,9 @@ use Rattle.ov_snap.specs.ReportState.{ReportState, IsTrueReport}
 use Rattle.ov_snap.specs.Refusals.{FilingJudged, IsFiled}
 use Rattle.ov_snap.specs.Snapshots.{IsMoment}
 use Rattle.ov_snap.proofs.Refusing.{lived_then, group_then}
-use Rattle.ov_snap.specs.declared.core_fault.CoreFault.{CoreFault}
-use Rattle.ov_snap.specs.declared.core_fault.CoreFault.TheVariants.{NoSuchMoment, NoNodes, BadGroup, OtherGraph}
-use Rattle.ov_snap.specs.declared.core_fault.CoreFault.TheVariants.{AlreadyFiled}
+use Rattle.ov_snap.specs.declared.refused_core_call.CoreFault.{CoreFault}
+use Rattle.ov_snap.specs.declared.refused_core_call.CoreFault.TheVariants.{NoSuchMoment, NoNodes, BadGroup, OtherGraph}
+use Rattle.ov_snap.specs.declared.refused_core_call.CoreFault.TheVariants.{AlreadyFiled}
 use Rattle.ov_run_meaning.specs.Subjects.{members_of, IsReportOf, IsReported, SubjectThen, AnalysisJudged}
 use Rattle.ov_scenario.specs.declared.scenario.Subject.{Subject}
 

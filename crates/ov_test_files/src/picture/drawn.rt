@@ -1,8 +1,8 @@
 //! What is drawn of the square, and of a pair.
 use crate::picture::square::{drawn_pair, drawn_square};
 use LinkClass::{CutToFar, SideToCut};
+use ov_drawing::{ChosenEntry, Drawing, LinkClass, NodeClass, PictureFault};
 use ov_ids::NodeId;
-use ov_picture::{ChosenEntry, Drawing, LinkClass, NodeClass, PictureFault};
 
 /// The class of a node, and whether it is drawn as a member.
 type NodeRow = (NodeClass, bool);

@@ -1,7 +1,8 @@
 //! Pictures for which an allocation is refused. `bin/refuse-allocations` refuses each in turn.
 use crate::picture::square::drawn_square;
+use ov_drawing::{ChosenEntry, Drawing, PictureFault};
 use ov_ids::{NodeId, OutOfMemory};
-use ov_picture::{ChosenEntry, Drawing, PictureFault, dot, svg};
+use ov_picture::{dot, svg};
 use std::alloc::Global;
 
 /// Whether a drawing is written whole, as SVG.

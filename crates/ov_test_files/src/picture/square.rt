@@ -1,9 +1,9 @@
 //! Nodes 1 to 4, each linked to the next, and 4 to 1. Crashing 2 and 4 parts 1 from 3.
 use ov_cert::{Cert, FanPaths, Split};
+use ov_drawing::{ChosenEntry, Drawing, PictureFault, draw};
 use ov_graph::{Graph, GraphFault};
 use ov_ids::{NodeId, OutOfMemory, Seq};
 use ov_lists::Paths;
-use ov_picture::{ChosenEntry, Drawing, PictureFault, draw};
 use ov_test_kit::ids;
 use std::alloc::Global;
 

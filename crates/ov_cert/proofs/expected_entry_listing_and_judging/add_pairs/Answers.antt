@@ -1,6 +1,6 @@
 -- The pairs of one more member.
 use Rattle.std.proofs.Common.{◌∙◌, ◌+◌, List, take, drop, ap}
-use Rattle.ov_cert.specs.declared.expected_entry.Expected.{Expected}
+use Rattle.ov_cert.specs.declared.expected_entry_with_place_and_fault.Expected.{Expected}
 use Rattle.ov_cert.specs.Code.Tests.{pairs_after}
 use Rattle.ov_cert.proofs.EntryOrder.Listed.{with_pairs, column_added}
 use Rattle.ov_cert.proofs.expected_entry_listing_and_judging.add_pairs.Goals as goal

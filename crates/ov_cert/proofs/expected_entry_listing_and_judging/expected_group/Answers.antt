@@ -1,6 +1,6 @@
 -- The pairs, and then the fans.
 use Rattle.std.proofs.Common.{◌∙◌, ◌++◌, [], ap, ap₂, List, ℕ}
-use Rattle.ov_cert.specs.declared.expected_entry.Expected.{Expected}
+use Rattle.ov_cert.specs.declared.expected_entry_with_place_and_fault.Expected.{Expected}
 use Rattle.ov_cert.specs.Entries.{of_pairs, of_fans}
 use Rattle.ov_cert.specs.Code.Tests.{pairs_after, expected_pairs}
 use Rattle.ov_cert.proofs.EntryOrder.Columns.{expected}

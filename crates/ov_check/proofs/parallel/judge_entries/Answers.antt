@@ -2,7 +2,7 @@
 use Rattle.std.proofs.Common.{◌∙◌, List, length, Some, sym, ap, subst}
 use Rattle.std.proofs.lemmas.Bool.{both_ways}
 use Rattle.ov_cert.specs.declared.cert.Cert.TheVariants as cert
-use Rattle.ov_cert.specs.declared.expected_entry.Expected.{Expected}
+use Rattle.ov_cert.specs.declared.expected_entry_with_place_and_fault.Expected.{Expected}
 use Rattle.ov_cert.specs.Verdict.{AllHold, IsFirstAtFault, JudgedForGroup}
 use Rattle.ov_cert.specs.Entries.{HoldsEntry}
 use Rattle.ov_check.proofs.Placed.{pairs_left, judged_missing, judged_extra, judged_valid}

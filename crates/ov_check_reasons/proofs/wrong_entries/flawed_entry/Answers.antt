@@ -1,7 +1,7 @@
 -- What is at a place of the expected entries is expected.
 use Rattle.std.proofs.Common.{◌≡◌, List, slice_get, Some, refl, subst}
 use Rattle.std.proofs.lemmas.Option.{slice_get_read}
-use Rattle.ov_cert.specs.declared.expected_entry.Expected.{Expected}
+use Rattle.ov_cert.specs.declared.expected_entry_with_place_and_fault.Expected.{Expected}
 use Rattle.ov_check.proofs.Placed.{each_expected}
 use Rattle.ov_check_reasons.proofs.wrong_entries.flawed_entry.Goals as goal
 

@@ -15,5 +15,6 @@ returns-clause-told g c =
     let is : IsGroupLeft c.args.bytes.now asked gone group =
     (named, c.in_ok-nodes.ensures.group, c.in-Ok.ensures.left) in
     answered c.args.bytes.now asked gone c.request_of-request.result.gone.now group _ _ _ g.W.Write.contents
-    c.args.sink.now c.tell.new.sink c.tell.result are is c.request_of-request.ensures.gone c.request_of-request.ensures.group
-    c.request_of-request.ensures.certificate c.request_of-request.ensures.names c.tell.ensures.answered
+    c.args.sink.now c.tell.new.sink c.tell.result are is c.request_of-request.ensures.gone
+    c.request_of-request.ensures.group c.request_of-request.ensures.certificate c.request_of-request.ensures.names
+    c.tell.ensures.answered

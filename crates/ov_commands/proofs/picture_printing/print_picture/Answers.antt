@@ -1,9 +1,9 @@
 -- How the parts of the command end.
 use Rattle.std.proofs.Common.{option_map, ◌≢◌, None, subst, sym}
 use Rattle.ov_ids.specs.FaultOrder.{IsRefusedBy}
-use Rattle.ov_picture.specs.Chosen.{shown_paths}
-use Rattle.ov_picture.specs.Faults.{PictureJudged}
-use Rattle.ov_picture.specs.declared.fault.PictureFault.TheVariants as drawing
+use Rattle.ov_drawing.specs.Chosen.{shown_paths}
+use Rattle.ov_drawing.specs.Faults.{PictureJudged}
+use Rattle.ov_drawing.specs.declared.fault.PictureFault.TheVariants as drawing
 use Rattle.ov_commands.specs.Pictures.{EndsAsAsked, IsDrawable, chosen_entry}
 use Rattle.ov_commands.proofs.Printed.{has_entry, picture_written, undrawn, unnamed}
 use Rattle.ov_commands.proofs.picture_printing.print_picture.Goals as goal

@@ -11,7 +11,8 @@ returns-then-starts-clause-allowed c =
     let v = c.args.views.now in
     let u = c.remove_active-changes.new.self in
     let other : eqb c.args.from v.me ≡ false = rw (← c.me.ensures.value) (sym c.eq.ensures ∙ c.if-eq.false) in
-    let active : has v.active c.args.from ≡ true = search (rules, c.is_active.ensures.value, c.if-not-is_active.false) in
+    let active : has v.active c.args.from ≡ true =
+    search (rules, c.is_active.ensures.value, c.if-not-is_active.false) in
     let gone = c.remove_active-changes.ensures.removed in
     let rule : u.params ≡ v.params = ap (λ (w : ViewsState). w.params) gone.0 in
     let starts : starts_attempt v.params.refill u ≡ true =

@@ -3,8 +3,8 @@ use Rattle.std.proofs.Common.{rules, ◌≡◌, None, inr, subst, sym}
 use Rattle.std.proofs.lemmas.Result.{IfErr-weaker}
 use Rattle.ov_ids.specs.FaultOrder.{IsRefusedBy}
 use Rattle.ov_snap.specs.CoreState.{CoreState}
-use Rattle.ov_snap.specs.declared.core_fault.CoreFault.{CoreFault}
-use Rattle.ov_snap.specs.declared.core_fault.CoreFault.TheVariants.{OutOfMemory}
+use Rattle.ov_snap.specs.declared.refused_core_call.CoreFault.{CoreFault}
+use Rattle.ov_snap.specs.declared.refused_core_call.CoreFault.TheVariants.{OutOfMemory}
 use Rattle.ov_snap.specs.Refusals.{FilingJudged}
 use Rattle.ov_run_meaning.specs.Subjects.{AnalysisJudged}
 use Rattle.ov_run_meaning.proofs.Reports.Filed.{filing_refused}

@@ -3,8 +3,8 @@ use Rattle.std.proofs.Common.{arith}
 use Rattle.ov_ids.proofs.Members.{has_place}
 use Rattle.ov_graph.specs.Paths.{node_at}
 use Rattle.ov_shape.proofs.Counts.{few_picked}
-use Rattle.ov_shape.proofs.Searching.{searching_begun, searching_more, searching_ended, step_of, next_within, count_fits}
-use Rattle.ov_shape.proofs.Searching.{total_fits}
+use Rattle.ov_shape.proofs.Searching.{searching_begun, searching_more, searching_ended, step_of, next_within}
+use Rattle.ov_shape.proofs.Searching.{count_fits, total_fits}
 use Rattle.ov_shape.proofs.layered_search.search.Goals as goal
 
 pub layers-init : goal.layers-init

@@ -1,7 +1,7 @@
 use Rattle.std.proofs.Common.{subst, sym}
 use Rattle.ov_ids.specs.FaultOrder.{IsRefusedBy}
 use Rattle.ov_snap.specs.Refusals.{FilingJudged}
-use Rattle.ov_snap.specs.declared.core_fault.CoreFault.TheVariants.{OutOfMemory}
+use Rattle.ov_snap.specs.declared.refused_core_call.CoreFault.TheVariants.{OutOfMemory}
 use Rattle.ov_snap.specs.Logs.{IsLog, core_made}
 use Rattle.ov_hall.proofs.Histories.{if_err, if_err_and, if_ok}
 use Rattle.ov_hall.proofs.PassCalls as pass

@@ -29,7 +29,8 @@ returns-clause-happened g c =
 
 pub returns-clause-err : goal.returns-clause-err
 returns-clause-err g c =
-    if_err c.take_event-answer.result _ _ (λ f same. pass.looked _ _ _ _ _ _ (called g c) same) c.take_event-answer.ensures.err
+    if_err c.take_event-answer.result _ _ (λ f same. pass.looked _ _ _ _ _ _ (called g c) same)
+    c.take_event-answer.ensures.err
 
 pub returns-clause-log : goal.returns-clause-log
 returns-clause-log g c =

@@ -23,8 +23,8 @@ returns-clause-happened g c =
       h.0,
       happened_as _ _ c.args.event c.args.words.now h.0 h.1 _
           (ap (core_made params) x.0)
-          (marked params c.self.inside.state c.args.self.now c.take_event.new.self (first_seen c.take_event.new.stand) false
-          h.1 x.0 x.1 h.3).0 h.2,
+          (marked params c.self.inside.state c.args.self.now c.take_event.new.self (first_seen c.take_event.new.stand)
+          false h.1 x.0 x.1 h.3).0 h.2,
     )) c.take_event.ensures.happened
 
 pub returns-clause-marked : goal.returns-clause-marked

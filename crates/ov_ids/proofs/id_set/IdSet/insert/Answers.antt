@@ -7,24 +7,23 @@ pub insert-requires : goal.insert-requires
 insert-requires c =
     let within : count_below c.args.id c.self.inside.ids.items ≤ length c.self.inside.ids.items =
     count_below-le-length c.args.id c.self.inside.ids.items in
-    let at : c.place_for-i.result ≡ count_below c.args.id c.self.inside.ids.items =
-    c.place_for-i.ensures.value ∙ ap (count_below c.args.id) c.as_slice.ensures.value in
+    let at : c.in-Err.i ≡ count_below c.args.id c.self.inside.ids.items =
+    c.in-Err.ensures.place ∙ ap (count_below c.args.id) (sym c.self.view_is) in
     search rules
 
-pub returns-then-not-contains-clause-value : goal.returns-then-not-contains-clause-value
-returns-then-not-contains-clause-value c =
-    c.insert.ensures.items ∙ rw (c.place_for-i.ensures.value, c.as_slice.ensures.value, c.self.view_is)
-    (sym (adding_absent c.args.id c.args.self.now (sym c.contains.ensures.value ∙ c.if-not-contains.true)))
+pub returns-in-Err-clause-value : goal.returns-in-Err-clause-value
+returns-in-Err-clause-value c =
+    c.insert.ensures.items ∙ rw (c.in-Err.ensures.place, c.self.view_is)
+    (sym (adding_absent c.args.id c.args.self.now (sym c.in-Err.ensures.value)))
 
-pub returns-then-not-contains-clause-members : goal.returns-then-not-contains-clause-members
-returns-then-not-contains-clause-members c = members_adding _ _ _ (returns-then-not-contains-clause-value c)
+pub returns-in-Err-clause-members : goal.returns-in-Err-clause-members
+returns-in-Err-clause-members c = members_adding _ _ _ (returns-in-Err-clause-value c)
 
 pub invariant_of-self : goal.invariant_of-self
-invariant_of-self c =
-    subst IsSet (sym (returns-then-not-contains-clause-value c)) (IsSet-adding _ _ c.contains.ensures.set)
+invariant_of-self c = subst IsSet (sym (returns-in-Err-clause-value c)) (IsSet-adding _ _ c.place_of.ensures.set)
 
-pub returns-else-not-contains : goal.returns-else-not-contains
-returns-else-not-contains c =
-    let present =
-    sym (adding_present _ _ c.contains.ensures.set (sym c.contains.ensures.value ∙ c.if-not-contains.false))
-    in record { value = present; members = members_adding _ _ _ present }
+pub returns-in-Ok-clause-value : goal.returns-in-Ok-clause-value
+returns-in-Ok-clause-value c = sym (adding_present _ _ c.place_of.ensures.set (sym c.in-Ok.ensures.value))
+
+pub returns-in-Ok-clause-members : goal.returns-in-Ok-clause-members
+returns-in-Ok-clause-members c = members_adding _ _ _ (returns-in-Ok-clause-value c)

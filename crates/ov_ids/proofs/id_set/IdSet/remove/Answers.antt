@@ -5,25 +5,24 @@ use Rattle.ov_ids.proofs.id_set.IdSet.remove.Goals as goal
 
 pub remove-requires : goal.remove-requires
 remove-requires c =
-    let within : c.place_for-i.result < length c.self.inside.ids.items =
-    rw (c.place_for-i.ensures.value, c.as_slice.ensures.value, c.self.view_is)
-    (count_below-lt-length c.args.id c.args.self.now (sym c.contains.ensures.value ∙ c.if-contains.true))
+    let within : c.in-Ok.i < length c.self.inside.ids.items =
+    rw (c.in-Ok.ensures.place, c.self.view_is)
+    (count_below-lt-length c.args.id c.args.self.now (sym c.in-Ok.ensures.value))
     in search rules
 
-pub returns-then-contains-clause-value : goal.returns-then-contains-clause-value
-returns-then-contains-clause-value c =
-    c.remove.ensures.items ∙ rw (c.place_for-i.ensures.value, c.as_slice.ensures.value, c.self.view_is)
-    (sym (without_present c.args.id c.args.self.now c.contains.ensures.set
-    (sym c.contains.ensures.value ∙ c.if-contains.true)))
+pub returns-in-Ok-clause-value : goal.returns-in-Ok-clause-value
+returns-in-Ok-clause-value c =
+    c.remove.ensures.items ∙ rw (c.in-Ok.ensures.place, c.self.view_is)
+    (sym (without_present c.args.id c.args.self.now c.place_of.ensures.set (sym c.in-Ok.ensures.value)))
 
-pub returns-then-contains-clause-members : goal.returns-then-contains-clause-members
-returns-then-contains-clause-members c = members_without _ _ _ (returns-then-contains-clause-value c)
+pub returns-in-Ok-clause-members : goal.returns-in-Ok-clause-members
+returns-in-Ok-clause-members c = members_without _ _ _ (returns-in-Ok-clause-value c)
 
 pub invariant_of-self : goal.invariant_of-self
-invariant_of-self c =
-    subst IsSet (sym (returns-then-contains-clause-value c)) (IsSet-without _ _ c.contains.ensures.set)
+invariant_of-self c = subst IsSet (sym (returns-in-Ok-clause-value c)) (IsSet-without _ _ c.place_of.ensures.set)
 
-pub returns-else-contains : goal.returns-else-contains
-returns-else-contains c =
-    let absent = sym (without_absent _ _ (sym c.contains.ensures.value ∙ c.if-contains.false))
-    in record { value = absent; members = members_without _ _ _ absent }
+pub returns-in-Err-clause-value : goal.returns-in-Err-clause-value
+returns-in-Err-clause-value c = sym (without_absent _ _ (sym c.in-Err.ensures.value))
+
+pub returns-in-Err-clause-members : goal.returns-in-Err-clause-members
+returns-in-Err-clause-members c = members_without _ _ _ (returns-in-Err-clause-value c)

@@ -22,7 +22,8 @@ invariant_of-self c =
     let i = c.self.inside in
     let s = c.take_event.ensures in
     let happened = other_happened i.world c.take_event.new.self i.snapshots.items i.desks.items i.reports c.args.event
-    c.args.words.now c.take_event.result c.is_snapshot.result c.if-is_snapshot.false c.is_snapshot.ensures s.judged s.step
+    c.args.words.now c.take_event.result c.is_snapshot.result c.if-is_snapshot.false c.is_snapshot.ensures
+    s.judged s.step
     in
     other_kept i.world c.take_event.new.self i.snapshots.items i.desks.items i.reports c.args.event c.args.words.now
     c.take_event.result happened s.err c.self.invariant
@@ -39,5 +40,6 @@ returns-clause-happened c =
     } in
     subst (λ (b : CoreState). OnOk c.take_event.result ((e : Entry) × Happened b c.args.event c.args.words.now e after))
     c.self.view_is
-    (other_happened i.world c.take_event.new.self i.snapshots.items i.desks.items i.reports c.args.event c.args.words.now
-    c.take_event.result c.is_snapshot.result c.if-is_snapshot.false c.is_snapshot.ensures s.judged s.step)
+    (other_happened i.world c.take_event.new.self i.snapshots.items i.desks.items i.reports c.args.event
+    c.args.words.now c.take_event.result c.is_snapshot.result c.if-is_snapshot.false c.is_snapshot.ensures
+    s.judged s.step)

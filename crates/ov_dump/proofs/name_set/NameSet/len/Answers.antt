@@ -1,8 +1,0 @@
-use Rattle.std.proofs.Common.{subst}
-use Rattle.ov_ids.specs.Members.{Ordered}
-use Rattle.ov_dump.specs.Names.{ComesBefore}
-use Rattle.ov_dump.proofs.NameLists.{ordered}
-use Rattle.ov_dump.proofs.name_set.NameSet.len.Goals as goal
-
-pub returns-clause-ordered : goal.returns-clause-ordered
-returns-clause-ordered c = subst (Ordered ComesBefore) c.self.view_is (ordered _ c.len.ensures.ordered)

@@ -1,5 +1,0 @@
-use Rattle.ov_graph.proofs.BitRows.Marked.{mark_row}
-use Rattle.ov_graph.proofs.adjacency_rows.mark.Goals as goal
-
-pub returns : goal.returns
-returns c = mark_row c.args.rows.now c.args.p c.args.q c.put.new.row c.requires.row c.put.ensures
