@@ -10,6 +10,7 @@ mod costs_and_shape_reading;
 mod csv_field_reading;
 mod delivered_share;
 mod four_decimals;
+mod means_of_costs_and_shape;
 mod message_row;
 mod phase_summary;
 mod picture;
