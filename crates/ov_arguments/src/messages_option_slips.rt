@@ -7,11 +7,13 @@ use clap::parser::ValueSource;
 use std::alloc::{AllocError, Global};
 
 /// Why it needs `--sequential`.
-const ALONE: &str = "error: '--messages' needs '--sequential': PRUNE does not say for which broadcast it is sent, so \
+const ALONE: &str =
+    "error: '--messages' needs '--sequential': PRUNE does not say for which broadcast it is sent, so \
                      what a broadcast cost is known if it is made alone";
 
 /// Why it excludes what measures runs.
-const OF_PHASES: &str = "which tells of all broadcasts of a phase, and it prints a row for each broadcast";
+const OF_PHASES: &str =
+    "which tells of all broadcasts of a phase, and it prints a row for each broadcast";
 
 /// Why it excludes what tells of runs.
 const OF_RUNS: &str = "which tells of rows of runs, and it prints none";
@@ -22,7 +24,10 @@ const OF_ROWS: &str = "since rows of runs do not say what each broadcast cost";
 /// The options that it excludes, and why.
 const EXCLUDED: [(&str, &str); 6] = [
     ("costs", OF_PHASES),
-    ("shape", "which tells of the links after a phase, and it prints a row for each broadcast"),
+    (
+        "shape",
+        "which tells of the links after a phase, and it prints a row for each broadcast",
+    ),
     ("summary", OF_RUNS),
     ("svg", OF_RUNS),
     ("at-most-split", OF_RUNS),

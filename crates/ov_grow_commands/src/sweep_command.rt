@@ -3,9 +3,9 @@ ghost use Rattle.ov_grow_commands.specs.KeptRows.{AreGrown, needs_rows};
 
 use crate::grow_command::{print_refusal, told};
 use crate::grow_command_fault::GrowthFault;
+use crate::message_row_printing::print_messages;
 use crate::picture_file::opened_picture;
 use crate::row_files::rows_of_files;
-use crate::message_row_printing::print_messages;
 use crate::row_printing::{RowPrinter, measures_asked, write_rows};
 use crate::sweep_report::{print_report, tell_repeated, tell_too_few};
 use ov_arguments::{Printed, SweepRequest};

@@ -74,11 +74,7 @@ pub fn message_row_text(alloc: Global, message: &MessageRow) -> Result<Vec<u8>, 
 }
 
 /// What the broadcasts of each phase cost.
-fn write_costs(
-    alloc: Global,
-    writer: &mut Writer<Vec<u8>>,
-    row: &Row,
-) -> Result<(), OutOfMemory> {
+fn write_costs(alloc: Global, writer: &mut Writer<Vec<u8>>, row: &Row) -> Result<(), OutOfMemory> {
     for phase in &row.phases {
         write_cells(alloc, writer, &costs_cells(phase.costs))?;
     }
@@ -86,11 +82,7 @@ fn write_costs(
 }
 
 /// The shape of each phase.
-fn write_shape(
-    alloc: Global,
-    writer: &mut Writer<Vec<u8>>,
-    row: &Row,
-) -> Result<(), OutOfMemory> {
+fn write_shape(alloc: Global, writer: &mut Writer<Vec<u8>>, row: &Row) -> Result<(), OutOfMemory> {
     for phase in &row.phases {
         write_cells(alloc, writer, &shape_cells(phase.shape))?;
     }
