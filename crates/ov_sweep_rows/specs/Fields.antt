@@ -133,8 +133,8 @@ abbrev pub IsSomeThat : {A : Type 0} → (A → Type 0) → Option A → Type 0
 IsSomeThat IsSo None = ⊥
 IsSomeThat IsSo (Some value) = IsSo value
 
--- what rows of a form say of the costs of a phase, which are counted from 0: they stand behind the further options,
--- phase by phase; rows without columns for them say that they are not known
+-- what rows of a form say of the costs of a phase, the first of which has place 0: they stand behind the further
+-- options, phase by phase; in rows without columns for them there are none
 abbrev pub SayCostsBy : RowForm → List (List ℕ) → ℕ → Option PhaseCosts → Type 0
 SayCostsBy Plain fields phase costs = costs ≡ None
 SayCostsBy Further fields phase costs = costs ≡ None
@@ -142,8 +142,8 @@ SayCostsBy Costs fields phase costs = IsSomeThat (SayCosts fields (40 + 6 * phas
 SayCostsBy Shape fields phase costs = costs ≡ None
 SayCostsBy CostsAndShape fields phase costs = IsSomeThat (SayCosts fields (40 + 6 * phase)) costs
 
--- what rows of a form say of the shape of a phase, which are counted from 0: the shapes stand behind all else, phase by
--- phase; rows without columns for them say that they are not known
+-- what rows of a form say of the shape of a phase, the first of which has place 0: the shapes stand behind all else,
+-- phase by phase; in rows without columns for them there are none
 abbrev pub SayShapeBy : RowForm → List (List ℕ) → ℕ → Option PhaseShape → Type 0
 SayShapeBy Plain fields phase shape = shape ≡ None
 SayShapeBy Further fields phase shape = shape ≡ None
@@ -151,8 +151,8 @@ SayShapeBy Costs fields phase shape = shape ≡ None
 SayShapeBy Shape fields phase shape = IsSomeThat (SayShape fields (40 + 7 * phase)) shape
 SayShapeBy CostsAndShape fields phase shape = IsSomeThat (SayShape fields (58 + 7 * phase)) shape
 
--- the fields of a row of this form say what a run came to after a phase, which are counted from 0: the six fields of the
--- phase among those that all rows have, and those of its costs and of its shape
+-- the fields of a row of this form say what a run came to after the phase at a place, counted from 0: six of the fields
+-- that all rows have, and those of its costs and of its shape
 pub record SayPhase (form : RowForm) (fields : List (List ℕ)) (place : ℕ) (phase : PhaseRow) : Type 0 where
   pub living : Spells (text_at fields (19 + 6 * place)) phase.nodes
   pub fewest : Spells (text_at fields (19 + 6 * place + 1)) phase.k

@@ -18,6 +18,6 @@ pub record SpellsParts (text : List ℕ) (parts : ℕ) : Type 0 where
   pub spell_rest : Spells digits rest
   pub sum : parts ≡ ones * 10000 + rest
 
--- the text is no number with four decimal digits whose parts of 10,000 are so many
+-- the text spells no number with four decimal digits whose parts of 10,000 are so
 abbrev pub SpellsNoParts : List ℕ → (ℕ → Type 0) → Type 0
 SpellsNoParts text IsSo = (parts : ℕ) → SpellsParts text parts → IsSo parts → ⊥

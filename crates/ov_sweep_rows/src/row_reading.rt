@@ -30,8 +30,7 @@ use std::alloc::Global;
 /// form.
 /// `OutOfMemory` (99): an allocation was refused.
 ///
-/// Not proved: that a fault names the line of its row and the form that its column takes; that a text which is refused
-/// as a delivered share is none; that there is memory.
+/// Not proved: that a fault names the line of its row and the form that its column takes; that there is memory.
 pub fn read_rows(alloc: Global, text: &[u8]) -> Result<Vec<Row>, RowFault>
     ensures rows { IfOk result (λ rows. AreRowsOf text.now rows.items) }
     ensures fault { IfErr result (IsRowRefusal text.now) }
