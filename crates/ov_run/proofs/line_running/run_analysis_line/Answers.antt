@@ -1,5 +1,5 @@
 -- The line of an analysis, with the hall after it.
-use Rattle.std.proofs.Common.{◌≡◌, refl, arith}
+use Rattle.std.proofs.Common.{◌≡◌, arith}
 use Rattle.ov_scenario.specs.declared.scenario.Line.TheVariants as line
 use Rattle.ov_run_meaning.specs.Accepting.{FilesReport, RefusesAnalysis}
 use Rattle.ov_run.specs.declared.line_outcome.Came.TheVariants.{Alone}
@@ -12,12 +12,6 @@ use Rattle.ov_run.proofs.line_running.run_analysis_line.Goals as goal
 
 pub flush-requires : goal.flush-requires
 flush-requires g c = c.requires.faults
-
-pub same-hall : goal.same-hall
-same-hall g c = refl
-
-pub same-hall-2 : goal.same-hall-2
-same-hall-2 g c = refl
 
 pub returns-in_err-flush : goal.returns-in_err-flush
 returns-in_err-flush g c =

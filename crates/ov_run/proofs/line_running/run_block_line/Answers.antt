@@ -8,9 +8,6 @@ use Rattle.ov_run.proofs.line_running.run_block_line.Goals as goal
 pub flush-requires : goal.flush-requires
 flush-requires g c = c.requires.faults
 
-pub same-hall : goal.same-hall
-same-hall g c = refl
-
 pub same-sections : goal.same-sections
 same-sections g c = refl
 

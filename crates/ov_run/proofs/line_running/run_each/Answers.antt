@@ -31,18 +31,6 @@ step_of items items' next = MatchOption next (items ≡ []) (λ l. items ≡ l.l
 abbrev asked_of : (asked asked' : List (ℕ × List ℕ)) (next : Option LineToRun) → Type 0
 asked_of asked asked' next = MatchOption next (asked ≡ []) (λ l. asked ≡ (l.number, l.text.now) ∷ asked')
 
-pub same-hall : goal.same-hall
-same-hall g c = refl
-
-pub same-recent : goal.same-recent
-same-recent g c = refl
-
-pub same-hall-in_default-stop : goal.same-hall-in_default-stop
-same-hall-in_default-stop g c = refl
-
-pub same-recent-in_default-stop : goal.same-recent-in_default-stop
-same-recent-in_default-stop g c = refl
-
 pub run_line-requires-clause-drivers : goal.run_line-requires-clause-drivers
 run_line-requires-clause-drivers g c κs within =
     let line = c.in-Some.next.line in

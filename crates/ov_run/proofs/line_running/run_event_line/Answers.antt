@@ -1,5 +1,5 @@
 -- The line of an event, with the hall after it.
-use Rattle.std.proofs.Common.{refl, ap}
+use Rattle.std.proofs.Common.{ap}
 use Rattle.std.proofs.Common.{Err}
 use Rattle.ov_scenario.specs.declared.scenario.Line.TheVariants as line
 use Rattle.ov_run.specs.declared.line_outcome.Came.TheVariants.{Alone}
@@ -8,9 +8,6 @@ use Rattle.ov_run.proofs.line_running.run_event_line.Goals as goal
 
 pub run_event-requires : goal.run_event-requires
 run_event-requires g c = record { faults = c.requires.faults }
-
-pub same-hall : goal.same-hall
-same-hall g c = refl
 
 pub returns : goal.returns
 returns g c =

@@ -1,5 +1,5 @@
 -- The line of a look, after which the hall is the same.
-use Rattle.std.proofs.Common.{refl, subst, ap}
+use Rattle.std.proofs.Common.{subst, ap}
 use Rattle.std.proofs.Common.{Err}
 use Rattle.ov_snap.specs.CoreState.{CoreState}
 use Rattle.ov_scenario.specs.declared.scenario.Line.TheVariants as line
@@ -10,9 +10,6 @@ use Rattle.ov_run.proofs.line_running.run_look_line.Goals as goal
 
 pub write_look-requires : goal.write_look-requires
 write_look-requires g c = record { faults = c.requires.faults }
-
-pub same-hall : goal.same-hall
-same-hall g c = refl
 
 pub returns : goal.returns
 returns g c =
