@@ -6,7 +6,8 @@ overlays with options drawn at random, --sequential, --sender and --detect among
               of each broadcast
   --networkx  networkx finds the same largest component, clustering, paths and diameter after each phase
   --overlay   the scenario, run strictly by this program, prints event for event what growing saw
-  --grows     this program grows the same scenario, and its sweep prints the same row, or refuses both as grow.py does
+  --grows     this program grows the same scenario, and its sweep prints the same row, with and without further columns,
+              and the same row of each broadcast, or refuses all as grow.py does
 
 It ends with status 1 at the first difference. The same seeds give the same options.
 """
@@ -78,8 +79,16 @@ def swept_rows(growing):
 
 def by_overlay(overlay, growing, words, scenario):
     """What a program is asked to grow, and how it differs, in words."""
-    for command, text in (["grow"], scenario), (["sweep", "--runs", "1"], swept_rows(growing)):
-        yield f"overlay {command[0]}", first_difference(text, run(overlay, [*command, *words])[1])
+    told = growing.options, growing.phases
+    asked = {
+        "grow": scenario,
+        "sweep --runs 1": swept_rows(growing),
+        "sweep --runs 1 --costs --shape": "\n".join([further_header(), further_row(*told), ""]),
+    }
+    if growing.options.sequential:
+        asked["sweep --runs 1 --messages"] = "\n".join([*message_rows(*told), ""])
+    for command, text in asked.items():
+        yield f"overlay {command}", first_difference(text, run(overlay, [*command.split(), *words])[1])
 
 
 def differences(given, options):

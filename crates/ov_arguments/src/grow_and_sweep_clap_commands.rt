@@ -34,6 +34,7 @@ Examples:
   overlay sweep --active 3..7 --runs 100 --summary
   overlay sweep --active 5,8 --crash 10 --runs 400 --at-most-split 1
   overlay sweep --crash 0,10,cut --workers 4 --svg crash.svg > rows.csv
+  overlay sweep --broadcasts 20 --sequential --costs --shape --summary
   overlay sweep --read rows.csv --summary";
 
 const SWEEP_ABOUT: &str = "\
@@ -44,7 +45,7 @@ one setting.";
 const SWEEP_BELOW: &str = "\
 A row has the options, and for each P of settle, crash and heal: P_nodes, how many live; P_k, how few crashes split it,
 0 if it is split; P_least_degree, the fewest links of a node; P_links; P_entries, the moment of a line `certificate`;
-P_delivered, which share of nodes its broadcasts reached.
+P_delivered, which share of nodes its broadcasts reached. With --costs or --shape further columns follow.
 A lost JOIN is never sent again, so with --loss-join some nodes may never come in.
 A row can be run again by `overlay grow --row FILE:N | overlay run`.";
 
@@ -65,6 +66,13 @@ const SUMMARY: &str = "Prints a summary for people in place of the rows";
 const SVG: &str = "Writes a picture of all runs into this file too";
 
 const READ: &str = "Reads rows from these files in place of growing; - is standard input";
+
+const COSTS: &str = "Adds columns with what the broadcasts of each phase cost";
+
+const SHAPE: &str = "Adds columns with the shape of the overlay after each phase";
+
+const MESSAGES: &str =
+    "With --sequential: prints a row for each broadcast, with what it cost, in place of each run";
 
 const PROGRESS: &str = "Prints on standard error how far it has come";
 
@@ -140,7 +148,15 @@ fn sweep_command<'a>(alloc: Global) -> Result<Command<'a>, AllocError> {
     let summary = with_argument(numbers, unlisted(flag(alloc, "summary", SUMMARY)))?;
     let svg = with_argument(summary, unlisted(text(alloc, "svg", "FILE", SVG)))?;
     let read = with_argument(svg, files(alloc))?;
-    with_argument(read, Ok(flag(alloc, "progress", PROGRESS)))
+    let progress = with_argument(read, Ok(flag(alloc, "progress", PROGRESS)))?;
+    with_measures(alloc, progress)
+}
+
+/// The command with the options that ask for what is measured beside the numbers that each row has.
+fn with_measures<'a>(alloc: Global, command: Command<'a>) -> Result<Command<'a>, AllocError> {
+    let costs = with_argument(command, Ok(flag(alloc, "costs", COSTS)))?;
+    let shape = with_argument(costs, Ok(flag(alloc, "shape", SHAPE)))?;
+    with_argument(shape, unlisted(flag(alloc, "messages", MESSAGES)))
 }
 
 /// `overlay sweep` with the options that take lists.
@@ -265,6 +281,8 @@ fn files<'a>(alloc: Global) -> Result<Arg<'a>, AllocError> {
     text(alloc, "read", "FILE", READ)
         .num_args(1..)
         .conflicts_with("progress")?
+        .conflicts_with("costs")?
+        .conflicts_with("shape")?
         .conflicts_with_all(&names_of(alloc, &OPTIONS)?)?
         .conflicts_with_all(&names_of(alloc, &SWEEP_OPTIONS)?)
 }

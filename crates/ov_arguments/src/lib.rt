@@ -13,6 +13,7 @@ mod grow_arguments_fault;
 mod grow_request;
 mod growing_option_table;
 mod import_and_picture_requests;
+mod messages_option_slips;
 mod option_values;
 mod refused_argument_texts;
 mod setting_lists;

@@ -14,6 +14,10 @@ pub struct SweepBlock {
     pub first: GrowOptions,
     /// How many runs there are.
     pub runs: u32,
+    /// Whether to measure what broadcasts cost.
+    pub costs: bool,
+    /// Whether to measure shapes.
+    pub shape: bool,
 }
 
 impl SweepBlock {
@@ -23,7 +27,9 @@ impl SweepBlock {
         let grow = format!(in alloc; "{first}")?;
         let options = grow.as_str().strip_prefix("overlay grow").unwrap_or("");
         let runs = self.runs;
-        Ok(format!(in alloc; "overlay sweep{options} --runs {runs}")?)
+        let costs = if self.costs { " --costs" } else { "" };
+        let shape = if self.shape { " --shape" } else { "" };
+        Ok(format!(in alloc; "overlay sweep{options} --runs {runs}{costs}{shape}")?)
     }
 }
 
@@ -64,6 +70,11 @@ impl Iterator for SweepBlocks<'_> {
         let first = self.sweep.get(self.place)?;
         let runs = self.runs();
         self.place = self.place.checked_add(u64::from(runs))?;
-        Some(SweepBlock { first, runs })
+        Some(SweepBlock {
+            first,
+            runs,
+            costs: self.sweep.costs,
+            shape: self.sweep.shape,
+        })
     }
 }

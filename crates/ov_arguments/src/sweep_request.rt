@@ -4,6 +4,7 @@ use crate::arguments::has_flag;
 use crate::clap_parsing_and_faults::{bad_value_since, found_in};
 use crate::grow_and_sweep_clap_commands::CommandName;
 use crate::import_and_picture_requests::text_of;
+use crate::messages_option_slips::judge_messages;
 use crate::option_values::value;
 use crate::setting_lists::SettingLists;
 use crate::setting_values::short;
@@ -37,6 +38,10 @@ pub struct SweepRequest {
     pub svg: Option<String>,
     /// The files whose rows are read in place of growing, if they are given.
     pub read: Option<Vec<String>>,
+    /// Whether to measure what the broadcasts of each phase cost.
+    pub costs: bool,
+    /// Whether to measure the shape after each phase.
+    pub shape: bool,
     /// Whether to print how far the sweep has come.
     pub progress: bool,
 }
@@ -50,6 +55,8 @@ pub enum Printed {
     Summary,
     /// The answer to what is asked of the settings, and nothing else.
     Answer,
+    /// A row for each broadcast, in place of each run.
+    Messages,
     /// The commands that grow them, each of at most so many runs. Nothing is grown.
     List { block: u32 },
 }
@@ -120,9 +127,10 @@ impl SweepRequest {
 /// that is not given has its default alone.
 ///
 /// BadArguments (73): a word is no option or not what its option takes, an option is given twice, two options exclude
-/// each other (--list and --summary, --at-most-split or --svg, --read and what grows or --progress), a value stands in
-/// its list twice, some --prwl is above some --arwl, some --sender is above some --nodes, there are more than 1,000,000
-/// runs, or help is asked for. OutOfMemory (99): an allocation was refused.
+/// each other (--list and --summary, --at-most-split, --svg or --messages, --read and what grows, --costs, --shape or
+/// --progress, --messages and what is told of runs), --messages stands without --sequential, a value stands in its list
+/// twice, some --prwl is above some --arwl, some --sender is above some --nodes, there are more than 1,000,000 runs, or
+/// help is asked for. OutOfMemory (99): an allocation was refused.
 pub fn read_sweep_arguments(
     alloc: Global,
     words: &[String],
@@ -136,6 +144,7 @@ pub fn read_sweep_arguments(
 }
 
 fn request_of(alloc: Global, found: &ArgMatches<'_>) -> Result<SweepRequest, GrowArgumentsFault> {
+    judge_messages(alloc, found)?;
     let runs = short(value(alloc, found, "runs")?);
     let first_seed = value(alloc, found, "seed")?;
     let workers = Workers::new(short(value(alloc, found, "workers")?)).unwrap_or(Workers::ONE);
@@ -153,6 +162,8 @@ fn request_of(alloc: Global, found: &ArgMatches<'_>) -> Result<SweepRequest, Gro
         question,
         svg,
         read,
+        costs: has_flag(found, "costs"),
+        shape: has_flag(found, "shape"),
         progress: has_flag(found, "progress"),
     })
 }
@@ -193,6 +204,9 @@ fn printed_of(
     if found.contains_id("list") {
         let block = short(value(alloc, found, "list")?);
         return Ok(Printed::List { block });
+    }
+    if has_flag(found, "messages") {
+        return Ok(Printed::Messages);
     }
     Ok(match (has_flag(found, "summary"), is_asked) {
         (true, _) => Printed::Summary,

@@ -1,5 +1,5 @@
 -- What `overlay grow` prints.
-use Rattle.std.specs.Prelude.{◌≡◌, ℕ, List, [], ◌∷◌, Option, Result, Ok, Err}
+use Rattle.std.specs.Prelude.{◌≡◌, ℕ, List, [], ◌∷◌, ◌++◌, Option, Result, Ok, Err, codes, decimal}
 use Rattle.std.specs.Io.KnownBytes.{Appends}
 use Rattle.ov_grow_options.specs.declared.options.GrowOptions.{GrowOptions}
 use Rattle.ov_grow.specs.Growing.{Grows, IsGrowRefusal}
@@ -18,6 +18,12 @@ pub record IsGrownBy (o : GrowOptions) (text : List ℕ) : Type 0 where
   pub healed : Phase
   pub grows : Grows o text core.world settled crashed healed
   pub replays : Replays text core
+
+-- the lines by which a scenario asks for the certificates of the reports of three moments
+abbrev pub certificate_lines : ℕ → ℕ → ℕ → List ℕ
+certificate_lines settled crashed healed =
+    codes "certificate " ++ (decimal settled ++ (codes "\ncertificate " ++ (decimal crashed ++ (codes "\ncertificate "
+    ++ (decimal healed ++ codes "\n")))))
 
 -- what a writer took: all of such a text, and the moments at the end of the phases are known; a prefix of it, if
 -- writing failed; and nothing, if growing was refused for this reason

@@ -1,6 +1,7 @@
-ghost use Rattle.std.specs.Prelude.{◌≡◌, ◌<◌, ◌+◌, IfErr};
+ghost use Rattle.std.specs.Prelude.{◌≡◌, ◌<◌, ◌+◌, IfErr, IfOk, OnOk, string_bytes};
+ghost use Rattle.std.specs.Io.KnownBytes.{Appends};
 ghost use Rattle.ov_io.specs.Device.{most_faults};
-ghost use Rattle.ov_grow_commands.specs.Growing.{WasPrinted};
+ghost use Rattle.ov_grow_commands.specs.Growing.{WasPrinted, certificate_lines};
 ghost use Rattle.ov_grow_commands.specs.declared.grow_command_fault.GrowthFault.TheVariants.{Growing};
 ghost use Rattle.ov_grow_commands.specs.declared.grow_command_fault.GrowthFault.TheVariants.{Write as write_failed};
 
@@ -9,7 +10,9 @@ use crate::row_files::options_of_row;
 use ov_arguments::GrowRequest;
 use ov_grow::{GrowFault, grow};
 use ov_grow_options::GrowOptions;
+use ov_ids::OutOfMemory;
 use ov_io::Sink;
+use std::alloc::Global;
 use std::io::Write;
 
 /// Grows an overlay, and prints its scenario, with the lines for its certificates if they are asked for. Prints nothing
@@ -36,7 +39,9 @@ fn print_grown(
     if !certificates {
         return Ok(());
     }
-    print_certificate_lines(rt, moments)
+    let [settled, crashed, healed] = moments;
+    let mut behind = Sink::new(rt.stdout());
+    print_certificate_lines(rt, settled, crashed, healed, &mut behind)
 }
 
 /// Grows an overlay with these options, and writes its scenario. Writes nothing if growing is refused. The moments at
@@ -68,18 +73,38 @@ fn print_scenario<W: Write>(
 
 /// Prints the lines by which a scenario asks for the certificates of the reports of these moments. Prints why it ended
 /// before its end.
-fn print_certificate_lines(rt: &HostRuntime, moments: [u32; 3]) -> Result<(), GrowthFault> {
-    let mut sink = Sink::new(rt.stdout());
-    let [settled, crashed, healed] = moments;
-    match format!(in rt.alloc();
-        "certificate {settled}\ncertificate {crashed}\ncertificate {healed}\n"
-    ) {
+fn print_certificate_lines<W: Write>(
+    rt: &HostRuntime,
+    settled: u32,
+    crashed: u32,
+    healed: u32,
+    sink: &mut Sink<W>,
+) -> Result<(), GrowthFault>
+    requires { sink.old.faults < most_faults }
+    ensures { OnOk result (Appends (W.contents sink.old.writer) (W.contents sink.new.writer)
+        (certificate_lines settled crashed healed)) }
+{
+    match certificate_lines(rt.alloc(), settled, crashed, healed) {
         Ok(text) => match sink.write_all(text.as_bytes()) {
             Ok(()) => Ok(()),
             Err(_) => Err(told(rt, GrowthFault::Write)),
         },
         Err(_) => Err(told(rt, GrowthFault::OutOfMemory)),
     }
+}
+
+/// The lines by which a scenario asks for the certificates of the reports of these moments.
+fn certificate_lines(
+    alloc: Global,
+    settled: u32,
+    crashed: u32,
+    healed: u32,
+) -> Result<String, OutOfMemory>
+    ensures { IfOk result (λ text. string_bytes text ≡ certificate_lines settled crashed healed) }
+{
+    Ok(format!(in alloc;
+        "certificate {settled}\ncertificate {crashed}\ncertificate {healed}\n"
+    )?)
 }
 
 /// Ends if growing was refused. Prints why.

@@ -4,6 +4,7 @@
 mod grow_command;
 mod grow_command_fault;
 mod grow_or_sweep_dispatch;
+mod message_row_printing;
 mod picture_file;
 mod row_files;
 mod row_printing;

@@ -7,7 +7,7 @@ use crate::sweep_progress::RunProgress;
 use ov_arguments::{Printed, SweepRequest};
 use ov_grow::{RowTaker, SweepFault};
 use ov_io::Sink;
-use ov_sweep_rows::{Row, RowForm, header_text, row_text};
+use ov_sweep_rows::{Measures, Row, RowForm, header_text, row_text};
 
 /// Prints the rows of a sweep as they come, unless a summary or an answer is asked for, and keeps those that are needed
 /// at the end.
@@ -20,13 +20,17 @@ pub(crate) struct RowPrinter<'a> {
     done: u64,
 }
 
+/// What is measured beside the numbers that each row has.
+pub(crate) fn measures_asked(request: &SweepRequest) -> Measures {
+    Measures {
+        costs: request.costs,
+        shape: request.shape,
+    }
+}
+
 /// Which columns the rows of what is grown have.
 fn form_asked(request: &SweepRequest) -> RowForm {
-    if request.asks_further() {
-        RowForm::Further
-    } else {
-        RowForm::Plain
-    }
+    RowForm::with(measures_asked(request), request.asks_further())
 }
 
 /// Whether the rows are needed at the end, for a summary, an answer or a picture.
@@ -35,7 +39,7 @@ fn needs_rows(request: &SweepRequest) -> bool
 {
     match request.printed {
         Printed::Summary | Printed::Answer => true,
-        Printed::Rows | Printed::List { .. } => request.svg.is_some(),
+        Printed::Rows | Printed::Messages | Printed::List { .. } => request.svg.is_some(),
     }
 }
 

@@ -3,9 +3,10 @@ ghost use Rattle.ov_grow_commands.specs.KeptRows.{AreGrown, needs_rows};
 
 use crate::grow_command::{print_refusal, told};
 use crate::grow_command_fault::GrowthFault;
+use crate::message_row_printing::print_messages;
 use crate::picture_file::opened_picture;
 use crate::row_files::rows_of_files;
-use crate::row_printing::{RowPrinter, write_rows};
+use crate::row_printing::{RowPrinter, measures_asked, write_rows};
 use crate::sweep_report::{print_report, tell_repeated, tell_too_few};
 use ov_arguments::{Printed, SweepRequest};
 use ov_grow::{RefusedRun, SweepFault, sweep};
@@ -22,6 +23,7 @@ pub(crate) fn sweep_asked<T: Threads + Sync>(
 ) -> Result<(), GrowthFault> {
     match request.printed {
         Printed::List { block } => print_list(rt, request, block),
+        Printed::Messages => print_messages(rt, request),
         Printed::Rows | Printed::Summary | Printed::Answer => print_sweep(rt, threads, request),
     }
 }
@@ -135,6 +137,7 @@ fn rows_swept<T: Threads + Sync>(rt: &HostRuntime, threads: &T, request: &SweepR
         rt.alloc(),
         request.runs(),
         request.workers,
+        measures_asked(request),
         &mut printer,
     );
     Swept {
@@ -144,7 +147,7 @@ fn rows_swept<T: Threads + Sync>(rt: &HostRuntime, threads: &T, request: &SweepR
 }
 
 /// Ends a sweep at a run that was refused. Prints the command of the run, and why.
-fn refused_run(rt: &HostRuntime, refused: &RefusedRun) -> GrowthFault {
+pub(crate) fn refused_run(rt: &HostRuntime, refused: &RefusedRun) -> GrowthFault {
     let (options, fault) = (refused.options, refused.fault);
     let ended = GrowthFault::from(fault);
     let _ = eprintln!(rt; "{ended}\n{options}");

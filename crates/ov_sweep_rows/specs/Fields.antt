@@ -1,5 +1,5 @@
 -- What the fields of a row say: which value stands in which column.
-use Rattle.std.specs.Prelude.{◌≡◌, ℕ, ◌+◌, Bool, true, false, List, [], codes, Option, Some, None, IfSome}
+use Rattle.std.specs.Prelude.{◌≡◌, ℕ, ◌+◌, ◌*◌, Bool, true, false, List, [], codes, Option, Some, None, IfSome}
 use Rattle.std.specs.Prelude.{slice_get}
 use Rattle.ov_ids.specs.ParamsState.{ParamsState}
 use Rattle.ov_ids.specs.RefillNames.{refill_name}
@@ -10,11 +10,14 @@ use Rattle.ov_grow_options.specs.declared.options.Crash.TheVariants.{Share, Cut}
 use Rattle.ov_grow_options.specs.declared.options.GrowOptions.{GrowOptions}
 use Rattle.ov_grow_options.specs.declared.options.Order.{Order}
 use Rattle.ov_grow_options.specs.declared.options.Order.TheVariants.{Random, Oldest}
+use Rattle.ov_sweep_rows.specs.declared.costs_and_shape.PhaseCosts.{PhaseCosts}
+use Rattle.ov_sweep_rows.specs.declared.costs_and_shape.PhaseShape.{PhaseShape}
 use Rattle.ov_sweep_rows.specs.declared.delivered_share.DeliveredShare.{DeliveredShare}
+use Rattle.ov_sweep_rows.specs.declared.four_decimals.FourDecimals.{FourDecimals}
 use Rattle.ov_sweep_rows.specs.declared.row.PhaseRow.{PhaseRow}
 use Rattle.ov_sweep_rows.specs.declared.row.Row.{Row}
 use Rattle.ov_sweep_rows.specs.declared.row_form.RowForm.{RowForm}
-use Rattle.ov_sweep_rows.specs.declared.row_form.RowForm.TheVariants.{Plain, Further}
+use Rattle.ov_sweep_rows.specs.declared.row_form.RowForm.TheVariants.{Plain, Further, Costs, Shape, CostsAndShape}
 use Rattle.ov_sweep_rows.specs.RowTexts.{Spells, SpellsParts}
 
 -- the text, or none
@@ -101,19 +104,69 @@ abbrev pub SayFurtherBy : RowForm → List (List ℕ) → Bool → Option ℕ �
 SayFurtherBy Plain fields sequential sender detect = (sequential ≡ false) × (sender ≡ None) × (detect ≡ false)
 SayFurtherBy form fields sequential sender detect = SayFurther fields sequential sender detect
 
--- the six fields from a place on say what a run came to after a phase
-pub record SayPhase (fields : List (List ℕ)) (first : ℕ) (phase : PhaseRow) : Type 0 where
-  pub living : Spells (text_at fields first) phase.nodes
-  pub fewest : Spells (text_at fields (first + 1)) phase.k
-  pub degree : Spells (text_at fields (first + 2)) phase.least_degree
-  pub linked : Spells (text_at fields (first + 3)) phase.links
-  pub moment : Spells (text_at fields (first + 4)) phase.entries
-  pub share : SpellsDelivered (text_at fields (first + 5)) phase.delivered
+-- a number with four decimal digits, or nothing
+abbrev pub SpellsDecimals : List ℕ → Option FourDecimals → Type 0
+SpellsDecimals text None = text ≡ []
+SpellsDecimals text (Some number) = SpellsParts text number.parts
+
+-- the six fields from a place on say what broadcasts cost
+pub record SayCosts (fields : List (List ℕ)) (first : ℕ) (costs : PhaseCosts) : Type 0 where
+  pub gossips : Spells (text_at fields first) costs.gossip
+  pub ihaves : Spells (text_at fields (first + 1)) costs.ihave
+  pub grafts : Spells (text_at fields (first + 2)) costs.graft
+  pub prunes : Spells (text_at fields (first + 3)) costs.prune
+  pub mean_hops : SpellsDecimals (text_at fields (first + 4)) costs.hops
+  pub mean_redundancy : SpellsDecimals (text_at fields (first + 5)) costs.redundancy
+
+-- the seven fields from a place on say a shape
+pub record SayShape (fields : List (List ℕ)) (first : ℕ) (shape : PhaseShape) : Type 0 where
+  pub most_joined : Spells (text_at fields first) shape.largest
+  pub mean_clustering : SpellsParts (text_at fields (first + 1)) shape.clustering.parts
+  pub mean_path : SpellsDecimals (text_at fields (first + 2)) shape.path
+  pub longest_path : Spells (text_at fields (first + 3)) shape.diameter
+  pub quarter : Spells (text_at fields (first + 4)) shape.degree_25
+  pub half : Spells (text_at fields (first + 5)) shape.degree_50
+  pub three_quarters : Spells (text_at fields (first + 6)) shape.degree_75
+
+-- there is a value, and it is so
+abbrev pub IsSomeThat : {A : Type 0} → (A → Type 0) → Option A → Type 0
+IsSomeThat IsSo None = ⊥
+IsSomeThat IsSo (Some value) = IsSo value
+
+-- what rows of a form say of the costs of a phase, the first of which has place 0: they stand behind the further
+-- options, phase by phase; in rows without columns for them there are none
+abbrev pub SayCostsBy : RowForm → List (List ℕ) → ℕ → Option PhaseCosts → Type 0
+SayCostsBy Plain fields phase costs = costs ≡ None
+SayCostsBy Further fields phase costs = costs ≡ None
+SayCostsBy Costs fields phase costs = IsSomeThat (SayCosts fields (40 + 6 * phase)) costs
+SayCostsBy Shape fields phase costs = costs ≡ None
+SayCostsBy CostsAndShape fields phase costs = IsSomeThat (SayCosts fields (40 + 6 * phase)) costs
+
+-- what rows of a form say of the shape of a phase, the first of which has place 0: the shapes stand behind all else,
+-- phase by phase; in rows without columns for them there are none
+abbrev pub SayShapeBy : RowForm → List (List ℕ) → ℕ → Option PhaseShape → Type 0
+SayShapeBy Plain fields phase shape = shape ≡ None
+SayShapeBy Further fields phase shape = shape ≡ None
+SayShapeBy Costs fields phase shape = shape ≡ None
+SayShapeBy Shape fields phase shape = IsSomeThat (SayShape fields (40 + 7 * phase)) shape
+SayShapeBy CostsAndShape fields phase shape = IsSomeThat (SayShape fields (58 + 7 * phase)) shape
+
+-- the fields of a row of this form say what a run came to after the phase at a place, counted from 0: six of the fields
+-- that all rows have, and those of its costs and of its shape
+pub record SayPhase (form : RowForm) (fields : List (List ℕ)) (place : ℕ) (phase : PhaseRow) : Type 0 where
+  pub living : Spells (text_at fields (19 + 6 * place)) phase.nodes
+  pub fewest : Spells (text_at fields (19 + 6 * place + 1)) phase.k
+  pub degree : Spells (text_at fields (19 + 6 * place + 2)) phase.least_degree
+  pub linked : Spells (text_at fields (19 + 6 * place + 3)) phase.links
+  pub moment : Spells (text_at fields (19 + 6 * place + 4)) phase.entries
+  pub delivery : SpellsDelivered (text_at fields (19 + 6 * place + 5)) phase.delivered
+  pub told_costs : SayCostsBy form fields place phase.costs
+  pub told_shape : SayShapeBy form fields place phase.shape
 
 -- the fields of a row of this form say this row: its options, and what it came to after each of its phases
 pub record SayRow (form : RowForm) (fields : List (List ℕ)) (row : Row) : Type 0 where
   pub setting : SayOptions fields row.options
   pub other_options : SayFurtherBy form fields row.options.sequential row.options.sender row.options.detect
-  pub settled : IfSome (slice_get row.phases 0) (SayPhase fields 19)
-  pub crashed : IfSome (slice_get row.phases 1) (SayPhase fields 25)
-  pub healed : IfSome (slice_get row.phases 2) (SayPhase fields 31)
+  pub settled : IfSome (slice_get row.phases 0) (SayPhase form fields 0)
+  pub crashed : IfSome (slice_get row.phases 1) (SayPhase form fields 1)
+  pub healed : IfSome (slice_get row.phases 2) (SayPhase form fields 2)

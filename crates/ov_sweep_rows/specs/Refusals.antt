@@ -19,7 +19,7 @@ use Rattle.ov_sweep_rows.specs.declared.row_fault.RowFault.TheVariants.{Header, 
 use Rattle.ov_sweep_rows.specs.Columns.{columns}
 use Rattle.ov_sweep_rows.specs.Fields.{SayNumbers, text_at}
 use Rattle.ov_sweep_rows.specs.Reading.{SayRows, is_no_header}
-use Rattle.ov_sweep_rows.specs.RowTexts.{Spells}
+use Rattle.ov_sweep_rows.specs.RowTexts.{Spells, SpellsNoParts}
 
 -- the first record of a text, if it has one
 abbrev pub first_record : List ℕ → Option (List (List ℕ))
@@ -29,8 +29,7 @@ first_record text = option_map (λ p. p.0) (next_record default_config st.StartR
 abbrev pub SpellsNone : List ℕ → (ℕ → Type 0) → Type 0
 SpellsNone text IsSo = (n : ℕ) → Spells text n → IsSo n → ⊥
 
--- the text in the column at a place is not of this form; of the seven parameters, that they are not within their
--- limits; of a delivered share, only that it is there
+-- the text in the column at a place is not of this form; of the seven parameters, that they are not within their limits
 abbrev pub LacksForm : List (List ℕ) → ℕ → FieldForm → Type 0
 LacksForm fields place form.Nodes = SpellsNone (text_at fields place) MayBeGrown
 LacksForm fields place form.Params = (p : ParamsState) → SayNumbers fields p → AreWithinLimits p → ⊥
@@ -46,7 +45,9 @@ LacksForm fields place form.Crash =
     (text_at fields place ≢ codes "cut") × SpellsNone (text_at fields place) (λ n. n ≤ most_share)
 LacksForm fields place form.Seed = SpellsNone (text_at fields place) (λ n. ⊤)
 LacksForm fields place form.Number = SpellsNone (text_at fields place) (λ n. n < 2 ^ 32)
-LacksForm fields place form.Delivered = text_at fields place ≢ []
+LacksForm fields place form.Decimals = SpellsNoParts (text_at fields place) (λ parts. parts < 2 ^ 64)
+LacksForm fields place form.DecimalsOrNothing =
+    (text_at fields place ≢ []) × SpellsNoParts (text_at fields place) (λ parts. parts < 2 ^ 64)
 LacksForm fields place form.Flag = (text_at fields place ≢ codes "0") × (text_at fields place ≢ codes "1")
 LacksForm fields place form.Sender =
     (text_at fields place ≢ []) × SpellsNone (text_at fields place) MayBeGrown

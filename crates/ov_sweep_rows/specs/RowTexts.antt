@@ -17,3 +17,7 @@ pub record SpellsParts (text : List ℕ) (parts : ℕ) : Type 0 where
   pub spell_ones : Spells whole ones
   pub spell_rest : Spells digits rest
   pub sum : parts ≡ ones * 10000 + rest
+
+-- the text spells no number with four decimal digits whose parts of 10,000 are so
+abbrev pub SpellsNoParts : List ℕ → (ℕ → Type 0) → Type 0
+SpellsNoParts text IsSo = (parts : ℕ) → SpellsParts text parts → IsSo parts → ⊥

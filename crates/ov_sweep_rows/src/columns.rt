@@ -1,52 +1,7 @@
-use crate::{DeliveredShare, PhaseRow};
+use crate::{DeliveredShare, FourDecimals, MessageRow, Phase, PhaseCosts, PhaseRow, PhaseShape};
 use ov_grow_options::{Crash, GrowOptions, Order, Pace};
 use ov_ids::{NodeId, Refill};
 use std::fmt::{Display, Formatter, Result, Write};
-
-/// The columns of a row, as far as it has them: 18 for the setting, which is all options but the seed and the further
-/// ones, in the order of their table; the seed; six for each phase; and three for the further options.
-pub(crate) const ALL_COLUMNS: [&str; 40] = [
-    "nodes",
-    "active",
-    "passive",
-    "arwl",
-    "prwl",
-    "ka",
-    "kp",
-    "ttl",
-    "refill",
-    "loss_join",
-    "loss",
-    "repeat",
-    "order",
-    "pace",
-    "rounds",
-    "crash",
-    "heal",
-    "broadcasts",
-    "seed",
-    "settle_nodes",
-    "settle_k",
-    "settle_least_degree",
-    "settle_links",
-    "settle_entries",
-    "settle_delivered",
-    "crash_nodes",
-    "crash_k",
-    "crash_least_degree",
-    "crash_links",
-    "crash_entries",
-    "crash_delivered",
-    "heal_nodes",
-    "heal_k",
-    "heal_least_degree",
-    "heal_links",
-    "heal_entries",
-    "heal_delivered",
-    "sequential",
-    "sender",
-    "detect",
-];
 
 /// What stands in one column of a row.
 #[derive(Clone, Copy, Debug, PartialEq, Eq)]
@@ -57,8 +12,8 @@ pub(crate) enum Cell {
     Number(u64),
     /// A word.
     Word(&'static str),
-    /// A share.
-    Share(DeliveredShare),
+    /// A number with four decimal digits.
+    Decimals(FourDecimals),
 }
 
 impl Display for Cell {
@@ -67,7 +22,7 @@ impl Display for Cell {
             Cell::Empty => Ok(()),
             Cell::Number(number) => write!(f, "{number}"),
             Cell::Word(word) => write!(f, "{word}"),
-            Cell::Share(share) => write!(f, "{share}"),
+            Cell::Decimals(number) => write!(f, "{number}"),
         }
     }
 }
@@ -118,6 +73,53 @@ pub(crate) fn phase_cells(phase: &PhaseRow) -> [Cell; 6] {
     ]
 }
 
+/// The cells of what the broadcasts of a phase cost, in the order of their columns; empty if that is not known.
+pub(crate) fn costs_cells(costs: Option<PhaseCosts>) -> [Cell; 6] {
+    match costs {
+        None => [Cell::Empty; 6],
+        Some(costs) => [
+            number(costs.gossip),
+            number(costs.ihave),
+            number(costs.graft),
+            number(costs.prune),
+            decimals_cell(costs.hops),
+            decimals_cell(costs.redundancy),
+        ],
+    }
+}
+
+/// The cells of a shape, in the order of their columns; empty if it is not known.
+pub(crate) fn shape_cells(shape: Option<PhaseShape>) -> [Cell; 7] {
+    match shape {
+        None => [Cell::Empty; 7],
+        Some(shape) => [
+            number(shape.largest),
+            Cell::Decimals(shape.clustering),
+            decimals_cell(shape.path),
+            number(shape.diameter),
+            number(shape.degree_25),
+            number(shape.degree_50),
+            number(shape.degree_75),
+        ],
+    }
+}
+
+/// The cells of a broadcast behind those of its run, in the order of their columns.
+pub(crate) fn message_cells(message: &MessageRow) -> [Cell; 10] {
+    [
+        Cell::Word(phase_word(message.phase)),
+        number(message.number),
+        number(message.origin.number()),
+        number(message.live),
+        number(message.delivered),
+        number(message.hops),
+        number(message.gossip),
+        number(message.ihave),
+        number(message.graft),
+        number(message.prune),
+    ]
+}
+
 fn number(value: u32) -> Cell {
     Cell::Number(u64::from(value))
 }
@@ -165,6 +167,22 @@ fn sender_cell(sender: Option<NodeId>) -> Cell {
 fn share_cell(share: Option<DeliveredShare>) -> Cell {
     match share {
         None => Cell::Empty,
-        Some(share) => Cell::Share(share),
+        Some(share) => Cell::Decimals(FourDecimals { parts: share.parts }),
+    }
+}
+
+fn decimals_cell(decimals: Option<FourDecimals>) -> Cell {
+    match decimals {
+        None => Cell::Empty,
+        Some(decimals) => Cell::Decimals(decimals),
+    }
+}
+
+/// The word for a phase in rows.
+pub(crate) fn phase_word(phase: Phase) -> &'static str {
+    match phase {
+        Phase::Settle => "settle",
+        Phase::Crash => "crash",
+        Phase::Heal => "heal",
     }
 }

@@ -5,7 +5,7 @@ ghost use Rattle.ov_sweep_rows.specs.Refusals.{IsFieldFault, SpellsNone};
 ghost use Rattle.ov_sweep_rows.specs.RowTexts.{Spells};
 ghost use Rattle.ov_sweep_rows.specs.declared.row_fault.RowFault.TheVariants.{Field};
 
-use crate::{FieldFault, FieldForm, RowFault};
+use crate::{FieldFault, FieldForm, RowFault, RowForm};
 use csv::ByteRecord;
 use ov_lines::read_number;
 
@@ -14,6 +14,7 @@ use ov_lines::read_number;
 pub(crate) struct RowFields<'a> {
     pub(crate) record: &'a ByteRecord,
     pub(crate) line: u64,
+    pub(crate) row_form: RowForm,
 }
 
 impl<'a> RowFields<'a> {
@@ -29,11 +30,15 @@ impl<'a> RowFields<'a> {
 
     /// That the field at this place is not what its column takes.
     pub(crate) fn fault(&self, place: usize, takes: FieldForm) -> RowFault
-        ensures { result ≡ Field self.now.line (record { place = place; takes = takes }) }
+        ensures { result ≡ Field self.now.line (record { place = place; takes = takes; row_form = self.now.row_form }) }
     {
         RowFault::Field {
             line: self.line,
-            field: FieldFault { place, takes },
+            field: FieldFault {
+                place,
+                takes,
+                row_form: self.row_form,
+            },
         }
     }
 

@@ -1,7 +1,7 @@
-ghost use Rattle.std.specs.Prelude.{◌≡◌, ◌≢◌, ◌*◌, ◌/◌, ◌<◌, IfSome, IfNone};
-ghost use Rattle.ov_sweep_rows.specs.RowTexts.{SpellsParts};
+ghost use Rattle.std.specs.Prelude.{◌≡◌, ◌≢◌, ◌*◌, ◌/◌, ◌<◌, ◌^◌, IfSome, IfNone};
+ghost use Rattle.ov_sweep_rows.specs.RowTexts.{SpellsNoParts, SpellsParts};
 
-use ov_lines::read_number;
+use crate::FourDecimals;
 use std::fmt::{Display, Formatter, Result, Write};
 
 /// A delivered share, in parts of 10,000, rounded down. It is shown with four decimal digits, as `0.9312`.
@@ -34,25 +34,21 @@ impl DeliveredShare {
     /// The share that a text spells, a number with four decimal digits. None is returned if it spells none, or one past
     /// 64 bits.
     pub fn read(text: &[u8]) -> Option<DeliveredShare>
-        ensures { IfSome result (λ share. SpellsParts text.now share.parts) }
+        ensures some { IfSome result (λ share. SpellsParts text.now share.parts) }
+        ensures none { IfNone result (SpellsNoParts text.now (λ parts. parts < 2 ^ 64)) }
     {
-        let point = text.len().checked_sub(5)?;
-        let (whole, rest) = text.split_at(point);
-        if rest.first() != Some(&b'.') {
-            return None;
+        match FourDecimals::read(text) {
+            Some(number) => Some(DeliveredShare {
+                parts: number.parts,
+            }),
+            None => None,
         }
-        let whole = read_number(whole)?;
-        let rest = read_number(&rest[1..])?;
-        Some(DeliveredShare {
-            parts: whole.checked_mul(DeliveredShare::WHOLE)?.checked_add(rest)?,
-        })
     }
 }
 
 impl Display for DeliveredShare {
     fn fmt<W: Write>(&self, f: &mut Formatter<W>) -> Result {
-        let whole = self.parts / DeliveredShare::WHOLE;
-        let rest = self.parts % DeliveredShare::WHOLE;
-        write!(f, "{whole}.{rest:04}")
+        let number = FourDecimals { parts: self.parts };
+        write!(f, "{number}")
     }
 }

@@ -2,10 +2,16 @@
 //! text, and a picture.
 #![tactic(auto)]
 
+mod column_names;
 mod columns;
 mod confidence_interval;
+mod costs_and_shape;
+mod costs_and_shape_reading;
 mod csv_field_reading;
 mod delivered_share;
+mod four_decimals;
+mod means_of_costs_and_shape;
+mod message_row;
 mod phase_summary;
 mod picture;
 mod picture_layout;
@@ -29,14 +35,17 @@ mod survived_crashes_in_words;
 mod text_table;
 
 pub use confidence_interval::{Interval, wilson_interval};
+pub use costs_and_shape::{Measures, PhaseCosts, PhaseShape};
 pub use delivered_share::DeliveredShare;
+pub use four_decimals::FourDecimals;
+pub use message_row::MessageRow;
 pub use picture::svg_text;
 pub use repeated_rows::{RepeatedRuns, repeated_runs};
 pub use row::{Phase, PhaseRow, Row};
 pub use row_fault::{FieldFault, FieldForm, RowFault};
 pub use row_form::RowForm;
 pub use row_reading::read_rows;
-pub use row_writing::{header_text, row_text};
+pub use row_writing::{header_text, message_header_text, message_row_text, row_text};
 pub use runs_by_setting::{Setting, settings_of};
 pub use split_answer::{SplitQuestion, few_runs_text, split_answer_text};
 pub use split_bound::{SplitRuns, Verdict, first_below};

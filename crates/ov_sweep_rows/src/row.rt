@@ -1,6 +1,6 @@
 ghost use Rattle.std.specs.Prelude.{◌≡◌, ◌<◌, ◌↔◌, IsTrue, Some, slice_get};
 
-use crate::DeliveredShare;
+use crate::{DeliveredShare, PhaseCosts, PhaseShape};
 use ov_grow_options::GrowOptions;
 
 /// The phases after each of which a run is looked at.
@@ -37,6 +37,16 @@ impl Row {
         options.sequential || options.sender.is_some() || options.detect
     }
 
+    /// Whether it is known of each phase what its broadcasts cost.
+    pub(crate) fn has_costs(&self) -> bool {
+        self.phases.iter().all(|phase| phase.costs.is_some())
+    }
+
+    /// Whether the shape after each phase is known.
+    pub(crate) fn has_shape(&self) -> bool {
+        self.phases.iter().all(|phase| phase.shape.is_some())
+    }
+
     /// What the run came to after a phase.
     pub fn after(&self, phase: Phase) -> &PhaseRow
         ensures { slice_get self.now.phases (place_of phase) ≡ Some result.now }
@@ -65,6 +75,10 @@ pub struct PhaseRow {
     pub entries: u32,
     /// The delivered share, if there were broadcasts.
     pub delivered: Option<DeliveredShare>,
+    /// What its broadcasts cost, if that was measured.
+    pub costs: Option<PhaseCosts>,
+    /// The shape of the links, if it was measured.
+    pub shape: Option<PhaseShape>,
 }
 
 impl PhaseRow {

@@ -1,7 +1,8 @@
 ghost use Rattle.std.specs.Prelude.{◌≡◌};
 ghost use Rattle.ov_sweep_rows.specs.Rows.{number_of};
 
-use crate::columns::ALL_COLUMNS;
+use crate::RowForm;
+use crate::column_names::column_names;
 use csv::{Error as CsvError, ErrorKind};
 use std::alloc::{AllocError, AllocFailed};
 use std::fmt::{Display, Formatter, Result, Write};
@@ -50,6 +51,8 @@ pub struct FieldFault {
     pub place: usize,
     /// What it takes.
     pub takes: FieldForm,
+    /// The form of the rows.
+    pub row_form: RowForm,
 }
 
 /// What a column takes.
@@ -77,8 +80,10 @@ pub enum FieldForm {
     Seed,
     /// A number of 32 bits.
     Number,
-    /// A delivered share, or nothing.
-    Delivered,
+    /// A number with four decimal digits.
+    Decimals,
+    /// A number with four decimal digits, or nothing.
+    DecimalsOrNothing,
     /// Whether an option is asked for.
     Flag,
     /// A node that makes broadcasts, or nothing.
@@ -99,7 +104,8 @@ impl Display for FieldForm {
             FieldForm::Crash => "a number from 0 to 99, or cut",
             FieldForm::Seed => "a number below 2 to the power of 64",
             FieldForm::Number => "a number below 2 to the power of 32",
-            FieldForm::Delivered => "a number with four decimal digits, or empty",
+            FieldForm::Decimals => "a number with four decimal digits",
+            FieldForm::DecimalsOrNothing => "a number with four decimal digits, or empty",
             FieldForm::Flag => "0 or 1",
             FieldForm::Sender => "a number from 1 to 256, or empty",
         })
@@ -108,7 +114,8 @@ impl Display for FieldForm {
 
 impl Display for FieldFault {
     fn fmt<W: Write>(&self, f: &mut Formatter<W>) -> Result {
-        let name = ALL_COLUMNS.get(self.place).copied().unwrap_or("a column");
+        let names = column_names(self.row_form);
+        let name = names.get(self.place).copied().unwrap_or("a column");
         let takes = self.takes;
         write!(f, "{name} must be {takes}")
     }

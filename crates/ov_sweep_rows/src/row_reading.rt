@@ -12,7 +12,8 @@ ghost use Rattle.ov_sweep_rows.specs.Fields.{SayParams, SayPhase, SayRow, Spells
 ghost use Rattle.ov_sweep_rows.specs.Fields.{SpellsOrder, SpellsPace, SpellsRefill, SpellsSender};
 ghost use Rattle.ov_sweep_rows.specs.declared.row_form.RowForm.{RowForm};
 
-use crate::columns::ALL_COLUMNS;
+use crate::column_names::column_names;
+use crate::costs_and_shape_reading::{read_costs, read_shape};
 use crate::csv_field_reading::{RowFields, short_number};
 use crate::{DeliveredShare, FieldForm, PhaseRow, Row, RowFault, RowForm};
 use csv::{ByteRecord, ReaderBuilder};
@@ -20,13 +21,6 @@ use ov_grow_options::{Chance, Count, Crash, GrowOptions, NodeCount, Order, Pace,
 use ov_ids::{NodeId, Params, Refill};
 use ov_lines::read_number;
 use std::alloc::Global;
-
-/// The place of the first column of each phase.
-const SETTLE: usize = 19;
-
-const CRASH: usize = 25;
-
-const HEAL: usize = 31;
 
 /// Reads the rows of a text: a header, and one row of its form a line, as `header_text` and `row_text` write them. The
 /// same header between rows is skipped, so that files of rows may be put together. A row that is not of this form is
@@ -36,8 +30,7 @@ const HEAL: usize = 31;
 /// form.
 /// `OutOfMemory` (99): an allocation was refused.
 ///
-/// Not proved: that a fault names the line of its row and the form that its column takes; that a text which is refused
-/// as a delivered share is none; that there is memory.
+/// Not proved: that a fault names the line of its row and the form that its column takes; that there is memory.
 pub fn read_rows(alloc: Global, text: &[u8]) -> Result<Vec<Row>, RowFault>
     ensures rows { IfOk result (λ rows. AreRowsOf text.now rows.items) }
     ensures fault { IfErr result (IsRowRefusal text.now) }
@@ -70,6 +63,15 @@ fn form_of(fields: &ByteRecord) -> Option<RowForm>
     if is_header(fields, RowForm::Further) {
         return Some(RowForm::Further);
     }
+    if is_header(fields, RowForm::Costs) {
+        return Some(RowForm::Costs);
+    }
+    if is_header(fields, RowForm::Shape) {
+        return Some(RowForm::Shape);
+    }
+    if is_header(fields, RowForm::CostsAndShape) {
+        return Some(RowForm::CostsAndShape);
+    }
     None
 }
 
@@ -100,10 +102,7 @@ fn push_row(rows: &mut Vec<Row>, row: Row) -> Result<(), RowFault>
 fn is_header(fields: &ByteRecord, form: RowForm) -> bool
     ensures { IsTrue result ↔ (fields_of fields.now ≡ columns form) }
 {
-    match form {
-        RowForm::Plain => are_named(fields, &ALL_COLUMNS[..37]),
-        RowForm::Further => are_named(fields, &ALL_COLUMNS),
-    }
+    are_named(fields, column_names(form))
 }
 
 /// Whether the fields of a record are these names.
@@ -137,11 +136,15 @@ fn row_of(record: &ByteRecord, form: RowForm) -> Result<Row, RowFault>
     ensures row { IfOk result (SayRow form (fields_of «record».now)) }
 {
     let line = record.position().map_or(0, |at| at.line);
-    let fields = RowFields { record, line };
+    let fields = RowFields {
+        record,
+        line,
+        row_form: form,
+    };
     let options = read_options(&fields, form)?;
-    let settle = read_phase(&fields, SETTLE)?;
-    let crash = read_phase(&fields, CRASH)?;
-    let heal = read_phase(&fields, HEAL)?;
+    let settle = read_phase(&fields, 0)?;
+    let crash = read_phase(&fields, 1)?;
+    let heal = read_phase(&fields, 2)?;
     Ok(Row {
         options,
         phases: [settle, crash, heal],
@@ -395,18 +398,21 @@ fn crash_at(fields: &RowFields<'_>, place: usize) -> Result<Crash, RowFault>
     }
 }
 
-/// What a run came to after a phase, by the six fields from this place on.
-fn read_phase(fields: &RowFields<'_>, first: usize) -> Result<PhaseRow, RowFault>
-    requires { first < 100 }
+/// What a run came to after a phase, which are counted from 0.
+fn read_phase(fields: &RowFields<'_>, phase: usize) -> Result<PhaseRow, RowFault>
+    requires { phase < 3 }
     ensures fault { IfErr result (IsFieldFault (fields_of fields.now.record.now)) }
-    ensures value { IfOk result (SayPhase (fields_of fields.now.record.now) first) }
+    ensures value { IfOk result (SayPhase fields.now.row_form (fields_of fields.now.record.now) phase) }
 {
+    let first = 19 + 6 * phase;
     let nodes = fields.number(first)?;
     let k = fields.number(first + 1)?;
     let least_degree = fields.number(first + 2)?;
     let links = fields.number(first + 3)?;
     let entries = fields.number(first + 4)?;
     let delivered = delivered_at(fields, first + 5)?;
+    let costs = read_costs(fields, phase)?;
+    let shape = read_shape(fields, phase)?;
     Ok(PhaseRow {
         nodes,
         k,
@@ -414,6 +420,8 @@ fn read_phase(fields: &RowFields<'_>, first: usize) -> Result<PhaseRow, RowFault
         links,
         entries,
         delivered,
+        costs,
+        shape,
     })
 }
 
@@ -427,6 +435,6 @@ fn delivered_at(fields: &RowFields<'_>, place: usize) -> Result<Option<Delivered
     }
     match DeliveredShare::read(text) {
         Some(share) => Ok(Some(share)),
-        None => Err(fields.fault(place, FieldForm::Delivered)),
+        None => Err(fields.fault(place, FieldForm::DecimalsOrNothing)),
     }
 }

@@ -1,5 +1,8 @@
-use crate::columns::{ALL_COLUMNS, Cell, further_cells, phase_cells, setting_cells};
-use crate::{Row, RowForm};
+use crate::column_names::column_names;
+use crate::columns::{
+    Cell, costs_cells, further_cells, message_cells, phase_cells, setting_cells, shape_cells,
+};
+use crate::{MessageRow, Row, RowForm};
 use csv::{Error as CsvError, Writer, WriterBuilder};
 use ov_ids::OutOfMemory;
 use std::alloc::Global;
@@ -8,9 +11,7 @@ use std::alloc::Global;
 /// (99) if an allocation is refused.
 pub fn header_text(alloc: Global, form: RowForm) -> Result<Vec<u8>, OutOfMemory> {
     let mut writer = WriterBuilder::new().from_writer(Vec::new(alloc));
-    for name in ALL_COLUMNS.iter().take(form.column_count()) {
-        write_text(&mut writer, name)?;
-    }
+    write_names(&mut writer, column_names(form))?;
     text_of(writer)
 }
 
@@ -23,10 +24,76 @@ pub fn row_text(alloc: Global, form: RowForm, row: &Row) -> Result<Vec<u8>, OutO
     for phase in &row.phases {
         write_cells(alloc, &mut writer, &phase_cells(phase))?;
     }
-    if form == RowForm::Further {
+    if form != RowForm::Plain {
         write_cells(alloc, &mut writer, &further_cells(&row.options))?;
     }
+    if form.has_costs() {
+        write_costs(alloc, &mut writer, row)?;
+    }
+    if form.has_shape() {
+        write_shape(alloc, &mut writer, row)?;
+    }
     text_of(writer)
+}
+
+/// The columns of a broadcast behind those of its run.
+const MESSAGE_COLUMNS: [&str; 10] = [
+    "phase",
+    "number",
+    "origin",
+    "live",
+    "delivered",
+    "hops",
+    "gossip",
+    "ihave",
+    "graft",
+    "prune",
+];
+
+/// The header of the rows of broadcasts: the names of the columns of the options and the further options of their run,
+/// and of their own, with one comma between two, and a line feed. OutOfMemory (99) if an allocation is refused.
+pub fn message_header_text(alloc: Global) -> Result<Vec<u8>, OutOfMemory> {
+    let mut writer = WriterBuilder::new().from_writer(Vec::new(alloc));
+    let names = column_names(RowForm::Further);
+    write_names(&mut writer, &names[..19])?;
+    write_names(&mut writer, &names[37..])?;
+    write_names(&mut writer, &MESSAGE_COLUMNS)?;
+    text_of(writer)
+}
+
+/// The row of a broadcast: its cells in the order of the columns, with one comma between two, and a line feed.
+/// OutOfMemory (99) if an allocation is refused.
+pub fn message_row_text(alloc: Global, message: &MessageRow) -> Result<Vec<u8>, OutOfMemory> {
+    let mut writer = WriterBuilder::new().from_writer(Vec::new(alloc));
+    let options = &message.options;
+    write_cells(alloc, &mut writer, &setting_cells(options))?;
+    write_cells(alloc, &mut writer, &[Cell::Number(options.seed)])?;
+    write_cells(alloc, &mut writer, &further_cells(options))?;
+    write_cells(alloc, &mut writer, &message_cells(message))?;
+    text_of(writer)
+}
+
+/// What the broadcasts of each phase cost.
+fn write_costs(alloc: Global, writer: &mut Writer<Vec<u8>>, row: &Row) -> Result<(), OutOfMemory> {
+    for phase in &row.phases {
+        write_cells(alloc, writer, &costs_cells(phase.costs))?;
+    }
+    Ok(())
+}
+
+/// The shape of each phase.
+fn write_shape(alloc: Global, writer: &mut Writer<Vec<u8>>, row: &Row) -> Result<(), OutOfMemory> {
+    for phase in &row.phases {
+        write_cells(alloc, writer, &shape_cells(phase.shape))?;
+    }
+    Ok(())
+}
+
+fn write_names(writer: &mut Writer<Vec<u8>>, names: &[&str]) -> Result<(), OutOfMemory> {
+    for name in names {
+        write_text(writer, name)?;
+    }
+    Ok(())
 }
 
 fn write_cells(

@@ -19,6 +19,18 @@ pub struct Setting<'a> {
     pub(crate) runs: Vec<&'a Row>,
 }
 
+impl Setting<'_> {
+    /// Whether it is known of a run what its broadcasts cost.
+    pub(crate) fn has_costs(&self) -> bool {
+        self.runs.iter().any(|run| run.has_costs())
+    }
+
+    /// Whether the shapes of a run are known.
+    pub(crate) fn has_shape(&self) -> bool {
+        self.runs.iter().any(|run| run.has_shape())
+    }
+}
+
 /// The settings of rows, in the order of their first appearance, each with its rows in their order. OutOfMemory (99) if
 /// an allocation is refused.
 pub fn settings_of(alloc: Global, rows: &[Row]) -> Result<Vec<Setting<'_>>, OutOfMemory> {

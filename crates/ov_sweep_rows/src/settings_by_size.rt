@@ -44,7 +44,7 @@ fn rank_of(cell: Cell) -> u64 {
         Cell::Empty => 0,
         Cell::Number(number) => number.saturating_add(1),
         Cell::Word(word) => rank_of_word(word),
-        Cell::Share(share) => share.parts,
+        Cell::Decimals(number) => number.parts,
     }
 }
 

@@ -1,3 +1,4 @@
+use crate::means_of_costs_and_shape::{mean_text, measure_head, measured_places};
 use crate::phase_summary::{PhaseSummary, count, phase_summary};
 use crate::runs_by_setting::{cell_at, common_command, differing, run_counts, shown_cell};
 use crate::setting_names::SETTING_NAMES;
@@ -34,10 +35,20 @@ at most; so half of them have k 50 % at most, the median, and the last column sa
 least degree: the fewest links of a node, the least of all runs and their mean.
 ";
 
+/// What the means are.
+const MEANS: &str = "
+Means of all runs that have the number, rounded down. gossip, ihave, graft, prune: messages sent for the broadcasts.
+hops: links to the last node that a broadcast reached. redundancy: GOSSIP beyond one for each node that it reached.
+largest: nodes of the largest component; path, diameter: the mean and the longest shortest path in it.
+clustering: the share of pairs of a node's neighbours that are linked.
+degree 25 %: a quarter of the nodes have so many links at most.
+";
+
 /// The summary of a sweep for people, in plain text: for each phase a table with a line for each setting. Only the
 /// options in which settings differ are columns; the others stand in the first line. Behind them stand how many runs
 /// there are; how many of them are split, their share, and its interval with a confidence of 95 % (Wilson); the
 /// quartiles of k; the least and the mean least degree; and how many crashes an overlay with the median k survives.
+/// If rows have costs or shapes, their means follow, in a table for each phase.
 /// OutOfMemory (99) if an allocation is refused.
 pub fn summary_text(alloc: Global, settings: &[Setting<'_>]) -> Result<String, OutOfMemory> {
     let differing = differing(alloc, settings)?;
@@ -46,7 +57,73 @@ pub fn summary_text(alloc: Global, settings: &[Setting<'_>]) -> Result<String, O
         push_phase(alloc, &mut text, settings, &differing, phase)?;
     }
     text.push_str(MEANING)?;
+    let measured = measured_places(alloc, settings)?;
+    if !measured.is_empty() {
+        push_means(alloc, &mut text, settings, &differing, &measured)?;
+    }
     Ok(text)
+}
+
+/// Appends a table of means for each phase, and what they are.
+fn push_means(
+    alloc: Global,
+    text: &mut String,
+    settings: &[Setting<'_>],
+    differing: &[usize],
+    measured: &[usize],
+) -> Result<(), AllocError> {
+    for phase in Phase::ALL {
+        let name = phase_name(phase);
+        write!(text, "\nMeans after {name}\n")?;
+        let mut table = TextTable::new(alloc);
+        table.push(mean_heads(alloc, differing, measured)?)?;
+        push_mean_lines(alloc, &mut table, settings, differing, measured, phase)?;
+        table.push_to(alloc, text)?;
+    }
+    text.push_str(MEANS)
+}
+
+/// The heads of a table of means.
+fn mean_heads(
+    alloc: Global,
+    differing: &[usize],
+    measured: &[usize],
+) -> Result<Vec<String>, AllocError> {
+    let mut line = option_heads(alloc, differing)?;
+    for place in measured {
+        line.push(String::from_str(alloc, measure_head(*place))?)?;
+    }
+    Ok(line)
+}
+
+/// Adds the means of each setting.
+fn push_mean_lines(
+    alloc: Global,
+    table: &mut TextTable,
+    settings: &[Setting<'_>],
+    differing: &[usize],
+    measured: &[usize],
+    phase: Phase,
+) -> Result<(), AllocError> {
+    for setting in settings {
+        table.push(mean_line(alloc, setting, differing, measured, phase)?)?;
+    }
+    Ok(())
+}
+
+/// The means of a setting.
+fn mean_line(
+    alloc: Global,
+    setting: &Setting<'_>,
+    differing: &[usize],
+    measured: &[usize],
+    phase: Phase,
+) -> Result<Vec<String>, AllocError> {
+    let mut line = option_cells(alloc, setting, differing)?;
+    for place in measured {
+        line.push(mean_text(alloc, &setting.runs, phase, *place)?)?;
+    }
+    Ok(line)
 }
 
 /// The first lines: what was swept, and how many runs there are.
@@ -101,13 +178,32 @@ pub(crate) fn phase_name(phase: Phase) -> &'static str {
 
 /// The heads of all columns.
 fn heads(alloc: Global, differing: &[usize]) -> Result<Vec<String>, AllocError> {
+    let mut line = option_heads(alloc, differing)?;
+    for head in HEADS {
+        line.push(String::from_str(alloc, head)?)?;
+    }
+    Ok(line)
+}
+
+/// The names of the options in which settings differ.
+fn option_heads(alloc: Global, differing: &[usize]) -> Result<Vec<String>, AllocError> {
     let mut line = Vec::new(alloc);
     for place in differing {
         let name = SETTING_NAMES.get(*place).map_or("", |option| option.name);
         line.push(String::from_str(alloc, name)?)?;
     }
-    for head in HEADS {
-        line.push(String::from_str(alloc, head)?)?;
+    Ok(line)
+}
+
+/// What a setting has for them.
+fn option_cells(
+    alloc: Global,
+    setting: &Setting<'_>,
+    differing: &[usize],
+) -> Result<Vec<String>, AllocError> {
+    let mut line = Vec::new(alloc);
+    for place in differing {
+        line.push(shown_cell(alloc, cell_at(&setting.cells, *place))?)?;
     }
     Ok(line)
 }
@@ -119,10 +215,7 @@ fn line_of(
     differing: &[usize],
     phase: Phase,
 ) -> Result<Vec<String>, AllocError> {
-    let mut line = Vec::new(alloc);
-    for place in differing {
-        line.push(shown_cell(alloc, cell_at(&setting.cells, *place))?)?;
-    }
+    let mut line = option_cells(alloc, setting, differing)?;
     let summary = phase_summary(alloc, &setting.runs, phase)?;
     push_split(alloc, &mut line, &summary)?;
     push_rest(alloc, &mut line, &summary)?;

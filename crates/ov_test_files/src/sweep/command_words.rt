@@ -85,8 +85,41 @@ fn is_bare(request: &SweepRequest) -> bool {
         && request.workers == Workers::ONE
         && request.printed == Printed::Rows
         && !request.progress
+        && !request.costs
+        && !request.shape
         && request.svg.is_none()
         && request.read.is_none()
+}
+
+/// Whether a sweep asks for these measures, and prints that.
+fn is_measured(alloc: Global, line: &str, measures: (bool, bool), printed: Printed) -> bool {
+    match sweep(alloc, line) {
+        Ok(request) => (request.costs, request.shape) == measures && request.printed == printed,
+        Err(_) => false,
+    }
+}
+
+/// What words of a sweep measure, and what it prints.
+const MEASURED: [(&str, bool, bool, Printed); 4] = [
+    ("--costs", true, false, Printed::Rows),
+    ("--shape --summary", false, true, Printed::Summary),
+    (
+        "--shape --costs --list 5",
+        true,
+        true,
+        Printed::List { block: 5 },
+    ),
+    ("--sequential --messages", false, false, Printed::Messages),
+];
+
+#[test]
+fn measures_are_asked_for(rt: HostRuntime) {
+    for (line, costs, shape, printed) in MEASURED {
+        assert!(rt;
+            is_measured(rt.alloc(), line, (costs, shape), printed),
+            "{line}"
+        );
+    }
 }
 
 /// Whether a sweep asks for a summary of two files, and a picture.

@@ -14,7 +14,7 @@ heal_nodes,heal_k,heal_least_degree,heal_links,heal_entries,heal_delivered\n";
 
 /// Two rows: no two options of the first one have the same number, one of its columns has the highest that there is, and
 /// all options of the second one are at their defaults.
-const ROWS: [&str; 2] = [
+pub(crate) const ROWS: [&str; 2] = [
     "60,4,20,6,2,1,3,5,alone,8,9,11,oldest,7,12,cut,13,10,18446744073709551615,\
      60,2,3,171,1834,0.9950,58,0,1,160,1836,0.0000,58,3,3,4294967295,2100,1.0000\n",
     "100,5,30,6,3,3,4,4,never,0,0,0,random,,3,0,2,0,0,100,0,0,200,2000,,100,0,0,200,2000,,100,1,1,210,3000,\n",
@@ -28,6 +28,8 @@ fn phase(nodes: u32, k: u32, least_degree: u32, links: u32, entries: u32) -> Pha
         links,
         entries,
         delivered: None,
+        costs: None,
+        shape: None,
     }
 }
 
@@ -40,7 +42,7 @@ fn delivered(row: PhaseRow, deliveries: u32) -> PhaseRow {
 }
 
 /// The options of the first row. 597 of 600 deliveries are 0.995, and 1 of 580 is less than 0.002.
-fn first_options() -> Option<GrowOptions> {
+pub(crate) fn first_options() -> Option<GrowOptions> {
     Some(GrowOptions {
         nodes: NodeCount::new(60)?,
         params: Params::new(4, 20, 6, 2, 1, 3, 5)
@@ -62,7 +64,7 @@ fn first_options() -> Option<GrowOptions> {
     })
 }
 
-fn first_row(options: GrowOptions) -> Row {
+pub(crate) fn first_row(options: GrowOptions) -> Row {
     Row {
         options,
         phases: [
@@ -94,7 +96,7 @@ fn text(alloc: Global) -> Result<String, AllocError> {
 }
 
 /// Whether a text has these rows.
-fn has_rows(alloc: Global, text: &str, expected: &[Row]) -> bool {
+pub(crate) fn has_rows(alloc: Global, text: &str, expected: &[Row]) -> bool {
     match read_rows(alloc, text.as_bytes()) {
         Ok(rows) => rows.as_slice() == expected,
         Err(_) => false,
