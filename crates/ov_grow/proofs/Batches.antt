@@ -26,7 +26,8 @@ outcome_before : (m : Measures) (runs later : List GrowOptions) (i : ℕ) (x : R
 outcome_before m runs later i x (o, read, is, refused) = (o, at_prefix runs later i o read, is, refused)
 
 -- and if more runs stand before it
-outcome_behind : (m : Measures) (earlier runs : List GrowOptions) (i j : ℕ) (x : Result Row GrowFault) → i ≡ length earlier + j
+outcome_behind : (m : Measures) (earlier runs : List GrowOptions) (i j : ℕ) (x : Result Row GrowFault)
+    → i ≡ length earlier + j
     → IsOutcomeAt m runs j x → IsOutcomeAt m (earlier ++ runs) i x
 outcome_behind m earlier runs i j x at (o, read, is, refused) = (o, at_right earlier runs i j at ∙ read, is, refused)
 
@@ -75,7 +76,8 @@ pub swept_none : (m : Measures) (old : Option (List Row)) → AreSwept m [] old 
 swept_none m old = ([], record { each = λ i row at. absurd (none-some row at); ends = refl }, taken_none old)
 
 -- runs were swept, and then those behind them
-swept_on : (m : Measures) (runs later : List GrowOptions) (old mid new : Option (List Row)) (result : Result (Unit {0}) SweepFault)
+swept_on : (m : Measures) (runs later : List GrowOptions) (old mid new : Option (List Row)) (result : Result (Unit
+    {0}) SweepFault)
     → AreSwept m runs old mid (Ok tt) → AreSwept m later mid new result → AreSwept m (runs ++ later) old new result
 swept_on m runs later old mid new (Ok done) (rows, are, taken) (more, all, then) = (
   rows ++ more,
@@ -121,12 +123,14 @@ rows_first m runs rows n are i row at =
     (at_prefix (take n rows) (drop n rows) i row at))
 
 -- the rows of a batch were not all taken
-swept_until : (m : Measures) (runs : List GrowOptions) (rows : List Row) (refused : Option RefusedRun) (old new : Option (List Row))
+swept_until : (m : Measures) (runs : List GrowOptions) (rows : List Row) (refused : Option RefusedRun) (old new :
+    Option (List Row))
     (fault : SweepFault) → AreRowsOf m runs rows refused → WereGiven rows old new (Err fault)
     → AreSwept m runs old new (Err fault)
 swept_until m runs rows refused old new (Run run) are given = absurd given
 swept_until m runs rows refused old new Write are (n, taken) = (take n rows, rows_first m runs rows n are.each, taken)
-swept_until m runs rows refused old new OutOfMemory are (n, taken) = (take n rows, rows_first m runs rows n are.each, taken)
+swept_until m runs rows refused old new OutOfMemory are (n, taken) = (take n rows, rows_first m runs rows n are.each,
+    taken)
 
 -- and the batch ends with that fault
 pub swept_fault : (m : Measures) (runs : List GrowOptions) (rows given : List Row) (refused : Option RefusedRun)

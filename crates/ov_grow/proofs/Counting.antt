@@ -1,5 +1,6 @@
 -- Counting mark by mark, and node by node, gives what the definitions say.
-use Rattle.std.proofs.Common.{◌≡◌, ◌∙◌, ℕ, ◌+◌, max, Bool, true, false, cond, List, [], ◌∷◌, length, Option, Some, None}
+use Rattle.std.proofs.Common.{◌≡◌, ◌∙◌, ℕ, suc, ◌+◌, max, Bool, true, false, cond, List, [], ◌∷◌, length, Option}
+use Rattle.std.proofs.Common.{Some, None}
 use Rattle.std.proofs.Common.{refl, sym, ap, subst, arith}
 use Rattle.std.specs.Prelude.{count_by, is_some}
 use Rattle.std.proofs.lemmas.List.Sums.{sum_by-cons}
@@ -134,7 +135,7 @@ lives w id (node ∷ more) r =
     let rest = lives w id more (reached_more (round_at w node id) r) in
     rest ∙ one (length more)
   where
-    one : (n : ℕ) → r.live + 1 + n ≡ r.live + (1 + n)
+    one : (n : ℕ) → r.live + 1 + n ≡ r.live + suc n
     one n = omega arith
 
 deliveries : (w : Net) (id : MsgId) (nodes : List ℕ) (r : NodesReached)

@@ -1,5 +1,6 @@
 -- The log of broadcasts as the code keeps it.
-use Rattle.std.proofs.Common.{◌≡◌, ◌∙◌, ◌≤◌, ◌+◌, ◌-◌, ◌<◌, ℕ, Bool, true, false, cond, List, [], ◌∷◌, ◌++◌, length, drop}
+use Rattle.std.proofs.Common.{◌≡◌, ◌∙◌, ◌≤◌, ◌+◌, ◌-◌, ◌<◌, ℕ, Bool, true, false, cond, List, [], ◌∷◌, ◌++◌, length}
+use Rattle.std.proofs.Common.{drop}
 use Rattle.std.proofs.Common.{get_or, Option, Some, None, refl, sym, ap, ap₂, subst, append_assoc, append-nil, arith}
 use Rattle.std.specs.Prelude.{option_map}
 use Rattle.std.specs.FinMap as map
@@ -50,8 +51,8 @@ sent_from : (e : Event) (before after : List (ℕ × Message))
     → drop (first_new e (length before) (length after)) after ≡ sent_by e before after
 sent_from (event.Boot node contact) before after = refl
 sent_from (event.Deliver place) before after = refl
-sent_from (event.Lose place) before after = drop_all _ _ (omega arith)
-sent_from (event.Repeat place) before after = drop_all _ _ (omega arith)
+sent_from (event.Lose place) before after = drop_all (length after) after (omega arith)
+sent_from (event.Repeat place) before after = drop_all (length after) after (omega arith)
 sent_from (event.Crash node) before after = refl
 sent_from (event.CrashReport node crashed) before after = refl
 sent_from (event.Shuffle node) before after = refl

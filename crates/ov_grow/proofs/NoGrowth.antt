@@ -12,7 +12,8 @@ use Rattle.ov_grow.specs.declared.phase_moment_and_deliveries.Phase.{Phase}
 use Rattle.ov_grow.proofs.OnePhase.{one_crash, one_join, one_settling}
 
 -- where every overlay that is grown stands when its nodes have joined
-same_joined : (from : Growth) (o : GrowOptions) (b s : Growing) (text : List ℕ) (world : WorldState) (settled crashed healed : Phase)
+same_joined : (from : Growth) (o : GrowOptions) (b s : Growing) (text : List ℕ) (world : WorldState) (settled crashed
+    healed : Phase)
     → growth_of b ≡ from → Goes (Join o) b s → (grows : GrowsFrom from o text world settled crashed healed)
     → grows.s ≡ growth_of s
 same_joined from o b s text world settled crashed healed begins joins grows =
@@ -58,7 +59,8 @@ no_way_settling from o b s fault begins joins (inr none) = inr (λ text world se
     ))
 
 -- nodes can't crash
-pub no_way_crashing : (from : Growth) (o : GrowOptions) (b s t : Growing) (p : Phase) (fault : GrowFault) → growth_of b ≡ from
+pub no_way_crashing : (from : Growth) (o : GrowOptions) (b s t : Growing) (p : Phase) (fault : GrowFault)
+    → growth_of b ≡ from
     → Goes (Join o) b s → Goes (λ g u. Settle o g p u) s t
     → IsNoWay (λ g u. (phase : Phase) × CrashNodes o p.moment g phase u) t fault → EndsGrowingFrom from o fault
 no_way_crashing from o b s t p fault begins joins settles (inl memory) = inl memory
@@ -71,7 +73,8 @@ no_way_crashing from o b s t p fault begins joins settles (inr none) = inr (λ t
     ))
 
 -- the overlay can't heal
-pub no_way_healing : (from : Growth) (o : GrowOptions) (b s t v : Growing) (p q : Phase) (fault : GrowFault) → growth_of b ≡ from
+pub no_way_healing : (from : Growth) (o : GrowOptions) (b s t v : Growing) (p q : Phase) (fault : GrowFault)
+    → growth_of b ≡ from
     → Goes (Join o) b s → Goes (λ g u. Settle o g p u) s t → Goes (λ g u. CrashNodes o p.moment g q u) t v
     → IsNoWay (λ g u. (phase : Phase) × Heal o g phase u) v fault → EndsGrowingFrom from o fault
 no_way_healing from o b s t v p q fault begins joins settles crashes (inl memory) = inl memory
@@ -79,5 +82,6 @@ no_way_healing from o b s t v p q fault begins joins settles crashes (inr none) 
     inr (λ text world settled crashed healed grows. none grows.u (
       healed,
       subst (λ g. Heal o g healed grows.u)
-          (same_crashed from o b s t v p q text world settled crashed healed begins joins settles crashes grows) grows.heal,
+          (same_crashed from o b s t v p q text world settled crashed healed begins joins settles crashes grows)
+              grows.heal,
     ))

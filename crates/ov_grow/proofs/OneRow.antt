@@ -24,7 +24,8 @@ use Rattle.ov_grow.specs.Growing.{begins}
 use Rattle.ov_grow.specs.Growth.{Growth}
 use Rattle.ov_grow.specs.MessageCosts.{AreCostsBy, cost_of, made_in}
 use Rattle.ov_grow.specs.PhaseCosts.{phase_costs}
-use Rattle.ov_grow.specs.Rows.{AreNumbersOf, ArePhaseCosts, IsAsked, IsLeastDegree, IsShapeOf, IsShare, IsToldOf, OneRow}
+use Rattle.ov_grow.specs.Rows.{AreNumbersOf, ArePhaseCosts, IsAsked, IsLeastDegree, IsShapeOf, IsShare, IsToldOf}
+use Rattle.ov_grow.specs.Rows.{OneRow}
 use Rattle.ov_grow.specs.declared.broadcast_log.Mark.{Mark}
 use Rattle.ov_grow.specs.declared.message_cost.MessageCost.{MessageCost}
 use Rattle.ov_sweep_rows.specs.declared.costs_and_shape.Measures.{Measures}

@@ -72,10 +72,10 @@ one_diameter g d e (xs, is, far) (ys, also, long) =
 
 one_path : (g : LinkGraph) (p q : Option ℕ) → HasMeanPath g p → HasMeanPath g q → p ≡ q
 one_path g None None a b = refl
-one_path g None (Some m) (xs, is, alone) (ys, also, many, rest) =
+one_path g None (Some m) (xs, is, alone) (ys, also, many, total, sum, mean) =
     let same = ap (λ (zs : List ℕ). length zs) (one_largest g xs ys is also) in
     absurd (omega (arith, same, alone, many))
-one_path g (Some m) None (xs, is, many, rest) (ys, also, alone) =
+one_path g (Some m) None (xs, is, many, total, sum, mean) (ys, also, alone) =
     let same = ap (λ (zs : List ℕ). length zs) (one_largest g xs ys is also) in
     absurd (omega (arith, same, alone, many))
 one_path g (Some m) (Some n) (xs, is, many, total, sum, mean) (ys, also, more, all, adds, also_mean) =
@@ -182,8 +182,8 @@ one_ascending : (g : LinkGraph) (ds es : List ℕ) → AreAscendingDegrees g ds 
 one_ascending g ds es a b =
     let same : b.unordered ≡ a.unordered = one_list_of_degrees g b.unordered a.unordered b.degrees a.degrees in
     same_rising ds es a.ascend b.ascend (λ f.
-        sum_by-IsPermutation f a.unordered ds a.permuted
-        ∙ (ap (λ zs. sum_by f zs) (sym same) ∙ sym (sum_by-IsPermutation f b.unordered es b.permuted)))
+    sum_by-IsPermutation f a.unordered ds a.permuted
+    ∙ (ap (λ zs. sum_by f zs) (sym same) ∙ sym (sum_by-IsPermutation f b.unordered es b.permuted)))
 
 one_quartile : (g : LinkGraph) (k d e : ℕ) → IsQuartile g k d → IsQuartile g k e → d ≡ e
 one_quartile g k d e (ds, are, is) (es, also, same) =

@@ -25,7 +25,8 @@ snoc_cases (z ∷ xs) x y (suc i) e = elim (snoc_cases xs x y i e) [ inl k ↦ i
 
 -- one run more was done
 pub apart_more :
-    (m : Measures) (batch : List GrowOptions) (first apart place : ℕ) (share : List Outcome) (x : Outcome) (o : GrowOptions)
+    (m : Measures) (batch : List GrowOptions) (first apart place : ℕ) (share : List Outcome) (x : Outcome) (o :
+        GrowOptions)
     → AreApart m batch first apart share → place ≡ first + length share * apart → slice_get batch place ≡ Some o
     → IfOk x (λ row. IsRowOf m o row) → IfErr x (IsRunRefusal m o) → AreApart m batch first apart (share ++ x ∷ [])
 apart_more m batch first apart place share x o are at read is refused j y e = elim (snoc_cases share x y j e) [
@@ -48,7 +49,8 @@ place_parted place apart =
     let e = mod-add-div place apart in omega (arith, e)
 
 -- the share that has the outcome at a place of the batch has it at the place's turn
-pub has_outcome : (m : Measures) (batch : List GrowOptions) (shares : List Share) (place : ℕ) (share : Vec Outcome Global)
+pub has_outcome : (m : Measures) (batch : List GrowOptions) (shares : List Share) (place : ℕ) (share : Vec Outcome
+    Global)
     → AreSharesOf m batch shares → 0 < length shares → place < length batch
     → Ok share ≡ get_or shares (place % length shares) (Ok share)
     → IsShareOf m batch (place % length shares) (length shares) share.items
@@ -66,13 +68,15 @@ outcome_there m batch apart place share is within =
 
 -- and it is what came at that place
 pub outcome_is : (m : Measures) (batch : List GrowOptions) (apart place : ℕ) (share : List Outcome) (x : Outcome)
-    → IsShareOf m batch (place % apart) apart share → slice_get share (place / apart) ≡ Some x → IsOutcomeAt m batch place x
+    → IsShareOf m batch (place % apart) apart share → slice_get share (place / apart) ≡ Some x
+    → IsOutcomeAt m batch place x
 outcome_is m batch apart place share x is at =
     subst (λ (n : ℕ). IsOutcomeAt m batch n x) (sym (place_parted place apart)) (is.each (place / apart) x at)
 
 -- one row more of a batch
 pub row_more : (m : Measures) (batch : List GrowOptions) (rows : List Row) (row : Row) (place : ℕ) → length rows ≡ place
-    → ((i : ℕ) (r : Row) → slice_get rows i ≡ Some r → IsOutcomeAt m batch i (Ok r)) → IsOutcomeAt m batch place (Ok row)
+    → ((i : ℕ) (r : Row) → slice_get rows i ≡ Some r → IsOutcomeAt m batch i (Ok r))
+    → IsOutcomeAt m batch place (Ok row)
     → (i : ℕ) (r : Row) → slice_get (rows ++ row ∷ []) i ≡ Some r → IsOutcomeAt m batch i (Ok r)
 row_more m batch rows row place count are is i r e = elim (snoc_cases rows row r i e) [
   | inl k ↦ are i r k

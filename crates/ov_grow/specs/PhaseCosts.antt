@@ -12,7 +12,8 @@ use Rattle.ov_grow.specs.declared.message_cost.MessageCost.{MessageCost}
 abbrev pub parts_of_one : ℕ
 parts_of_one = 10000
 
--- the mean of so many numbers with this sum, rounded down; there is none without numbers. The numbers are parts of 10,000
+-- the mean of so many numbers with this sum, rounded down; there is none without numbers. The numbers are parts of
+-- 10,000
 abbrev pub mean_of : ℕ → ℕ → Option FourDecimals
 mean_of total count = if count == 0 then None else Some (record { parts = total / count })
 

@@ -32,7 +32,8 @@ EndsAt m batch rows (Some refused) =
     (slice_get batch (length rows) ≡ Some refused.options) × IsRunRefusal m refused.options refused.fault
 
 -- the rows of a batch: each is that of the options at its place, and they end before a run that was refused
-pub record AreRowsOf (m : Measures) (batch : List GrowOptions) (rows : List Row) (refused : Option RefusedRun) : Type 0 where
+pub record AreRowsOf (m : Measures) (batch : List GrowOptions) (rows : List Row) (refused : Option RefusedRun) : Type
+    0 where
   pub each : AreFirstRowsOf m batch rows
   pub ends : EndsAt m batch rows refused
 

@@ -21,8 +21,8 @@ use ov_ids::{MsgId, NodeId, OutOfMemory};
 use ov_net::World;
 use std::alloc::Global;
 
-/// An overlay that grows: the recording of its steps so far, the choices that are left, and the log of broadcasts, if one
-/// is kept.
+/// An overlay that grows: the recording of its steps so far, the choices that are left, and the log of broadcasts, if
+/// one is kept.
 #[derive(Drop)]
 pub(crate) struct Growing {
     pub(crate) alloc: Global,
@@ -103,7 +103,8 @@ impl Growing {
         let made = self.id_made_by(&act);
         let before = self.packets();
         self.recording.act(act)?;
-        self.log.tell(self.alloc, &act, made, before, &self.recording)?;
+        self.log
+            .tell(self.alloc, &act, made, before, &self.recording)?;
         let _text = self.recording.text();
         Ok(())
     }

@@ -99,8 +99,8 @@ impl NodesReached {
         hops: 0,
     };
 
-    /// One node more, which holds the message with this round, or does not hold it. OutOfMemory (99) is returned if that
-    /// is past 32 bits.
+    /// One node more, which holds the message with this round, or does not hold it. OutOfMemory (99) is returned if
+    /// that is past 32 bits.
     pub(crate) fn with(self, round: Option<u16>) -> Result<NodesReached, OutOfMemory>
         ensures { IfOk result (λ reached. reached ≡ reached_more round self) }
     {

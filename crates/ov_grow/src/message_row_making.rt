@@ -66,6 +66,7 @@ fn push_row(rows: &mut Vec<MessageRow>, row: MessageRow) -> Result<(), OutOfMemo
 }
 
 /// The row of a broadcast of a phase, of this number.
+#[tactic(auto, unfolding(crate::specs::MessageRows::message_row))]
 fn message_row(options: &GrowOptions, phase: Phase, number: u32, cost: &MessageCost) -> MessageRow
     ensures { result ≡ message_row options.now phase number cost.now }
 {

@@ -32,15 +32,15 @@ pub struct GrownBatch {
 /// The row of a run, or why growing was refused.
 type Outcome = Result<Row, GrowFault>;
 
-/// Grows an overlay with each of these options, and measures what is asked for. The workers share the runs out, and each does one after the other. The
-/// rows are in the order of the options, by any number of workers. They end before the first run that was refused.
-/// OutOfMemory (99) if an allocation was refused that is no run's.
+/// Grows an overlay with each of these options, and measures what is asked for. The workers share the runs out, and
+/// each does one after the other. The rows are in the order of the options, by any number of workers. They end before
+/// the first run that was refused. OutOfMemory (99) if an allocation was refused that is no run's.
 pub fn grow_batch<R: Threads + Sync>(
     rt: &R,
     alloc: Global,
     batch: &[GrowOptions],
-    measures: Measures,
     workers: Workers,
+    measures: Measures,
 ) -> Result<GrownBatch, OutOfMemory>
     ensures { IfOk result (λ grown. AreRowsOf measures batch.now grown.rows.items grown.refused) }
 {

@@ -64,7 +64,8 @@ impl Growing {
         let _world = self.recording.core().world();
         let before = self.packets();
         self.recording.act(Act::Snapshot)?;
-        self.log.tell(self.alloc, &Act::Snapshot, None, before, &self.recording)?;
+        self.log
+            .tell(self.alloc, &Act::Snapshot, None, before, &self.recording)?;
         let _text = self.recording.text();
         Ok(())
     }

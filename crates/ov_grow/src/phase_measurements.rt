@@ -11,8 +11,8 @@ use ov_ids::NodeId;
 use ov_snap::Report;
 use ov_sweep_rows::{DeliveredShare, PhaseCosts, PhaseRow, PhaseShape};
 
-/// What a row says of a phase: the numbers of the report of its end, how many of its broadcasts were delivered, and what
-/// was measured beside them.
+/// What a row says of a phase: the numbers of the report of its end, how many of its broadcasts were delivered, and
+/// what was measured beside them.
 pub(crate) fn phase_row(
     report: &Report,
     phase: Phase,

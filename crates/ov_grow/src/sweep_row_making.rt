@@ -16,15 +16,14 @@ use crate::phase_costs::phase_costs;
 use crate::phase_measurements::phase_row;
 use crate::phase_moment_and_deliveries::Phase;
 use crate::phase_shape::phase_shape;
-use ov_graph::Graph;
 use ov_grow_options::GrowOptions;
 use ov_ids::OutOfMemory;
-use ov_snap::Core;
+use ov_snap::{Core, Report};
 use ov_sweep_rows::{Measures, PhaseCosts, PhaseRow, PhaseShape, Row};
 use std::alloc::Global;
 
-/// The row of the overlay that is grown with these options: its numbers are those of the reports that growing files. What
-/// is asked for is measured beside them.
+/// The row of the overlay that is grown with these options: its numbers are those of the reports that growing files.
+/// What is asked for is measured beside them.
 ///
 /// A fault of growing (see `GrowFault`) means that memory ran out, or that with these options nothing can be grown.
 pub fn row_of(alloc: Global, options: &GrowOptions, measures: Measures) -> Result<Row, GrowFault>
@@ -49,10 +48,11 @@ fn row_told(
     ensures { IfOk result (λ row. IsRowOf measures options.now row) }
 {
     let grown = &logged.grown;
+    let core = &grown.core;
     let broadcasts = options.broadcasts.count();
-    let settle = row_after(&grown.core, grown.settled, broadcasts, measures, &logged.settle_costs)?;
-    let crash = row_after(&grown.core, grown.crashed, broadcasts, measures, &logged.crash_costs)?;
-    let heal = row_after(&grown.core, grown.healed, broadcasts, measures, &logged.heal_costs)?;
+    let settle = row_after(core, grown.settled, broadcasts, measures, &logged.settle_costs)?;
+    let crash = row_after(core, grown.crashed, broadcasts, measures, &logged.crash_costs)?;
+    let heal = row_after(core, grown.healed, broadcasts, measures, &logged.heal_costs)?;
     Ok(Row {
         options: *options,
         phases: [settle, crash, heal],
@@ -74,7 +74,7 @@ fn row_after(
     match core.report(phase.moment) {
         Some(report) => {
             let costs = costs_asked(measures.costs, costs)?;
-            let shape = shape_asked(measures.shape, report.checked().graph())?;
+            let shape = shape_asked(measures.shape, report)?;
             Ok(phase_row(report, phase, broadcasts, costs, shape))
         }
         None => unreachable!(),
@@ -91,13 +91,13 @@ fn costs_asked(asked: bool, costs: &[MessageCost]) -> Result<Option<PhaseCosts>,
     Ok(Some(phase_costs(costs)?))
 }
 
-/// The shape of a graph, if it is asked for. The graph must have a node.
-fn shape_asked(asked: bool, graph: &Graph) -> Result<Option<PhaseShape>, OutOfMemory>
-    requires { HasNode graph.now }
-    ensures { IfOk result (IsAsked asked (IsShapeOf graph.now)) }
+/// The shape of a report's graph, if it is asked for. The graph must have a node.
+fn shape_asked(asked: bool, report: &Report) -> Result<Option<PhaseShape>, OutOfMemory>
+    requires { HasNode report.now.graph }
+    ensures { IfOk result (IsAsked asked (IsShapeOf report.now.graph)) }
 {
     if !asked {
         return Ok(None);
     }
-    Ok(Some(phase_shape(graph)?))
+    Ok(Some(phase_shape(report.checked().graph())?))
 }

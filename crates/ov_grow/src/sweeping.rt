@@ -26,9 +26,9 @@ pub trait RowTaker {
         ensures { WereGiven rows.now (taken self.old) (taken self.new) result };
 }
 
-/// Grows an overlay with the options of each of these runs by these workers, batch by batch, measures what is asked for,
-/// and has the rows of each batch taken before the next one begins. The first run that is refused ends the sweep, after the rows before it were
-/// taken.
+/// Grows an overlay with the options of each of these runs by these workers, batch by batch, measures what is asked
+/// for, and has the rows of each batch taken before the next one begins. The first run that is refused ends the sweep,
+/// after the rows before it were taken.
 ///
 /// Run (see `GrowFault`): a run was refused. Write (72): the rows were not taken. OutOfMemory (99): an allocation was
 /// refused.
@@ -36,8 +36,8 @@ pub fn sweep<R: Threads + Sync, I: Iterator<Item = GrowOptions> + Drop, T: RowTa
     rt: &R,
     alloc: Global,
     runs: I,
-    measures: Measures,
     workers: Workers,
+    measures: Measures,
     taker: &mut T,
 ) -> Result<(), SweepFault>
     requires can { I.can_next runs }
@@ -49,14 +49,14 @@ pub fn sweep<R: Threads + Sync, I: Iterator<Item = GrowOptions> + Drop, T: RowTa
     for options in runs {
         batch.push(options)?;
         if batch.len() >= size {
-            sweep_batch(rt, alloc, &batch, measures, workers, taker)?;
+            sweep_batch(rt, alloc, &batch, workers, measures, taker)?;
             batch.clear();
         }
     }
     if batch.is_empty() {
         return Ok(());
     }
-    sweep_batch(rt, alloc, &batch, measures, workers, taker)
+    sweep_batch(rt, alloc, &batch, workers, measures, taker)
 }
 
 /// Grows an overlay with each of these options, and has their rows taken.
@@ -64,13 +64,13 @@ fn sweep_batch<R: Threads + Sync, T: RowTaker>(
     rt: &R,
     alloc: Global,
     batch: &[GrowOptions],
-    measures: Measures,
     workers: Workers,
+    measures: Measures,
     taker: &mut T,
 ) -> Result<(), SweepFault>
     ensures { AreSwept measures batch.now (T.taken taker.old) (T.taken taker.new) result }
 {
-    let GrownBatch { rows, refused } = grow_batch(rt, alloc, batch, measures, workers)?;
+    let GrownBatch { rows, refused } = grow_batch(rt, alloc, batch, workers, measures)?;
     taker.take(&rows)?;
     match refused {
         Some(refused) => Err(SweepFault::Run(refused)),

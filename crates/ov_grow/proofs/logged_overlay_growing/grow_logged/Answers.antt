@@ -11,28 +11,33 @@ use Rattle.ov_grow.proofs.Crashing.{join_lives, join_made}
 use Rattle.ov_grow.proofs.logged_overlay_growing.grow_logged.Goals as goal
 
 pub returns-in_err-growing-clause-refused : goal.returns-in_err-growing-clause-refused
-returns-in_err-growing-clause-refused c = passes_on (IsGrowRefusalFrom (begins c.args.logged c.args.options.now) c.args.options.now) c.from_residual.result
+returns-in_err-growing-clause-refused c = passes_on (IsGrowRefusalFrom (begins c.args.logged c.args.options.now)
+    c.args.options.now) c.from_residual.result
     OutOfMemory c.from_residual.ensures.1 (record { full = inr (inr refl); reason = inl refl })
 
 pub returns-in_err-join-clause-refused : goal.returns-in_err-join-clause-refused
 returns-in_err-join-clause-refused c =
     let fault = c.in_err-join.field-0.0 in
-    passes_on (IsGrowRefusalFrom (begins c.args.logged c.args.options.now) c.args.options.now) c.from_residual-in_err-join.result fault
+    passes_on (IsGrowRefusalFrom (begins c.args.logged c.args.options.now) c.args.options.now)
+        c.from_residual-in_err-join.result fault
     c.from_residual-in_err-join.ensures.1
     (record {
       full = c.in_err-join.ensures.full;
-      reason = no_way_join (begins c.args.logged c.args.options.now) c.args.options.now c.in_ok-growing.growing fault c.in_ok-growing.ensures.begins
+      reason = no_way_join (begins c.args.logged c.args.options.now) c.args.options.now c.in_ok-growing.growing fault
+          c.in_ok-growing.ensures.begins
           c.in_err-join.ensures.refused;
     })
 
 pub returns-in_err-settled-clause-refused : goal.returns-in_err-settled-clause-refused
 returns-in_err-settled-clause-refused c =
     let fault = c.in_err-settled.field-0.0 in
-    passes_on (IsGrowRefusalFrom (begins c.args.logged c.args.options.now) c.args.options.now) c.from_residual-in_err-settled.result fault
+    passes_on (IsGrowRefusalFrom (begins c.args.logged c.args.options.now) c.args.options.now)
+        c.from_residual-in_err-settled.result fault
     c.from_residual-in_err-settled.ensures.1
     (record {
       full = c.in_err-settled.ensures.full;
-      reason = no_way_settling (begins c.args.logged c.args.options.now) c.args.options.now c.in_ok-growing.growing c.join.new.self fault
+      reason = no_way_settling (begins c.args.logged c.args.options.now) c.args.options.now c.in_ok-growing.growing
+          c.join.new.self fault
           c.in_ok-growing.ensures.begins
           c.in_ok-join.ensures.goes c.in_err-settled.ensures.refused;
     })
@@ -40,11 +45,13 @@ returns-in_err-settled-clause-refused c =
 pub returns-in_err-crashed-clause-refused : goal.returns-in_err-crashed-clause-refused
 returns-in_err-crashed-clause-refused c =
     let fault = c.in_err-crashed.field-0.0 in
-    passes_on (IsGrowRefusalFrom (begins c.args.logged c.args.options.now) c.args.options.now) c.from_residual-in_err-crashed.result fault
+    passes_on (IsGrowRefusalFrom (begins c.args.logged c.args.options.now) c.args.options.now)
+        c.from_residual-in_err-crashed.result fault
     c.from_residual-in_err-crashed.ensures.1
     (record {
       full = c.in_err-crashed.ensures.full;
-      reason = no_way_crashing (begins c.args.logged c.args.options.now) c.args.options.now c.in_ok-growing.growing c.join.new.self c.settle.new.self
+      reason = no_way_crashing (begins c.args.logged c.args.options.now) c.args.options.now c.in_ok-growing.growing
+          c.join.new.self c.settle.new.self
           c.in_ok-settled.settled fault c.in_ok-growing.ensures.begins c.in_ok-join.ensures.goes
           c.in_ok-settled.ensures.goes c.in_err-crashed.ensures.refused;
     })
@@ -52,11 +59,13 @@ returns-in_err-crashed-clause-refused c =
 pub returns-in_err-healed-clause-refused : goal.returns-in_err-healed-clause-refused
 returns-in_err-healed-clause-refused c =
     let fault = c.in_err-healed.field-0.0 in
-    passes_on (IsGrowRefusalFrom (begins c.args.logged c.args.options.now) c.args.options.now) c.from_residual-in_err-healed.result fault
+    passes_on (IsGrowRefusalFrom (begins c.args.logged c.args.options.now) c.args.options.now)
+        c.from_residual-in_err-healed.result fault
     c.from_residual-in_err-healed.ensures.1
     (record {
       full = c.in_err-healed.ensures.full;
-      reason = no_way_healing (begins c.args.logged c.args.options.now) c.args.options.now c.in_ok-growing.growing c.join.new.self c.settle.new.self
+      reason = no_way_healing (begins c.args.logged c.args.options.now) c.args.options.now c.in_ok-growing.growing
+          c.join.new.self c.settle.new.self
           c.crash.new.self
           c.in_ok-settled.settled c.in_ok-crashed.crashed fault c.in_ok-growing.ensures.begins c.in_ok-join.ensures.goes
           c.in_ok-settled.ensures.goes c.in_ok-crashed.ensures.goes c.in_err-healed.ensures.refused;

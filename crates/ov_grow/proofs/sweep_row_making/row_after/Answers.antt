@@ -1,5 +1,4 @@
-use Rattle.std.proofs.Common.{◌∙◌, sym, subst, ap}
-use Rattle.ov_graph.specs.Links.{LinkGraph}
+use Rattle.std.proofs.Common.{sym, subst}
 use Rattle.ov_grow.specs.Rows.{ArePhaseCosts, IsAsked, IsShapeOf}
 use Rattle.ov_grow.proofs.sweep_row_making.row_after.Goals as goal
 
@@ -12,7 +11,5 @@ returns-in-Some c = λ s are. record {
   costs = subst (λ x. IsAsked c.args.measures.costs (ArePhaseCosts s) x) (sym c.phase_row.ensures.costs)
       (c.in_ok-costs.ensures s are);
   shape = subst (λ x. IsAsked c.args.measures.shape (IsShapeOf c.in-Some.report.now.graph) x)
-      (sym c.phase_row.ensures.shape)
-      (subst (λ (g : LinkGraph). IsAsked c.args.measures.shape (IsShapeOf g) c.in_ok-shape.shape)
-      (c.graph.ensures ∙ ap (λ x. x.graph) c.checked.ensures) c.in_ok-shape.ensures);
+      (sym c.phase_row.ensures.shape) c.in_ok-shape.ensures;
 }
