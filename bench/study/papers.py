@@ -25,8 +25,8 @@ ROUNDS = range(5)
 LIGHT = ["#2c3e94", "#1d8aa8", "#2a9d8f", "#a08a00", "#d95f02", "#c0302a", "#7a1020"]
 DARK = ["#9db0ff", "#6fd0e8", "#6fd6c8", "#e0cf5a", "#ff9a52", "#ff8a80", "#ff6fa0"]
 # Messages that are told together: in figures, and in tables.
-PIECES = ((1, 1), (2, 2), (3, 4), (5, 8), (9, 14), (15, 20))
-OF_TABLE = ((1, 1), (2, 5), (6, 10), (11, 20), (41, 50), (191, 200))
+PIECES = ((1, 1), (2, 2), (3, 4), (5, 8), (9, 14), (15, 20), (21, 50), (51, 100), (101, 200), (201, 500), (501, 1000))
+OF_TABLE = ((1, 1), (2, 5), (6, 10), (11, 20), (41, 50), (91, 100), (191, 200), (491, 500), (991, 1000))
 OF_TREE = ((1, 1), (2, 2), (3, 10), (11, 20))
 PERCENT = Axis("", 0, 100, whole_numbers(0, 20, 40, 60, 80, 100))
 # What `simulate` has no part in: random graphs, in which each node has as many links.
@@ -110,16 +110,19 @@ def with_bars(panel, tone, points):
 def by_message():
     """The share of live nodes that deliver each message after a crash."""
     sent, told = (grouped(name, "refill", "crash") for name in ("papers-crash", "papers-told"))
-    across = Axis("message after the crash", 1, 20, whole_numbers(1, 2, 5, 10, 20), is_log=True)
+    # many messages were made where the first 20 do not tell how it ends
+    sent |= grouped("papers-crash-long", "refill", "crash")
+    across = Axis("message after the crash", 1, 1000, whole_numbers(1, 10, 100, 1000), is_log=True)
     panels = {
-        "% that deliver: never, found by sending": (sent, "never", 20),
-        "always, found by sending": (sent, "always", 20),
-        "always, everybody told before": (told, "always", 5),
+        "% that deliver: never, found by sending": (sent, "never"),
+        "always, found by sending": (sent, "always"),
+        "always, everybody told before": (told, "always"),
     }
 
     def points(at, crash):
-        found, rule, last = list(panels.values())[at]
-        return in_pieces(found[rule, crash], delivered, last)
+        found, rule = list(panels.values())[at]
+        some = found[rule, crash]
+        return in_pieces(some, delivered, max(int(row["number"]) for row in some))
 
     return panels_of_crashes(panels, across, points)
 
@@ -248,6 +251,7 @@ def tree_table():
 
 CRASH = {
     "papers-crash": ", found by sending",
+    "papers-crash-long": ", found by sending, more messages",
     "papers-passed": ", found by sending, and passed on to whoever is found",
     "papers-told": ", everybody told",
 }

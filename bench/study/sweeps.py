@@ -53,15 +53,17 @@ _TOLD = f"--flood --heal 0 --only heal {_ONE_BY_ONE} --messages"
 _TREE = "--nodes 10000 --refill always --order random,oldest --heal 0 --only settle --broadcasts 20"
 PAPERS = {
     "papers-shape": f"{_SHAPE} never,alone,always --rounds 0 --runs 5",
-    "papers-shape-fill": f"{_SHAPE} never,alone,always --rounds 3 --fill --runs 3",
-    "papers-shape-filled": f"{_SHAPE} alone --rounds 10 --fill --runs 3",
-    "papers-shape-contact": f"{_SHAPE} always --rounds 0 --one-contact --runs 3",
-    "papers-shape-oldest": f"{_SHAPE} always --rounds 0 --order oldest --runs 3",
-    "papers-crash": f"{_GROWN} never,always {_CRASHES} --flood {_AFTER} --broadcasts 20 --runs 3",
-    "papers-told": f"{_GROWN} never,always {_CRASHES} {_TOLD} --broadcasts 5 --runs 3",
+    "papers-shape-fill": f"{_SHAPE} never,alone,always --rounds 3 --fill --runs 5",
+    "papers-shape-filled": f"{_SHAPE} alone --rounds 10 --fill --runs 5",
+    "papers-shape-contact": f"{_SHAPE} always --rounds 0 --one-contact --runs 5",
+    "papers-shape-oldest": f"{_SHAPE} always --rounds 0 --order oldest --runs 5",
+    "papers-crash": f"{_GROWN} never,always {_CRASHES} --flood {_AFTER} --broadcasts 20 --runs 5",
+    "papers-crash-long": f"{_GROWN} never,always --grow-once --crash 50,70,80,90,95 --flood {_AFTER} --broadcasts 1000 "
+    "--runs 3",
+    "papers-told": f"{_GROWN} never,always {_CRASHES} {_TOLD} --broadcasts 5 --runs 5",
     "papers-told-250": "--nodes 250 --refill never,alone,always --crash 50,70,80,90,95 --heal 0 --broadcasts 5 "
     "--runs 20 --csv",
-    "papers-passed": f"{_GROWN} never,always {_CRASHES} --flood --pass-on {_AFTER} --broadcasts 20 --runs 2",
+    "papers-passed": f"{_GROWN} never,always {_CRASHES} --flood --pass-on {_AFTER} --broadcasts 20 --runs 5",
     "papers-varied": f"{_SMALLER} {_AFTER} --broadcasts 200 --flood --runs 5",
     "papers-varied-until": f"{_SMALLER} {_AFTER} --broadcasts 50 --flood --until-full --runs 5",
     "papers-varied-passed": f"{_SMALLER} {_AFTER} --broadcasts 50 --flood --pass-on --runs 5",
@@ -71,9 +73,9 @@ PAPERS = {
     "papers-varied-told": f"{_SMALLER} {_TOLD} --broadcasts 10 --runs 5",
     "papers-varied-at-once": f"{_SMALLER} {_TOLD} --broadcasts 10 --reports-at-once --runs 5",
     "papers-heal": f"{_GROWN} never,always {_CRASHES} --flood --detect --heal 4 --only heal --broadcasts 1 "
-    f"{_ONE_BY_ONE} --healing --runs 3",
-    "papers-one": f"{_TREE} --sender 1 {_ONE_BY_ONE} --messages --runs 3",
-    "papers-many": f"{_TREE} {_ONE_BY_ONE} --messages --runs 3",
+    f"{_ONE_BY_ONE} --healing --runs 5",
+    "papers-one": f"{_TREE} --sender 1 {_ONE_BY_ONE} --messages --runs 5",
+    "papers-many": f"{_TREE} {_ONE_BY_ONE} --messages --runs 5",
 }
 LARGE = ("large-100", "large-1000", "large-10000", "large-100000")
 # The same by each rule at DISCONNECT.

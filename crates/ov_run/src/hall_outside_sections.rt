@@ -20,9 +20,15 @@ use std::marker::Model;
 
 /// The hall of a run, in one hand. Contracts see the core that its log makes, and no driver: which driver did something
 /// is nothing to what a run prints.
-#[derive(Drop)]
 pub struct RunHall<N: HallName> {
     pub(crate) hall: Whole<N>,
+}
+
+impl<N: HallName> Drop for RunHall<N> {
+    /// Drops the parts. It is written by hand since a call is proved faster than the same drops at each exit.
+    fn drop(self) {
+        let RunHall { hall: _ } = self;
+    }
 }
 
 impl<N: HallName> Model for RunHall<N> {
