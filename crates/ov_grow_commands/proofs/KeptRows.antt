@@ -4,6 +4,7 @@ use Rattle.std.specs.Prelude.{IsTrue, Result, Ok, Err}
 use Rattle.ov_arguments.specs.declared.sweep_request.SweepRequest.{SweepRequest}
 use Rattle.ov_grow_options.specs.declared.options.GrowOptions.{GrowOptions}
 use Rattle.ov_net.proofs.Steps.Places.{at_has}
+use Rattle.ov_sweep_rows.specs.declared.costs_and_shape.Measures.{Measures}
 use Rattle.ov_sweep_rows.specs.declared.row.Row.{Row}
 use Rattle.ov_grow.specs.Rows.{IsRowOf}
 use Rattle.ov_grow.specs.Sweeps.{AreFirstRowsOf, EndsWith, IsSweepOf, WereTaken}
@@ -20,25 +21,26 @@ kept_all true false rows kept is taken = absurd taken
 kept_all false also rows kept is taken = absurd (let e : false ≡ true = is in cc)
 
 -- rows of runs are those of the options that they name
-named : (runs : List GrowOptions) (rows : List Row) → AreFirstRowsOf runs rows → AreGrown rows
-named runs rows are row has =
+named : (m : Measures) (runs : List GrowOptions) (rows : List Row) → AreFirstRowsOf m runs rows → AreGrown m rows
+named m runs rows are row has =
     let place = at_has rows row has in
     let (o, at, is, none) = are place.0 row place.1 in
-    subst (λ (x : GrowOptions). IsRowOf x row) (sym is.options) is
+    subst (λ (x : GrowOptions). IsRowOf m x row) (sym is.options) is
 
 -- however a sweep ended, the rows that were to be taken are those of its first runs
-first_rows : (runs : List GrowOptions) (rows : List Row) (done : Result (Unit {0}) SweepFault) → EndsWith runs rows done
-    → AreFirstRowsOf runs rows
-first_rows runs rows (Ok done) are = are.each
-first_rows runs rows (Err (Run refused)) are = are.each
-first_rows runs rows (Err Write) are = are
-first_rows runs rows (Err OutOfMemory) are = are
+first_rows : (m : Measures) (runs : List GrowOptions) (rows : List Row) (done : Result (Unit {0}) SweepFault)
+    → EndsWith m runs rows done → AreFirstRowsOf m runs rows
+first_rows m runs rows (Ok done) are = are.each
+first_rows m runs rows (Err (Run refused)) are = are.each
+first_rows m runs rows (Err Write) are = are
+first_rows m runs rows (Err OutOfMemory) are = are
 
 -- after a sweep each row that was kept is that of the options that it names
-pub kept_grown : {I : Type 0} (gives : I → Option GrowOptions → I → Type 0) (it : I) (before after : SweepRequest)
-    (kept : List Row) (opening : Option (List Row)) (done : Result (Unit {0}) SweepFault) → IsTrue (needs_rows before)
-    → opening ≡ kept_rows before [] → IsSweepOf gives it opening (kept_rows after kept) done → AreGrown kept
-kept_grown gives it before after kept opening done needed same (runs, gave, (rows, are, taken)) =
-    subst AreGrown (sym (kept_all (needs_rows before) (needs_rows after) rows kept needed
+pub kept_grown : {I : Type 0} (m : Measures) (gives : I → Option GrowOptions → I → Type 0) (it : I)
+    (before after : SweepRequest) (kept : List Row) (opening : Option (List Row))
+    (done : Result (Unit {0}) SweepFault) → IsTrue (needs_rows before) → opening ≡ kept_rows before []
+    → IsSweepOf m gives it opening (kept_rows after kept) done → AreGrown m kept
+kept_grown m gives it before after kept opening done needed same (runs, gave, (rows, are, taken)) =
+    subst (AreGrown m) (sym (kept_all (needs_rows before) (needs_rows after) rows kept needed
     (subst (λ (o : Option (List Row)). WereTaken rows o (kept_rows after kept)) same taken)))
-    (named runs rows (first_rows runs rows done are))
+    (named m runs rows (first_rows m runs rows done are))

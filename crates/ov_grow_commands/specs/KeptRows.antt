@@ -5,6 +5,7 @@ use Rattle.ov_arguments.specs.declared.sweep_request.Printed.TheVariants.{Answer
 use Rattle.ov_arguments.specs.declared.sweep_request.SweepRequest.{SweepRequest}
 use Rattle.ov_ids.specs.Members.{Has}
 use Rattle.ov_grow.specs.Rows.{IsRowOf}
+use Rattle.ov_sweep_rows.specs.declared.costs_and_shape.Measures.{Measures}
 use Rattle.ov_sweep_rows.specs.declared.row.Row.{Row}
 
 -- what is printed is told of all rows together: a summary, or an answer
@@ -17,6 +18,10 @@ is_of_all other = false
 abbrev pub needs_rows : SweepRequest → Bool
 needs_rows request = is_of_all request.printed || is_some request.svg
 
--- each of these rows is that of the options that it names
-abbrev pub AreGrown : List Row → Type 0
-AreGrown rows = (row : Row) → Has rows row → IsRowOf row.options row
+-- what is measured beside the numbers that each row has: the costs, the shapes, as they are asked for
+abbrev pub asked_measures : SweepRequest → Measures
+asked_measures request = record { costs = request.costs; shape = request.shape }
+
+-- each of these rows is that of the options that it names, with what is measured
+abbrev pub AreGrown : Measures → List Row → Type 0
+AreGrown m rows = (row : Row) → Has rows row → IsRowOf m row.options row

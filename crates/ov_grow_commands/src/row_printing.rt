@@ -1,6 +1,6 @@
 ghost use Rattle.std.specs.Prelude.{◌≡◌, [], IfErr};
 ghost use Rattle.ov_grow.specs.Sweeps.{WereGiven};
-ghost use Rattle.ov_grow_commands.specs.KeptRows.{needs_rows};
+ghost use Rattle.ov_grow_commands.specs.KeptRows.{asked_measures, needs_rows};
 ghost use Rattle.ov_grow_commands.specs.Code.Keeping.{IsOfNoRun, kept_rows};
 
 use crate::sweep_progress::RunProgress;
@@ -21,7 +21,9 @@ pub(crate) struct RowPrinter<'a> {
 }
 
 /// What is measured beside the numbers that each row has.
-pub(crate) fn measures_asked(request: &SweepRequest) -> Measures {
+pub(crate) fn measures_asked(request: &SweepRequest) -> Measures
+    ensures { result ≡ asked_measures request.now }
+{
     Measures {
         costs: request.costs,
         shape: request.shape,

@@ -1,5 +1,5 @@
 ghost use Rattle.std.specs.Prelude.{IsTrue};
-ghost use Rattle.ov_grow_commands.specs.KeptRows.{AreGrown, needs_rows};
+ghost use Rattle.ov_grow_commands.specs.KeptRows.{AreGrown, asked_measures, needs_rows};
 
 use crate::grow_command::{print_refusal, told};
 use crate::grow_command_fault::GrowthFault;
@@ -123,7 +123,7 @@ struct Swept {
 /// Grows the overlays of a sweep, and prints their rows, unless a summary or an answer is asked for. The rows are
 /// returned if they are needed at the end.
 fn rows_swept<T: Threads + Sync>(rt: &HostRuntime, threads: &T, request: &SweepRequest) -> Swept
-    ensures { IsTrue (needs_rows request.now) → AreGrown result.rows.items }
+    ensures { IsTrue (needs_rows request.now) → AreGrown (asked_measures request.now) result.rows.items }
 {
     let mut printer = RowPrinter::new(rt, request);
     if let Err(fault) = printer.print_header() {

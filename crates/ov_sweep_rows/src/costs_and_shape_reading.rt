@@ -88,7 +88,7 @@ fn decimals_at(fields: &RowFields<'_>, place: usize) -> Result<FourDecimals, Row
     ensures fault { IfErr result (IsFieldFault (fields_of fields.now.record.now)) }
     ensures value { IfOk result (λ decimals. SpellsParts (text_at (fields_of fields.now.record.now) place) decimals.parts) }
 {
-    match FourDecimals::read(fields.text(place)) {
+    match fields.decimals(place) {
         Some(decimals) => Ok(decimals),
         None => Err(fields.fault(place, FieldForm::Decimals)),
     }
@@ -101,11 +101,10 @@ fn decimals_or_nothing(
     ensures fault { IfErr result (IsFieldFault (fields_of fields.now.record.now)) }
     ensures value { IfOk result (SpellsDecimals (text_at (fields_of fields.now.record.now) place)) }
 {
-    let text = fields.text(place);
-    if text.is_empty() {
+    if fields.text(place).is_empty() {
         return Ok(None);
     }
-    match FourDecimals::read(text) {
+    match fields.decimals(place) {
         Some(decimals) => Ok(Some(decimals)),
         None => Err(fields.fault(place, FieldForm::DecimalsOrNothing)),
     }

@@ -2,10 +2,10 @@ ghost use Rattle.std.specs.Prelude.{◌≡◌, ◌<◌, ◌^◌, IfErr, IfNone, 
 ghost use Rattle.csv.specs.Records.{fields_of};
 ghost use Rattle.ov_sweep_rows.specs.Fields.{text_at};
 ghost use Rattle.ov_sweep_rows.specs.Refusals.{IsFieldFault, SpellsNone};
-ghost use Rattle.ov_sweep_rows.specs.RowTexts.{Spells};
+ghost use Rattle.ov_sweep_rows.specs.RowTexts.{Spells, SpellsNoParts, SpellsParts};
 ghost use Rattle.ov_sweep_rows.specs.declared.row_fault.RowFault.TheVariants.{Field};
 
-use crate::{FieldFault, FieldForm, RowFault, RowForm};
+use crate::{FieldFault, FieldForm, FourDecimals, RowFault, RowForm};
 use csv::ByteRecord;
 use ov_lines::read_number;
 
@@ -51,6 +51,16 @@ impl<'a> RowFields<'a> {
             Some(number) => Ok(number),
             None => Err(self.fault(place, FieldForm::Number)),
         }
+    }
+
+    /// The number with four decimal digits in the column at this place, if there is one of 64 bits.
+    pub(crate) fn decimals(&self, place: usize) -> Option<FourDecimals>
+        ensures some { IfSome result
+            (λ number. SpellsParts (text_at (fields_of self.now.record.now) place) number.parts) }
+        ensures none { IfNone result
+            (SpellsNoParts (text_at (fields_of self.now.record.now) place) (λ parts. parts < 2 ^ 64)) }
+    {
+        FourDecimals::read(self.text(place))
     }
 }
 

@@ -1,5 +1,4 @@
-ghost use Rattle.std.specs.Prelude.{◌≡◌, ◌≢◌, ◌*◌, ◌/◌, ◌<◌, ◌^◌, IfSome, IfNone};
-ghost use Rattle.ov_sweep_rows.specs.RowTexts.{SpellsNoParts, SpellsParts};
+ghost use Rattle.std.specs.Prelude.{◌≡◌, ◌≢◌, ◌*◌, ◌/◌, IfSome, IfNone};
 
 use crate::FourDecimals;
 use std::fmt::{Display, Formatter, Result, Write};
@@ -29,20 +28,6 @@ impl DeliveredShare {
         Some(DeliveredShare {
             parts: u64::from(deliveries) * DeliveredShare::WHOLE / most,
         })
-    }
-
-    /// The share that a text spells, a number with four decimal digits. None is returned if it spells none, or one past
-    /// 64 bits.
-    pub fn read(text: &[u8]) -> Option<DeliveredShare>
-        ensures some { IfSome result (λ share. SpellsParts text.now share.parts) }
-        ensures none { IfNone result (SpellsNoParts text.now (λ parts. parts < 2 ^ 64)) }
-    {
-        match FourDecimals::read(text) {
-            Some(number) => Some(DeliveredShare {
-                parts: number.parts,
-            }),
-            None => None,
-        }
     }
 }
 

@@ -429,12 +429,11 @@ fn delivered_at(fields: &RowFields<'_>, place: usize) -> Result<Option<Delivered
     ensures fault { IfErr result (IsFieldFault (fields_of fields.now.record.now)) }
     ensures value { IfOk result (SpellsDelivered (text_at (fields_of fields.now.record.now) place)) }
 {
-    let text = fields.text(place);
-    if text.is_empty() {
+    if fields.text(place).is_empty() {
         return Ok(None);
     }
-    match DeliveredShare::read(text) {
-        Some(share) => Ok(Some(share)),
+    match fields.decimals(place) {
+        Some(share) => Ok(Some(DeliveredShare { parts: share.parts })),
         None => Err(fields.fault(place, FieldForm::DecimalsOrNothing)),
     }
 }
