@@ -1,4 +1,4 @@
-ghost use Rattle.std.specs.Prelude.{IfErr, IfOk};
+ghost use Rattle.std.specs.Prelude.{◌≡◌, IfErr, IfOk};
 ghost use Rattle.ov_snap.specs.CoreState.{HasReportOfAll};
 ghost use Rattle.ov_snap.specs.ReportState.{ReportState};
 ghost use Rattle.ov_grow.specs.Replay.{Replays};
@@ -34,6 +34,21 @@ impl Drop for LoggedGrowth {
             crash_costs: _,
             heal_costs: _,
         } = self;
+    }
+}
+
+impl LoggedGrowth {
+    /// The overlay alone.
+    pub(crate) fn into_grown(self) -> Grown
+        ensures { result ≡ self.grown }
+    {
+        let LoggedGrowth {
+            grown,
+            settle_costs: _,
+            crash_costs: _,
+            heal_costs: _,
+        } = self;
+        grown
     }
 }
 

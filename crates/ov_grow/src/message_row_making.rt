@@ -61,7 +61,7 @@ fn push_rows(
 fn push_row(rows: &mut Vec<MessageRow>, row: MessageRow) -> Result<(), OutOfMemory>
     ensures { OnOk result (rows.new.items ≡ rows.old.items ++ row ∷ []) }
 {
-    rows.push(row)?;
+    rows.extend_from_slice(&[row])?;
     Ok(())
 }
 

@@ -5,7 +5,7 @@ ghost use Rattle.ov_grow.specs.Replay.{Replays};
 ghost use Rattle.ov_grow.specs.Growing.{Grows, IsGrowRefusal};
 
 use crate::fault::GrowFault;
-use crate::logged_overlay_growing::{LoggedGrowth, grow_logged};
+use crate::logged_overlay_growing::grow_logged;
 use crate::phase_moment_and_deliveries::Phase;
 use ov_grow_options::GrowOptions;
 use ov_snap::Core;
@@ -56,11 +56,5 @@ pub fn grow(alloc: Global, options: &GrowOptions) -> Result<Grown, GrowFault>
     ensures refused { IfErr result (IsGrowRefusal options.now) }
 {
     let logged = grow_logged(alloc, options, false)?;
-    let LoggedGrowth {
-        grown,
-        settle_costs: _,
-        crash_costs: _,
-        heal_costs: _,
-    } = logged;
-    Ok(grown)
+    Ok(logged.into_grown())
 }
