@@ -1,5 +1,5 @@
 -- What an analysis is to growing.
-use Rattle.std.proofs.Common.{◌≡◌, ℕ, List, [], ◌∷◌, ◌++◌, length, refl, sym, ap, subst, ◌∙◌}
+use Rattle.std.proofs.Common.{◌≡◌, ℕ, List, [], ◌∷◌, length, refl, sym, ap, subst}
 use Rattle.std.proofs.Common.{inl}
 use Rattle.ov_ids.specs.Members.{Has}
 use Rattle.ov_ids.specs.FaultOrder.{HoldsThen, Passed}
@@ -17,7 +17,7 @@ use Rattle.ov_run_meaning.specs.Subjects.{IsReported, WasAnalysed}
 use Rattle.ov_scenario.specs.declared.scenario.Line.{Line}
 use Rattle.ov_peer.specs.PeerState.{PeerState}
 use Rattle.ov_net.specs.Net.{LivesAs}
-use Rattle.ov_grow.specs.WrittenLines.{analysis_line, ended}
+use Rattle.ov_grow.specs.WrittenLines.{analysis_line}
 use Rattle.ov_grow.specs.Recordings.{HasOneLineMore, all_of}
 use Rattle.ov_grow.specs.Growth.{Growth, SomebodyLives, Writes}
 use Rattle.ov_grow.specs.Phases.{IsCutAt, cut_of}

@@ -1,5 +1,5 @@
 -- What is asked for is told.
-use Rattle.std.proofs.Common.{◌≡◌, Bool, true, false, Option, Some, None, refl}
+use Rattle.std.proofs.Common.{◌≡◌, Bool, true, false, Some, None, refl}
 use Rattle.ov_grow.specs.Rows.{IsAsked}
 
 -- it is not asked for

@@ -129,8 +129,11 @@ swept_until : (m : Measures) (runs : List GrowOptions) (rows : List Row) (refuse
     → AreSwept m runs old new (Err fault)
 swept_until m runs rows refused old new (Run run) are given = absurd given
 swept_until m runs rows refused old new Write are (n, taken) = (take n rows, rows_first m runs rows n are.each, taken)
-swept_until m runs rows refused old new OutOfMemory are (n, taken) = (take n rows, rows_first m runs rows n are.each,
-    taken)
+swept_until m runs rows refused old new OutOfMemory are (n, taken) = (
+  take n rows,
+  rows_first m runs rows n are.each,
+  taken,
+)
 
 -- and the batch ends with that fault
 pub swept_fault : (m : Measures) (runs : List GrowOptions) (rows given : List Row) (refused : Option RefusedRun)

@@ -83,5 +83,5 @@ no_way_healing from o b s t v p q fault begins joins settles crashes (inr none) 
       healed,
       subst (λ g. Heal o g healed grows.u)
           (same_crashed from o b s t v p q text world settled crashed healed begins joins settles crashes grows)
-              grows.heal,
+          grows.heal,
     ))

@@ -3,7 +3,7 @@ use Rattle.std.proofs.Common.{◌≡◌, ◌∙◌, ◌<◌, ◌≤◌, ◌+◌,
 use Rattle.std.proofs.Common.{Option, Some, None, refl, sym, ap, ap₂, subst, arith, inl, inr}
 use Rattle.std.specs.Prelude.{nat_lt, option_map}
 use Rattle.std.specs.List.{sum_by}
-use Rattle.std.specs.List.Sorted.{IsNonDecreasing, IsPermutation}
+use Rattle.std.specs.List.Sorted.{IsNonDecreasing}
 use Rattle.std.proofs.lemmas.Bool.{cases_lt, lt-ltb, le-ltb}
 use Rattle.std.proofs.lemmas.Grind.{same_number_lists}
 use Rattle.std.proofs.lemmas.List.Sorted.{sum_by-IsPermutation}
@@ -11,7 +11,7 @@ use Rattle.std.proofs.lemmas.List.Sums.{sum_by-cons}
 use Rattle.ov_ids.proofs.Members.{same_ascending}
 use Rattle.ov_graph.specs.Links.{LinkGraph, AreNeighbours}
 use Rattle.ov_graph.specs.Paths.{node_at}
-use Rattle.ov_shape.specs.Clustering.{AreCommon, HaveCommon, IsClustering, IsCoefficient, share_of_pairs}
+use Rattle.ov_shape.specs.Clustering.{HaveCommon, IsClustering, IsCoefficient, share_of_pairs}
 use Rattle.ov_shape.specs.Components.{HasLargest, IsComponent, IsLargest}
 use Rattle.ov_shape.specs.Degrees.{AreAscendingDegrees, AreDegrees, IsDegree, IsQuartile, quarters}
 use Rattle.ov_shape.specs.Distances.{IsDistance}

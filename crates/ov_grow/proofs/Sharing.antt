@@ -26,7 +26,7 @@ snoc_cases (z ∷ xs) x y (suc i) e = elim (snoc_cases xs x y i e) [ inl k ↦ i
 -- one run more was done
 pub apart_more :
     (m : Measures) (batch : List GrowOptions) (first apart place : ℕ) (share : List Outcome) (x : Outcome) (o :
-        GrowOptions)
+    GrowOptions)
     → AreApart m batch first apart share → place ≡ first + length share * apart → slice_get batch place ≡ Some o
     → IfOk x (λ row. IsRowOf m o row) → IfErr x (IsRunRefusal m o) → AreApart m batch first apart (share ++ x ∷ [])
 apart_more m batch first apart place share x o are at read is refused j y e = elim (snoc_cases share x y j e) [

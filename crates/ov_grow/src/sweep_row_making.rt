@@ -50,8 +50,20 @@ fn row_told(
     let grown = &logged.grown;
     let core = &grown.core;
     let broadcasts = options.broadcasts.count();
-    let settle = row_after(core, grown.settled, broadcasts, measures, &logged.settle_costs)?;
-    let crash = row_after(core, grown.crashed, broadcasts, measures, &logged.crash_costs)?;
+    let settle = row_after(
+        core,
+        grown.settled,
+        broadcasts,
+        measures,
+        &logged.settle_costs,
+    )?;
+    let crash = row_after(
+        core,
+        grown.crashed,
+        broadcasts,
+        measures,
+        &logged.crash_costs,
+    )?;
     let heal = row_after(core, grown.healed, broadcasts, measures, &logged.heal_costs)?;
     Ok(Row {
         options: *options,

@@ -7,7 +7,7 @@ use Rattle.ov_plum.specs.Ids.{id_cmp}
 use Rattle.ov_net.specs.Net.{Net}
 use Rattle.ov_grow.specs.MessageCosts.{is_gossip, is_graft, is_ihave, round_at, same_id}
 use Rattle.ov_grow.specs.declared.broadcast_log.Mark.{Mark}
-use Rattle.ov_grow.specs.declared.broadcast_log.Mark.TheVariants.{Made, Gossip, Ihave, Graft, Prune}
+use Rattle.ov_grow.specs.declared.broadcast_log.Mark.TheVariants.{Made, Prune}
 use Rattle.ov_grow.specs.declared.message_cost.CountedKind.{CountedKind}
 use Rattle.ov_grow.specs.declared.message_cost.CountedKind.TheVariants as kind
 use Rattle.ov_grow.specs.declared.message_cost.MessageCost.{MessageCost}

@@ -19,7 +19,7 @@ pub returns-in_err-join-clause-refused : goal.returns-in_err-join-clause-refused
 returns-in_err-join-clause-refused c =
     let fault = c.in_err-join.field-0.0 in
     passes_on (IsGrowRefusalFrom (begins c.args.logged c.args.options.now) c.args.options.now)
-        c.from_residual-in_err-join.result fault
+    c.from_residual-in_err-join.result fault
     c.from_residual-in_err-join.ensures.1
     (record {
       full = c.in_err-join.ensures.full;
@@ -32,7 +32,7 @@ pub returns-in_err-settled-clause-refused : goal.returns-in_err-settled-clause-r
 returns-in_err-settled-clause-refused c =
     let fault = c.in_err-settled.field-0.0 in
     passes_on (IsGrowRefusalFrom (begins c.args.logged c.args.options.now) c.args.options.now)
-        c.from_residual-in_err-settled.result fault
+    c.from_residual-in_err-settled.result fault
     c.from_residual-in_err-settled.ensures.1
     (record {
       full = c.in_err-settled.ensures.full;
@@ -46,7 +46,7 @@ pub returns-in_err-crashed-clause-refused : goal.returns-in_err-crashed-clause-r
 returns-in_err-crashed-clause-refused c =
     let fault = c.in_err-crashed.field-0.0 in
     passes_on (IsGrowRefusalFrom (begins c.args.logged c.args.options.now) c.args.options.now)
-        c.from_residual-in_err-crashed.result fault
+    c.from_residual-in_err-crashed.result fault
     c.from_residual-in_err-crashed.ensures.1
     (record {
       full = c.in_err-crashed.ensures.full;
@@ -60,7 +60,7 @@ pub returns-in_err-healed-clause-refused : goal.returns-in_err-healed-clause-ref
 returns-in_err-healed-clause-refused c =
     let fault = c.in_err-healed.field-0.0 in
     passes_on (IsGrowRefusalFrom (begins c.args.logged c.args.options.now) c.args.options.now)
-        c.from_residual-in_err-healed.result fault
+    c.from_residual-in_err-healed.result fault
     c.from_residual-in_err-healed.ensures.1
     (record {
       full = c.in_err-healed.ensures.full;

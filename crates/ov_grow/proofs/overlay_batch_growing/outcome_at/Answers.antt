@@ -8,10 +8,10 @@ pub index-requires : goal.index-requires
 index-requires c =
     let shares = c.args.shares.now in
     let is = has_outcome c.args.measures c.args.batch.now shares c.args.place c.in-Ok.share c.requires.shares
-        c.requires.some
+    c.requires.some
     c.requires.place (search rules) in
     let there = outcome_there c.args.measures c.args.batch.now (length shares) c.args.place c.in-Ok.share.items is
-        c.requires.place in
+    c.requires.place in
     let len = c.in-Ok.share.ok.0 in
     omega (arith, there, len)
 
@@ -19,7 +19,7 @@ pub returns-in-Ok : goal.returns-in-Ok
 returns-in-Ok c =
     let shares = c.args.shares.now in
     let is = has_outcome c.args.measures c.args.batch.now shares c.args.place c.in-Ok.share c.requires.shares
-        c.requires.some
+    c.requires.some
     c.requires.place (search rules) in
     let items = c.in-Ok.share.items in
     let there = outcome_there c.args.measures c.args.batch.now (length shares) c.args.place items is c.requires.place in

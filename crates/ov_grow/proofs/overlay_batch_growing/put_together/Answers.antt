@@ -31,6 +31,6 @@ returns-in-Err c =
         subst (λ (n : ℕ). slice_get batch n ≡ Some c.index-batch-place.result) (sym i.count) read,
         refused_here c.args.measures batch c.loop-place.place c.index-batch-place.result c.in-Err.fault read
             (subst (λ (x : Outcome). IsOutcomeAt c.args.measures batch c.loop-place.place x) c.in-Err.is
-                c.in_ok-row.ensures),
+            c.in_ok-row.ensures),
       );
     }

@@ -21,7 +21,7 @@ returns-in_err-push g c =
     let old = g.T.RowTaker.taken c.args.taker.now in
     let new = g.T.RowTaker.taken c.loop-options.taker in
     ended g.I.Iterator.next_gives c.args.measures c.args.runs c.into_iter-options-iterator.result
-        c.loop-options.options-iterator runs
+    c.loop-options.options-iterator runs
     old new c.from_residual.result OutOfMemory c.into_iter-options-iterator.ensures.into_iter_gives
     c.loop-options.yielded_by
     (swept_short c.args.measures i.0 c.loop-options.batch.items runs old new i.1 i.2) c.from_residual.ensures.1
@@ -40,10 +40,10 @@ returns-in_err-sweep_batch g c =
     let parts = one_more i.0 c.loop-options.batch.items c.push.new.self.items c.deref.result.now runs o i.1
     c.in_ok-push.ensures.items c.deref.ensures.value in
     ended g.I.Iterator.next_gives c.args.measures c.args.runs c.into_iter-options-iterator.result c.next.new.self
-        (runs ++ o ∷ []) old
+    (runs ++ o ∷ []) old
     new c.from_residual-in_err-sweep_batch.result fault c.into_iter-options-iterator.ensures.into_iter_gives got
     (swept_more c.args.measures i.0 c.deref.result.now (runs ++ o ∷ []) old mid new (Err fault) parts i.2
-        c.in_err-sweep_batch.ensures)
+    c.in_err-sweep_batch.ensures)
     c.from_residual-in_err-sweep_batch.ensures.1
 
 pub loop-options-preserved-then-len-size : goal.loop-options-preserved-then-len-size
@@ -74,7 +74,7 @@ returns g c =
     let new = g.T.RowTaker.taken c.sweep_batch-2.new.taker in
     let result = c.sweep_batch-2.result in
     ended_at g.I.Iterator.next_gives c.args.measures c.args.runs c.into_iter-options-iterator.result
-        c.loop-options.options-iterator
+    c.loop-options.options-iterator
     c.next.new.self runs old new result c.into_iter-options-iterator.ensures.into_iter_gives c.loop-options.yielded_by
     c.in-None.ensures.steps
     (swept_more c.args.measures i.0 c.deref-2.result.now runs old mid new result
