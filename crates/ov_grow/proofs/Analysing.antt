@@ -1,5 +1,5 @@
 -- What an analysis is to growing.
-use Rattle.std.proofs.Common.{◌≡◌, ℕ, List, [], ◌∷◌, ◌++◌, length, refl, sym, ap, ap₂, subst, ◌∙◌}
+use Rattle.std.proofs.Common.{◌≡◌, ℕ, List, [], ◌∷◌, length, refl, sym, ap, subst}
 use Rattle.std.proofs.Common.{inl}
 use Rattle.ov_ids.specs.Members.{Has}
 use Rattle.ov_ids.specs.FaultOrder.{HoldsThen, Passed}
@@ -17,23 +17,26 @@ use Rattle.ov_run_meaning.specs.Subjects.{IsReported, WasAnalysed}
 use Rattle.ov_scenario.specs.declared.scenario.Line.{Line}
 use Rattle.ov_peer.specs.PeerState.{PeerState}
 use Rattle.ov_net.specs.Net.{LivesAs}
-use Rattle.ov_grow.specs.WrittenLines.{analysis_line, ended}
+use Rattle.ov_grow.specs.WrittenLines.{analysis_line}
 use Rattle.ov_grow.specs.Recordings.{HasOneLineMore, all_of}
 use Rattle.ov_grow.specs.Growth.{Growth, SomebodyLives, Writes}
 use Rattle.ov_grow.specs.Phases.{IsCutAt, cut_of}
+use Rattle.ov_grow.specs.Code.Logging.{log_of}
 use Rattle.ov_grow.specs.Code.Standing.{Goes, IsAnswered, growth_of}
 use Rattle.ov_grow.specs.declared.growth_in_progress.Growing.{Growing}
 
 -- an analysis was filed and written
-pub analysis_goes : (b u : Growing) (m : ℕ) (r : ReportState) (asked : Line) → u.choices ≡ b.choices
+pub analysis_goes : (b u : Growing) (m : ℕ) (r : ReportState) (asked : Line) → u.choices ≡ b.choices → u.log ≡ b.log
     → WasAnalysed b.recording.core (all_of m) r u.recording.core
     → HasOneLineMore b.recording.script (analysis_line m) asked u.recording.script
     → Goes (λ s v. Writes s (analysis_line m) v) b u
-analysis_goes b u m r asked choices analysed written = record {
-  way =
-      ap (λ t. record { text = t; world = u.recording.core.world; choices = u.choices }) written.text
-      ∙ ap₂ (λ w c. record { text = (growth_of b).text ++ ended (analysis_line m); world = w; choices = c })
-      (ap (λ x. x.world) analysed.filed.reports) choices;
+analysis_goes b u m r asked choices log analysed written = record {
+  way = λ i. record {
+    text = written.text i;
+    world = (ap (λ x. x.world) analysed.filed.reports) i;
+    choices = choices i;
+    log = (ap (λ l. log_of l) log) i;
+  };
   kept = (r ∷ [], ap (λ x. x.reports) analysed.filed.reports);
 }
 

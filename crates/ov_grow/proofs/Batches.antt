@@ -10,6 +10,7 @@ use Rattle.std.proofs.lemmas.Option.{none-some}
 use Rattle.ov_even.proofs.PieceOrder.InOrder.{at_left, at_right}
 use Rattle.ov_grow_options.specs.declared.options.GrowOptions.{GrowOptions}
 use Rattle.ov_net.proofs.Steps.Places.{at_prefix}
+use Rattle.ov_sweep_rows.specs.declared.costs_and_shape.Measures.{Measures}
 use Rattle.ov_sweep_rows.specs.declared.row.Row.{Row}
 use Rattle.ov_grow.specs.Sweeps.{AreFirstRowsOf, AreRowsOf, EndsAt, IsOutcomeAt, IsSweepOf, AreSwept, WereGiven}
 use Rattle.ov_grow.specs.Sweeps.{WereTaken}
@@ -19,36 +20,38 @@ use Rattle.ov_grow.specs.declared.sweep_fault.SweepFault.{SweepFault}
 use Rattle.ov_grow.specs.declared.sweep_fault.SweepFault.TheVariants.{Run, Write, OutOfMemory}
 
 -- what came of a run, if more runs stand behind it
-outcome_before : (runs later : List GrowOptions) (i : ℕ) (x : Result Row GrowFault) → IsOutcomeAt runs i x
-    → IsOutcomeAt (runs ++ later) i x
-outcome_before runs later i x (o, read, is, refused) = (o, at_prefix runs later i o read, is, refused)
+outcome_before : (m : Measures) (runs later : List GrowOptions) (i : ℕ) (x : Result Row GrowFault)
+    → IsOutcomeAt m runs i x
+    → IsOutcomeAt m (runs ++ later) i x
+outcome_before m runs later i x (o, read, is, refused) = (o, at_prefix runs later i o read, is, refused)
 
 -- and if more runs stand before it
-outcome_behind : (earlier runs : List GrowOptions) (i j : ℕ) (x : Result Row GrowFault) → i ≡ length earlier + j
-    → IsOutcomeAt runs j x → IsOutcomeAt (earlier ++ runs) i x
-outcome_behind earlier runs i j x at (o, read, is, refused) = (o, at_right earlier runs i j at ∙ read, is, refused)
+outcome_behind : (m : Measures) (earlier runs : List GrowOptions) (i j : ℕ) (x : Result Row GrowFault)
+    → i ≡ length earlier + j
+    → IsOutcomeAt m runs j x → IsOutcomeAt m (earlier ++ runs) i x
+outcome_behind m earlier runs i j x at (o, read, is, refused) = (o, at_right earlier runs i j at ∙ read, is, refused)
 
 -- the rows of some first runs are so if more runs stand behind these
-pub rows_before : (runs later : List GrowOptions) (rows : List Row) → AreFirstRowsOf runs rows
-    → AreFirstRowsOf (runs ++ later) rows
-rows_before runs later rows are i row at = outcome_before runs later i (Ok row) (are i row at)
+pub rows_before : (m : Measures) (runs later : List GrowOptions) (rows : List Row) → AreFirstRowsOf m runs rows
+    → AreFirstRowsOf m (runs ++ later) rows
+rows_before m runs later rows are i row at = outcome_before m runs later i (Ok row) (are i row at)
 
 -- the rows of runs, and then those of the runs behind them
-rows_more : (runs later : List GrowOptions) (rows more : List Row) → length rows ≡ length runs
-    → AreFirstRowsOf runs rows → AreFirstRowsOf later more → AreFirstRowsOf (runs ++ later) (rows ++ more)
-rows_more runs later rows more count are behind i row at = elim (cases_lt i (length rows)) [
-  | inl low ↦ outcome_before runs later i (Ok row) (are i row (sym (at_left rows more i low) ∙ at))
+rows_more : (m : Measures) (runs later : List GrowOptions) (rows more : List Row) → length rows ≡ length runs
+    → AreFirstRowsOf m runs rows → AreFirstRowsOf m later more → AreFirstRowsOf m (runs ++ later) (rows ++ more)
+rows_more m runs later rows more count are behind i row at = elim (cases_lt i (length rows)) [
+  | inl low ↦ outcome_before m runs later i (Ok row) (are i row (sym (at_left rows more i low) ∙ at))
   | inr high ↦
       (let place : i ≡ length rows + (i - length rows) = omega (arith, high) in
-      outcome_behind runs later i (i - length rows) (Ok row) (omega (arith, count, high))
+      outcome_behind m runs later i (i - length rows) (Ok row) (omega (arith, count, high))
       (behind (i - length rows) row (sym (at_right rows more i (i - length rows) place) ∙ at)))
 ]
 
-ends_more : (runs later : List GrowOptions) (rows more : List Row) (refused : Option RefusedRun)
-    → length rows ≡ length runs → EndsAt later more refused → EndsAt (runs ++ later) (rows ++ more) refused
-ends_more runs later rows more None count ends =
+ends_more : (m : Measures) (runs later : List GrowOptions) (rows more : List Row) (refused : Option RefusedRun)
+    → length rows ≡ length runs → EndsAt m later more refused → EndsAt m (runs ++ later) (rows ++ more) refused
+ends_more m runs later rows more None count ends =
     length-append rows more ∙ (ap₂ (λ a b. a + b) count ends ∙ sym (length-append runs later))
-ends_more runs later rows more (Some refused) count (at, is) = (
+ends_more m runs later rows more (Some refused) count (at, is) = (
   at_right runs later (length (rows ++ more)) (length more)
       (length-append rows more ∙ ap (λ n. n + length more) count) ∙ at,
   is,
@@ -69,72 +72,78 @@ taken_more rows more (Some old) (Some mid) (Some new) taken then =
     then ∙ (ap (λ xs. xs ++ more) taken ∙ append_assoc old rows more)
 
 -- a sweep of no runs
-pub swept_none : (old : Option (List Row)) → AreSwept [] old old (Ok tt)
-swept_none old = ([], record { each = λ i row at. absurd (none-some row at); ends = refl }, taken_none old)
+pub swept_none : (m : Measures) (old : Option (List Row)) → AreSwept m [] old old (Ok tt)
+swept_none m old = ([], record { each = λ i row at. absurd (none-some row at); ends = refl }, taken_none old)
 
 -- runs were swept, and then those behind them
-swept_on : (runs later : List GrowOptions) (old mid new : Option (List Row)) (result : Result (Unit {0}) SweepFault)
-    → AreSwept runs old mid (Ok tt) → AreSwept later mid new result → AreSwept (runs ++ later) old new result
-swept_on runs later old mid new (Ok done) (rows, are, taken) (more, all, then) = (
+swept_on : (m : Measures) (runs later : List GrowOptions) (old mid new : Option (List Row)) (result : Result (Unit
+    {0}) SweepFault)
+    → AreSwept m runs old mid (Ok tt) → AreSwept m later mid new result → AreSwept m (runs ++ later) old new result
+swept_on m runs later old mid new (Ok done) (rows, are, taken) (more, all, then) = (
   rows ++ more,
   record {
-    each = rows_more runs later rows more are.ends are.each all.each;
-    ends = ends_more runs later rows more None are.ends all.ends;
+    each = rows_more m runs later rows more are.ends are.each all.each;
+    ends = ends_more m runs later rows more None are.ends all.ends;
   },
   taken_more rows more old mid new taken then,
 )
-swept_on runs later old mid new (Err (Run refused)) (rows, are, taken) (more, all, then) = (
+swept_on m runs later old mid new (Err (Run refused)) (rows, are, taken) (more, all, then) = (
   rows ++ more,
   record {
-    each = rows_more runs later rows more are.ends are.each all.each;
-    ends = ends_more runs later rows more (Some refused) are.ends all.ends;
+    each = rows_more m runs later rows more are.ends are.each all.each;
+    ends = ends_more m runs later rows more (Some refused) are.ends all.ends;
   },
   taken_more rows more old mid new taken then,
 )
-swept_on runs later old mid new (Err Write) (rows, are, taken) (more, all, then) =
-    (rows ++ more, rows_more runs later rows more are.ends are.each all, taken_more rows more old mid new taken then)
-swept_on runs later old mid new (Err OutOfMemory) (rows, are, taken) (more, all, then) =
-    (rows ++ more, rows_more runs later rows more are.ends are.each all, taken_more rows more old mid new taken then)
+swept_on m runs later old mid new (Err Write) (rows, are, taken) (more, all, then) =
+    (rows ++ more, rows_more m runs later rows more are.ends are.each all, taken_more rows more old mid new taken then)
+swept_on m runs later old mid new (Err OutOfMemory) (rows, are, taken) (more, all, then) =
+    (rows ++ more, rows_more m runs later rows more are.ends are.each all, taken_more rows more old mid new taken then)
 
 -- so all of these were
-pub swept_more : (runs later all : List GrowOptions) (old mid new : Option (List Row))
-    (result : Result (Unit {0}) SweepFault) → all ≡ runs ++ later → AreSwept runs old mid (Ok tt)
-    → AreSwept later mid new result → AreSwept all old new result
-swept_more runs later all old mid new result parts swept more =
-    subst (λ (rs : List GrowOptions). AreSwept rs old new result) (sym parts)
-    (swept_on runs later old mid new result swept more)
+pub swept_more : (m : Measures) (runs later all : List GrowOptions) (old mid new : Option (List Row))
+    (result : Result (Unit {0}) SweepFault) → all ≡ runs ++ later → AreSwept m runs old mid (Ok tt)
+    → AreSwept m later mid new result → AreSwept m all old new result
+swept_more m runs later all old mid new result parts swept more =
+    subst (λ (rs : List GrowOptions). AreSwept m rs old new result) (sym parts)
+    (swept_on m runs later old mid new result swept more)
 
 -- runs were swept, and memory ran out before the next ones
-pub swept_short : (runs later all : List GrowOptions) (old new : Option (List Row)) → all ≡ runs ++ later
-    → AreSwept runs old new (Ok tt) → AreSwept all old new (Err OutOfMemory)
-swept_short runs later all old new parts (rows, are, taken) =
-    subst (λ (rs : List GrowOptions). AreSwept rs old new (Err OutOfMemory)) (sym parts)
-    (rows, rows_before runs later rows are.each, taken)
+pub swept_short : (m : Measures) (runs later all : List GrowOptions) (old new : Option (List Row)) → all ≡ runs ++ later
+    → AreSwept m runs old new (Ok tt) → AreSwept m all old new (Err OutOfMemory)
+swept_short m runs later all old new parts (rows, are, taken) =
+    subst (λ (rs : List GrowOptions). AreSwept m rs old new (Err OutOfMemory)) (sym parts)
+    (rows, rows_before m runs later rows are.each, taken)
 
 -- some first of these rows are the rows of some first runs
-rows_first : (runs : List GrowOptions) (rows : List Row) (n : ℕ) → AreFirstRowsOf runs rows
-    → AreFirstRowsOf runs (take n rows)
-rows_first runs rows n are i row at =
+rows_first : (m : Measures) (runs : List GrowOptions) (rows : List Row) (n : ℕ) → AreFirstRowsOf m runs rows
+    → AreFirstRowsOf m runs (take n rows)
+rows_first m runs rows n are i row at =
     are i row (subst (λ (xs : List Row). slice_get xs i ≡ Some row) (take-append-drop n rows)
     (at_prefix (take n rows) (drop n rows) i row at))
 
 -- the rows of a batch were not all taken
-swept_until : (runs : List GrowOptions) (rows : List Row) (refused : Option RefusedRun) (old new : Option (List Row))
-    (fault : SweepFault) → AreRowsOf runs rows refused → WereGiven rows old new (Err fault)
-    → AreSwept runs old new (Err fault)
-swept_until runs rows refused old new (Run run) are given = absurd given
-swept_until runs rows refused old new Write are (n, taken) = (take n rows, rows_first runs rows n are.each, taken)
-swept_until runs rows refused old new OutOfMemory are (n, taken) = (take n rows, rows_first runs rows n are.each, taken)
+swept_until : (m : Measures) (runs : List GrowOptions) (rows : List Row) (refused : Option RefusedRun) (old new :
+    Option (List Row))
+    (fault : SweepFault) → AreRowsOf m runs rows refused → WereGiven rows old new (Err fault)
+    → AreSwept m runs old new (Err fault)
+swept_until m runs rows refused old new (Run run) are given = absurd given
+swept_until m runs rows refused old new Write are (n, taken) = (take n rows, rows_first m runs rows n are.each, taken)
+swept_until m runs rows refused old new OutOfMemory are (n, taken) = (
+  take n rows,
+  rows_first m runs rows n are.each,
+  taken,
+)
 
 -- and the batch ends with that fault
-pub swept_fault : (runs : List GrowOptions) (rows given : List Row) (refused : Option RefusedRun)
+pub swept_fault : (m : Measures) (runs : List GrowOptions) (rows given : List Row) (refused : Option RefusedRun)
     (old new : Option (List Row)) (result : Result (Unit {0}) SweepFault) (fault : SweepFault) → given ≡ rows
-    → AreRowsOf runs rows refused → WereGiven given old new (Err fault) → IsErrAnd result (λ e. e ≡ fault)
-    → AreSwept runs old new result
-swept_fault runs rows given refused old new (Ok done) fault same are were is = absurd is
-swept_fault runs rows given refused old new (Err e) fault same are were is =
-    subst (λ (f : SweepFault). AreSwept runs old new (Err f)) (sym is)
-    (swept_until runs rows refused old new fault are
+    → AreRowsOf m runs rows refused → WereGiven given old new (Err fault) → IsErrAnd result (λ e. e ≡ fault)
+    → AreSwept m runs old new result
+swept_fault m runs rows given refused old new (Ok done) fault same are were is = absurd is
+swept_fault m runs rows given refused old new (Err e) fault same are were is =
+    subst (λ (f : SweepFault). AreSwept m runs old new (Err f)) (sym is)
+    (swept_until m runs rows refused old new fault are
     (subst (λ (xs : List Row). WereGiven xs old new (Err fault)) same were))
 
 -- one run more of a batch
@@ -150,21 +159,21 @@ none_left all batch empty = sym (append-nil all) ∙ ap (λ xs. all ++ xs) (sym 
 
 module _ {I : Type 0} (gives : I → Option GrowOptions → I → Type 0) where
   -- a sweep that ended with a fault had got these runs from the iterator
-  pub ended : (it start left : I) (runs : List GrowOptions) (old new : Option (List Row))
+  pub ended : (m : Measures) (it start left : I) (runs : List GrowOptions) (old new : Option (List Row))
       (result : Result (Unit {0}) SweepFault) (fault : SweepFault) → start ≡ it → Yields gives start runs left
-      → AreSwept runs old new (Err fault) → IsErrAnd result (λ e. e ≡ fault) → IsSweepOf gives it old new result
-  ended it start left runs old new (Ok done) fault same got swept is = absurd is
-  ended it start left runs old new (Err e) fault same got swept is = (
+      → AreSwept m runs old new (Err fault) → IsErrAnd result (λ e. e ≡ fault) → IsSweepOf m gives it old new result
+  ended m it start left runs old new (Ok done) fault same got swept is = absurd is
+  ended m it start left runs old new (Err e) fault same got swept is = (
     runs,
     (left, subst (λ (s : I). Yields gives s runs left) same got),
-    subst (λ (f : SweepFault). AreSwept runs old new (Err f)) (sym is) swept,
+    subst (λ (f : SweepFault). AreSwept m runs old new (Err f)) (sym is) swept,
   )
 
   -- a sweep that came to the end of the iterator
-  pub ended_at : (it start left end : I) (runs : List GrowOptions) (old new : Option (List Row))
+  pub ended_at : (m : Measures) (it start left end : I) (runs : List GrowOptions) (old new : Option (List Row))
       (result : Result (Unit {0}) SweepFault) → start ≡ it → Yields gives start runs left → gives left None end
-      → AreSwept runs old new result → IsSweepOf gives it old new result
-  ended_at it start left end runs old new (Ok done) same got none swept =
+      → AreSwept m runs old new result → IsSweepOf m gives it old new result
+  ended_at m it start left end runs old new (Ok done) same got none swept =
       (runs, (end, (left, subst (λ (s : I). Yields gives s runs left) same got, none)), swept)
-  ended_at it start left end runs old new (Err fault) same got none swept =
+  ended_at m it start left end runs old new (Err fault) same got none swept =
       (runs, (left, subst (λ (s : I). Yields gives s runs left) same got), swept)

@@ -21,6 +21,9 @@ pub mod Telling
 pub mod Acting
 pub mod Analysing
 pub mod Ways
+pub mod Logging
+pub mod Counting
+pub mod Totals
 pub mod OneGrowth
 pub mod OnePhase
 pub mod NoTurn
@@ -37,5 +40,7 @@ pub mod Crashing
 pub mod Fitting
 pub mod Degrees
 pub mod Sharing
+pub mod Asking
+pub mod OneShape
 pub mod OneRow
 pub mod Batches

@@ -1,11 +1,12 @@
 -- The options alone decide what is grown.
 use Rattle.std.proofs.Common.{◌≡◌, ℕ, zero, suc, Bool, true, false, List, [], ◌∷◌, ◌++◌, length, Some}
 use Rattle.std.proofs.Common.{refl, sym, ap, ap₂, subst, ◌∙◌, inl, inr, ◌⊎◌}
-use Rattle.std.specs.Prelude.{MatchBool, slice_get}
+use Rattle.std.specs.Prelude.{MatchBool, option_map, slice_get}
 use Rattle.std.specs.Prelude.{remove}
 use Rattle.std.proofs.lemmas.Option.{same_Some, none-some}
 use Rattle.ov_wire.specs.declared.message.Message.{Message}
 use Rattle.ov_net.specs.Theorems.{WorldStep}
+use Rattle.ov_net.specs.World.{WorldState}
 use Rattle.ov_net.specs.declared.event.Event.{Event}
 use Rattle.rand_pcg.specs.Lcg.{Lcg}
 use Rattle.ov_ids.proofs.Members.{same_ascending}
@@ -14,6 +15,7 @@ use Rattle.ov_scenario.proofs.Scenarios.OneScenario.{one_scenario}
 use Rattle.ov_scenario.specs.declared.scenario.Line.{Line}
 use Rattle.ov_scenario.specs.declared.scenario.Line.TheVariants as line
 use Rattle.ov_grow.specs.Acts.{event_of}
+use Rattle.ov_grow.specs.BroadcastLog.{marks_after}
 use Rattle.ov_grow.specs.declared.recordable_event.Act.{Act}
 use Rattle.ov_grow.specs.declared.recordable_event.Act.TheVariants as act
 use Rattle.ov_grow.specs.Choices.{IsRandomOrder, one_of, later}
@@ -47,11 +49,9 @@ one_last text a b (scenario, earlier, says, is) (other, before, also, equally) =
 same_words : (what : Event) (words also : List ℕ) → line.Event what words ≡ line.Event what also → words ≡ also
 same_words what words also same = cc
 
-pub same_growth : (s u v : Growth) → u.text ≡ v.text → u.world ≡ v.world → u.choices ≡ v.choices → u ≡ v
-same_growth s u v text world choices =
-    ap (λ t. record { text = t; world = u.world; choices = u.choices }) text
-    ∙ (ap (λ w. record { text = v.text; world = w; choices = u.choices }) world
-    ∙ ap (λ c. record { text = v.text; world = v.world; choices = c }) choices)
+pub same_growth : (s u v : Growth) → u.text ≡ v.text → u.world ≡ v.world → u.choices ≡ v.choices → u.log ≡ v.log → u ≡ v
+same_growth s u v text world choices log =
+    λ i. record { text = text i; world = world i; choices = choices i; log = log i }
 
 -- an act has one outcome
 pub one_act : (s u v : Growth) (what : Act) → Does s what u → Does s what v → u ≡ v
@@ -62,8 +62,11 @@ one_act s u v what d e =
     (subst (λ t. AsksLast t (line.Event (event_of what) d.words)) text d.asked) e.asked) in
     let step : WorldStep s.world (event_of what) e.words u.world d.entry =
     subst (λ w. WorldStep s.world (event_of what) w u.world d.entry) words d.step in
-    same_growth s u v text (one_step s.world (event_of what) e.words u.world v.world d.entry e.entry step e.step).0
-    (d.choices ∙ sym e.choices)
+    let world : u.world ≡ v.world = (one_step s.world (event_of what) e.words u.world v.world d.entry e.entry step
+    e.step).0 in
+    same_growth s u v text world (d.choices ∙ sym e.choices)
+    (d.log ∙ (ap (λ (w : WorldState). option_map (marks_after (event_of what) s.world.net w.net) s.log) world
+    ∙ sym e.log))
 
 pub one_write : (s u v : Growth) (written : List ℕ) → Writes s written u → Writes s written v → u ≡ v
 one_write s u v written a b = a ∙ sym b

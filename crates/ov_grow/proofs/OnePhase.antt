@@ -30,7 +30,8 @@ use Rattle.ov_grow.specs.Phases.{AreFirst, AreToCrash, Births, CrashNodes, EndsP
 use Rattle.ov_grow.specs.Phases.{AreTold, IsCrashedNeighbour, ReportCrashes, ReportTimes, Settle, crashing, cut_of}
 use Rattle.ov_grow.specs.Phases.{deliveries_in, healing, joining, settling}
 use Rattle.ov_grow.specs.Phases.{turns_between}
-use Rattle.ov_grow.specs.Growing.{OneGrowth, beginning}
+use Rattle.ov_net.specs.World.{WorldState}
+use Rattle.ov_grow.specs.Growing.{GrowsFrom, OneGrowth, beginning}
 use Rattle.ov_grow.specs.declared.phase_moment_and_deliveries.Phase.{Phase}
 use Rattle.ov_grow.specs.declared.phase_rules.PhaseRules.{PhaseRules}
 use Rattle.ov_grow.proofs.OneGrowth.{one_act, one_choice, one_live, one_order, one_run_out, one_turns, one_write}
@@ -527,18 +528,44 @@ pub one_healing : (o : GrowOptions) (s u v : Growth) (p q : Phase) → Heal o s 
 one_healing o s u v p q (t, w, k, says, reports, rounds, ends) other =
     one_ending (healing o) o.broadcasts k u v p q ends (heal_rest o s t w k v q says reports rounds other)
 
-pub one_growth : OneGrowth
-one_growth o text other world beside settled crashed healed settles crashes heals g h =
-    let first : h.s ≡ g.s = one_join o (beginning o) h.s g.s h.join g.join in
+-- two overlays that are grown from where b stands are the same, and growing stands at the same places after each phase
+pub record AreOne (b : Growth) (o : GrowOptions) (text other : List ℕ) (world beside : WorldState)
+    (settled crashed healed settles crashes heals : Phase) (g : GrowsFrom b o text world settled crashed healed)
+    (h : GrowsFrom b o other beside settles crashes heals) : Type 0
+  where
+    pub texts : text ≡ other
+    pub worlds : world ≡ beside
+    pub settle : settled ≡ settles
+    pub crash : crashed ≡ crashes
+    pub heal : healed ≡ heals
+    pub at_settle : g.t ≡ h.t
+    pub at_crash : g.v ≡ h.v
+    pub at_heal : g.u ≡ h.u
+
+pub one_from : (b : Growth) (o : GrowOptions) (text other : List ℕ) (world beside : WorldState)
+    (settled crashed healed settles crashes heals : Phase) (g : GrowsFrom b o text world settled crashed healed)
+    (h : GrowsFrom b o other beside settles crashes heals)
+    → AreOne b o text other world beside settled crashed healed settles crashes heals g h
+one_from b o text other world beside settled crashed healed settles crashes heals g h =
+    let first : h.s ≡ g.s = one_join o b h.s g.s h.join g.join in
     let second = one_settling o g.s h.t g.t settles settled (subst (λ x. Settle o x settles h.t) first h.settle)
     g.settle in
     let third = one_crash o settled.moment g.t h.v g.v crashes crashed
     (subst (λ x. CrashNodes o settled.moment x crashes h.v) second.1
     (subst (λ p. CrashNodes o p.moment h.t crashes h.v) second.0 h.crash)) g.crash in
-    let fourth = one_healing o g.v h.u g.u heals healed (subst (λ x. Heal o x heals h.u) third.1 h.heal) g.heal in (
-      g.text_is ∙ (ap (λ x. x.text) (sym fourth.1) ∙ sym h.text_is),
-      g.world_is ∙ (ap (λ x. x.world) (sym fourth.1) ∙ sym h.world_is),
-      sym second.0,
-      sym third.0,
-      sym fourth.0,
-    )
+    let fourth = one_healing o g.v h.u g.u heals healed (subst (λ x. Heal o x heals h.u) third.1 h.heal) g.heal in
+    record {
+      texts = g.text_is ∙ (ap (λ x. x.text) (sym fourth.1) ∙ sym h.text_is);
+      worlds = g.world_is ∙ (ap (λ x. x.world) (sym fourth.1) ∙ sym h.world_is);
+      settle = sym second.0;
+      crash = sym third.0;
+      heal = sym fourth.0;
+      at_settle = sym second.1;
+      at_crash = sym third.1;
+      at_heal = sym fourth.1;
+    }
+
+pub one_growth : OneGrowth
+one_growth o text other world beside settled crashed healed settles crashes heals g h =
+    let one = one_from (beginning o) o text other world beside settled crashed healed settles crashes heals g h in
+    (one.texts, one.worlds, one.settle, one.crash, one.heal)

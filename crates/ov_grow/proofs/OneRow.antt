@@ -1,5 +1,6 @@
 -- The options alone decide the row.
-use Rattle.std.proofs.Common.{◌≡◌, ◌∙◌, ◌≤◌, ℕ, List, [], ◌∷◌, length, Option, Some, None}
+use Rattle.std.proofs.Common.{◌≡◌, ◌∙◌, ◌≤◌, ℕ, Bool, true, false, List, [], ◌∷◌, length, Option, Some, None}
+use Rattle.std.specs.Prelude.{map as each}
 use Rattle.std.proofs.Common.{refl, sym, ap, ap₂, subst, arith, slice_get}
 use Rattle.std.proofs.lemmas.Option.{same_Some}
 use Rattle.ov_graph.specs.Links.{LinkGraph}
@@ -13,11 +14,22 @@ use Rattle.ov_net.proofs.Links.OneGraph.{links_one}
 use Rattle.ov_snap.specs.CoreState.{CoreState}
 use Rattle.ov_snap.specs.ReportState.{ReportState, IsTrueReport}
 use Rattle.ov_grow.specs.declared.phase_moment_and_deliveries.Phase.{Phase as GrownPhase}
-use Rattle.ov_grow.proofs.OnePhase.{one_growth}
+use Rattle.ov_grow.proofs.OneGrowth.{one_live}
+use Rattle.ov_grow.proofs.OnePhase.{one_from}
+use Rattle.ov_grow.proofs.OneShape.{one_shape}
 use Rattle.ov_sweep_rows.specs.declared.delivered_share.DeliveredShare.{DeliveredShare}
 use Rattle.ov_sweep_rows.specs.declared.row.PhaseRow.{PhaseRow}
 use Rattle.ov_sweep_rows.specs.declared.row.Row.{Row}
-use Rattle.ov_grow.specs.Rows.{AreNumbersOf, IsLeastDegree, IsShare, IsToldOf, OneRow}
+use Rattle.ov_grow.specs.Growing.{begins}
+use Rattle.ov_grow.specs.Growth.{Growth}
+use Rattle.ov_grow.specs.MessageCosts.{AreCostsBy, cost_of, made_in}
+use Rattle.ov_grow.specs.PhaseCosts.{phase_costs}
+use Rattle.ov_grow.specs.Rows.{AreNumbersOf, ArePhaseCosts, IsAsked, IsLeastDegree, IsShapeOf, IsShare, IsToldOf}
+use Rattle.ov_grow.specs.Rows.{OneRow}
+use Rattle.ov_grow.specs.declared.broadcast_log.Mark.{Mark}
+use Rattle.ov_grow.specs.declared.message_cost.MessageCost.{MessageCost}
+use Rattle.ov_sweep_rows.specs.declared.costs_and_shape.Measures.{Measures}
+use Rattle.ov_sweep_rows.specs.declared.costs_and_shape.PhaseCosts.{PhaseCosts}
 
 -- a graph has one least degree
 one_least : (g : LinkGraph) (n m : ℕ) → IsLeastDegree g n → IsLeastDegree g m → n ≡ m
@@ -37,14 +49,17 @@ one_share d b n None (Some t) none (some, is) = absurd (some none)
 one_share d b n (Some s) None (some, is) none = absurd (some none)
 
 same_phase : (p q : PhaseRow) → p.nodes ≡ q.nodes → p.k ≡ q.k → p.least_degree ≡ q.least_degree → p.links ≡ q.links
-    → p.entries ≡ q.entries → p.delivered ≡ q.delivered → p ≡ q
-same_phase p q nodes k least links entries delivered =
-    ap (λ n. record p { nodes = n }) nodes
-    ∙ (ap (λ n. record p { nodes = q.nodes; k = n }) k
-    ∙ (ap (λ n. record p { nodes = q.nodes; k = q.k; least_degree = n }) least
-    ∙ (ap (λ n. record p { nodes = q.nodes; k = q.k; least_degree = q.least_degree; links = n }) links
-    ∙ (ap (λ n. record q { entries = n; delivered = p.delivered }) entries
-    ∙ ap (λ s. record q { delivered = s }) delivered))))
+    → p.entries ≡ q.entries → p.delivered ≡ q.delivered → p.costs ≡ q.costs → p.shape ≡ q.shape → p ≡ q
+same_phase p q nodes k least links entries delivered costs shape = λ i. record {
+  nodes = nodes i;
+  k = k i;
+  least_degree = least i;
+  links = links i;
+  entries = entries i;
+  delivered = delivered i;
+  costs = costs i;
+  shape = shape i;
+}
 
 -- a moment has one number
 one_k : (journal : List Entry) (m : ℕ) (r s : ReportState) → r.graph ≡ s.graph → r.members ≡ r.graph.nodes
@@ -57,8 +72,8 @@ one_k journal m r s same all also a b =
 
 -- a report and so many deliveries have one list of numbers
 one_list : (r s : ReportState) (b d : ℕ) (p q : PhaseRow) → r.graph ≡ s.graph → k_of r.cert ≡ k_of s.cert
-    → r.moment ≡ s.moment → AreNumbersOf r b d p → AreNumbersOf s b d q → p ≡ q
-one_list r s b d p q graph k moment a also =
+    → r.moment ≡ s.moment → AreNumbersOf r b d p → AreNumbersOf s b d q → p.costs ≡ q.costs → p.shape ≡ q.shape → p ≡ q
+one_list r s b d p q graph k moment a also costs shape =
     let count : length s.graph.nodes ≡ length r.graph.nodes = ap (λ (g : LinkGraph). length g.nodes) (sym graph) in
     same_phase p q (a.nodes ∙ (sym count ∙ sym also.nodes)) (a.k ∙ (k ∙ sym also.k))
     (one_least r.graph p.least_degree q.least_degree a.least_degree
@@ -66,12 +81,32 @@ one_list r s b d p q graph k moment a also =
     (a.links ∙ (ap (λ (g : LinkGraph). length g.links) graph ∙ sym also.links))
     (a.entries ∙ (moment ∙ sym also.entries))
     (one_share d b (length r.graph.nodes) p.delivered q.delivered a.delivered
-    (subst (λ (n : ℕ). IsShare d b n q.delivered) count also.delivered))
+    (subst (λ (n : ℕ). IsShare d b n q.delivered) count also.delivered)) costs shape
+
+-- what is asked for is told in one way
+one_asked : {X : Type 0} (IsRight : X → Type 0) → ((x y : X) → IsRight x → IsRight y → x ≡ y) → (asked : Bool)
+    (x y : Option X) → IsAsked asked IsRight x → IsAsked asked IsRight y → x ≡ y
+one_asked IsRight one true (Some x) (Some y) a b = ap Some (one x y a b)
+one_asked IsRight one true None y a b = absurd a
+one_asked IsRight one true (Some x) None a b = absurd b
+one_asked IsRight one false x y a b = a ∙ sym b
+
+-- where growing stands, broadcasts have one list of costs
+one_costs_by : (log : Option (List Mark)) (s : Growth) (cs ds : List MessageCost) → AreCostsBy log s cs
+    → AreCostsBy log s ds → cs ≡ ds
+one_costs_by None s cs ds a b = a ∙ sym b
+one_costs_by (Some marks) s cs ds (live, are, is) (nodes, also, same) =
+    is ∙ (ap (λ (xs : List ℕ). each (cost_of s.world.net xs marks) (made_in marks)) (one_live s live nodes are also)
+    ∙ sym same)
+
+one_costs : (s : Growth) (c d : PhaseCosts) → ArePhaseCosts s c → ArePhaseCosts s d → c ≡ d
+one_costs s c d (cs, are, is) (ds, also, same) =
+    is ∙ (ap (λ (xs : List MessageCost). phase_costs xs) (one_costs_by s.log s cs ds are also) ∙ sym same)
 
 -- what is told of a phase is one
-one_told : (c d : CoreState) (ended : GrownPhase) (b : ℕ) (p q : PhaseRow) → c.world ≡ d.world → IsToldOf c ended b p
-    → IsToldOf d ended b q → p ≡ q
-one_told c d ended b p q world a also =
+one_told : (m : Measures) (g h : Growth) (c d : CoreState) (ended : GrownPhase) (b : ℕ) (p q : PhaseRow)
+    → c.world ≡ d.world → g ≡ h → IsToldOf m g c ended b p → IsToldOf m h d ended b q → p ≡ q
+one_told m g h c d ended b p q world same a also =
     let r = a.report in
     let s = also.report in
     let moment : r.moment ≡ s.moment = a.filed.moment ∙ sym also.filed.moment in
@@ -79,10 +114,14 @@ one_told c d ended b p q world a also =
     subst (λ (w : WorldState). IsTrueReport w.journal s) (sym world) also.is_true in
     let graph : r.graph ≡ s.graph =
     links_one c.world.journal r.moment r.graph s.graph a.is_true.links
-    (subst (λ (m : ℕ). AreLinks c.world.journal m s.graph) (sym moment) there.links) in
+    (subst (λ (n : ℕ). AreLinks c.world.journal n s.graph) (sym moment) there.links) in
     one_list r s b ended.deliveries p q graph
     (one_k c.world.journal r.moment r s graph a.filed.members also.filed.members a.is_true there) moment a.numbers
     also.numbers
+    (one_asked (ArePhaseCosts g) (one_costs g) m.costs p.costs q.costs a.costs
+    (subst (λ (x : Growth). IsAsked m.costs (ArePhaseCosts x) q.costs) (sym same) also.costs))
+    (one_asked (IsShapeOf r.graph) (one_shape r.graph) m.shape p.shape q.shape a.shape
+    (subst (λ (x : LinkGraph). IsAsked m.shape (IsShapeOf x) q.shape) (sym graph) also.shape))
 
 -- a list of three is its items
 listed : (xs : List PhaseRow) (p q r : PhaseRow) → length xs ≡ 3 → slice_get xs 0 ≡ Some p → slice_get xs 1 ≡ Some q
@@ -99,18 +138,21 @@ same_row : (row other : Row) → row.options ≡ other.options → row.phases �
 same_row row other options phases = ap₂ (λ o ps. record { options = o; phases = ps }) options phases
 
 pub one_row : OneRow
-one_row o row other a b =
-    let one = one_growth o a.text b.text a.core.world b.core.world a.settled a.crashed a.healed b.settled b.crashed
-    b.healed a.grows b.grows in
+one_row m o row other a b =
+    let one = one_from (begins m.costs o) o a.text b.text a.core.world b.core.world a.settled a.crashed a.healed
+    b.settled b.crashed b.healed a.grows b.grows in
     let settle : a.settle.0 ≡ b.settle.0 =
-    one_told a.core b.core a.settled o.broadcasts a.settle.0 b.settle.0 one.1 a.settle.2
-    (subst (λ (x : GrownPhase). IsToldOf b.core x o.broadcasts b.settle.0) (sym one.2) b.settle.2) in
+    one_told m a.grows.t b.grows.t a.core b.core a.settled o.broadcasts a.settle.0 b.settle.0 one.worlds one.at_settle
+    a.settle.2
+    (subst (λ (x : GrownPhase). IsToldOf m b.grows.t b.core x o.broadcasts b.settle.0) (sym one.settle) b.settle.2) in
     let crash : a.crash.0 ≡ b.crash.0 =
-    one_told a.core b.core a.crashed o.broadcasts a.crash.0 b.crash.0 one.1 a.crash.2
-    (subst (λ (x : GrownPhase). IsToldOf b.core x o.broadcasts b.crash.0) (sym one.3) b.crash.2) in
+    one_told m a.grows.v b.grows.v a.core b.core a.crashed o.broadcasts a.crash.0 b.crash.0 one.worlds one.at_crash
+    a.crash.2
+    (subst (λ (x : GrownPhase). IsToldOf m b.grows.v b.core x o.broadcasts b.crash.0) (sym one.crash) b.crash.2) in
     let heal : a.heal.0 ≡ b.heal.0 =
-    one_told a.core b.core a.healed o.broadcasts a.heal.0 b.heal.0 one.1 a.heal.2
-    (subst (λ (x : GrownPhase). IsToldOf b.core x o.broadcasts b.heal.0) (sym one.4) b.heal.2) in
+    one_told m a.grows.u b.grows.u a.core b.core a.healed o.broadcasts a.heal.0 b.heal.0 one.worlds one.at_heal
+    a.heal.2
+    (subst (λ (x : GrownPhase). IsToldOf m b.grows.u b.core x o.broadcasts b.heal.0) (sym one.heal) b.heal.2) in
     let first = listed row.phases a.settle.0 a.crash.0 a.heal.0 a.three a.settle.1 a.crash.1 a.heal.1 in
     let second = listed other.phases b.settle.0 b.crash.0 b.heal.0 b.three b.settle.1 b.crash.1 b.heal.1 in
     same_row row other (a.options ∙ sym b.options)

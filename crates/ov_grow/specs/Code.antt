@@ -3,5 +3,8 @@
 pub mod KeptRecording
 pub mod Kept
 pub mod Writing
+pub mod Logging
 pub mod Standing
+pub mod LoggedGrowths
+pub mod Counting
 pub mod Shares

@@ -1,5 +1,5 @@
 -- How an overlay is grown, and that its options alone decide what is written. Chosen here.
-use Rattle.std.specs.Prelude.{◌≡◌, ◌⊎◌, ℕ, List}
+use Rattle.std.specs.Prelude.{◌≡◌, ◌⊎◌, ℕ, Bool, if◌then◌else◌, List, [], Some, None}
 use Rattle.ov_net.specs.World.{WorldState, opening_world}
 use Rattle.ov_grow.specs.Scripts.{opening}
 use Rattle.ov_grow_options.specs.CommandLine.{command_line}
@@ -13,42 +13,63 @@ use Rattle.ov_grow.specs.declared.fault.GrowFault.TheVariants.{OutOfMemory}
 use Rattle.ov_grow.specs.declared.phase_moment_and_deliveries.Phase.{Phase}
 
 -- where growing begins: with the command as a comment, the parameters and the seed, and a world in which nothing
--- happened
+-- happened. No log of broadcasts is kept
 abbrev pub beginning : GrowOptions → Growth
 beginning o = record {
   text = opening (command_line o) o.params o.seed;
   world = opening_world o.params;
   choices = choices_of o.seed;
+  log = None;
 }
 
--- with these options an overlay is grown by the scenario of this text, which makes this world: nodes join, the overlay
--- settles, nodes crash, and the overlay heals
-pub record Grows (o : GrowOptions) (text : List ℕ) (world : WorldState) (settled crashed healed : Phase) : Type 0 where
-  pub s : Growth
-  pub t : Growth
-  pub v : Growth
-  pub u : Growth
-  pub join : Join o (beginning o) s
-  pub settle : Settle o s settled t
-  pub crash : CrashNodes o settled.moment t crashed v
-  pub heal : Heal o v healed u
-  pub text_is : text ≡ u.text
-  pub world_is : world ≡ u.world
+-- the same, and a log of broadcasts is kept, which tells nothing yet, or none is
+abbrev pub begins : Bool → GrowOptions → Growth
+begins logged o = record (beginning o) { log = if logged then Some [] else None }
+
+-- from where b stands an overlay is grown with these options by the scenario of this text, which makes this world:
+-- nodes
+-- join, the overlay settles, nodes crash, and the overlay heals. There growing stands at s, t, v and u
+pub record GrowsFrom (b : Growth) (o : GrowOptions) (text : List ℕ) (world : WorldState)
+    (settled crashed healed : Phase) : Type 0
+  where
+    pub s : Growth
+    pub t : Growth
+    pub v : Growth
+    pub u : Growth
+    pub join : Join o b s
+    pub settle : Settle o s settled t
+    pub crash : CrashNodes o settled.moment t crashed v
+    pub heal : Heal o v healed u
+    pub text_is : text ≡ u.text
+    pub world_is : world ≡ u.world
+
+-- with these options an overlay is grown by the scenario of this text, which makes this world
+abbrev pub Grows : GrowOptions → List ℕ → WorldState → Phase → Phase → Phase → Type 0
+Grows o text world settled crashed healed = GrowsFrom (beginning o) o text world settled crashed healed
+
+-- no scenario grows an overlay with these options from where b stands
+abbrev pub CantBeGrownFrom : Growth → GrowOptions → Type 0
+CantBeGrownFrom b o =
+    (text : List ℕ) (world : WorldState) (settled crashed healed : Phase)
+    → ¬ GrowsFrom b o text world settled crashed healed
 
 -- no scenario grows an overlay with these options
 abbrev pub CantBeGrown : GrowOptions → Type 0
-CantBeGrown o =
-    (text : List ℕ) (world : WorldState) (settled crashed healed : Phase) → ¬ Grows o text world settled crashed healed
+CantBeGrown o = CantBeGrownFrom (beginning o) o
 
 -- growing with these options ends in this fault: memory ran out, or no overlay can be grown with them
-abbrev pub EndsGrowing : GrowOptions → GrowFault → Type 0
-EndsGrowing o fault = (fault ≡ OutOfMemory) ⊎ CantBeGrown o
+abbrev pub EndsGrowingFrom : Growth → GrowOptions → GrowFault → Type 0
+EndsGrowingFrom b o fault = (fault ≡ OutOfMemory) ⊎ CantBeGrownFrom b o
 
 -- growing with these options is refused: the journal is full, too few places for packets are free, or memory ran out;
 -- and unless memory ran out, no overlay can be grown with these options
-pub record IsGrowRefusal (o : GrowOptions) (fault : GrowFault) : Type 0 where
+pub record IsGrowRefusalFrom (b : Growth) (o : GrowOptions) (fault : GrowFault) : Type 0 where
   pub full : IsFull fault
-  pub reason : EndsGrowing o fault
+  pub reason : EndsGrowingFrom b o fault
+
+-- the same of growing that keeps no log of broadcasts
+abbrev pub IsGrowRefusal : GrowOptions → GrowFault → Type 0
+IsGrowRefusal o fault = IsGrowRefusalFrom (beginning o) o fault
 
 -- the options decide the text, the world and the phases: whatever two overlays are grown with them are the same
 abbrev pub OneGrowth : Type 0

@@ -1,5 +1,5 @@
 -- Where growing stands, and the single steps of it: s is before, and u after. Chosen here.
-use Rattle.std.specs.Prelude.{◌≡◌, ◌≤◌, ℕ, Bool, List, [], ◌∷◌, ◌++◌, length}
+use Rattle.std.specs.Prelude.{◌≡◌, ◌≤◌, ℕ, Bool, List, [], ◌∷◌, ◌++◌, length, Option, option_map}
 use Rattle.rand_pcg.specs.Lcg.{Lcg}
 use Rattle.ov_ids.specs.Members.{Has, Ascends}
 use Rattle.ov_peer.specs.PeerState.{PeerState}
@@ -13,15 +13,19 @@ use Rattle.ov_scenario.specs.declared.scenario.Line.{Line}
 use Rattle.ov_scenario.specs.declared.scenario.Line.TheVariants as line
 use Rattle.ov_scenario.specs.declared.scenario.Scenario.{Scenario}
 use Rattle.ov_grow.specs.Acts.{act_line, event_of}
+use Rattle.ov_grow.specs.BroadcastLog.{marks_after}
 use Rattle.ov_grow.specs.WrittenLines.{ended}
+use Rattle.ov_grow.specs.declared.broadcast_log.Mark.{Mark}
 use Rattle.ov_grow.specs.declared.recordable_event.Act.{Act}
 use Rattle.ov_grow.specs.Choices.{one_of, comes_true, after_chance, later}
 
--- the scenario that was written so far, the world that it makes, and the choices that are left
+-- the scenario that was written so far, the world that it makes, the choices that are left, and what the log of
+-- broadcasts tells, if one is kept
 pub record Growth : Type 0 where
   pub text : List ℕ
   pub world : WorldState
   pub choices : Lcg
+  pub log : Option (List Mark)
 
 -- the last line that the scenario of this text asks to run is this one
 abbrev pub AsksLast : List ℕ → Line → Type 0
@@ -30,7 +34,7 @@ AsksLast text asked =
     × IsScenario text scenario × (scenario.lines.items ≡ earlier ++ asked ∷ [])
 
 -- an act is done: its line is written, its event may happen, and the world takes it with the random words that the
--- scenario gives to this line
+-- scenario gives to this line. A log that is kept tells of it
 pub record Does (s : Growth) (what : Act) (u : Growth) : Type 0 where
   pub words : List ℕ
   pub entry : Entry
@@ -39,6 +43,7 @@ pub record Does (s : Growth) (what : Act) (u : Growth) : Type 0 where
   pub judged : MayHappen s.world.net (length s.world.journal) (event_of what)
   pub step : WorldStep s.world (event_of what) words u.world entry
   pub choices : u.choices ≡ s.choices
+  pub log : u.log ≡ option_map (marks_after (event_of what) s.world.net u.world.net) s.log
 
 -- a line is written that asks for no event
 abbrev pub Writes : Growth → List ℕ → Growth → Type 0

@@ -7,13 +7,17 @@ pub mod WrittenLines
 pub mod Scripts
 pub mod Faults
 pub mod Choices
+pub mod BroadcastLog
 pub mod Growth
 pub mod Turns
 pub mod Rounds
 pub mod Broadcasts
 pub mod Phases
 pub mod Growing
+pub mod MessageCosts
+pub mod PhaseCosts
 pub mod Rows
+pub mod MessageRows
 pub mod Sweeps
 pub mod SweepFaults
 pub mod Code

@@ -1,44 +1,56 @@
-ghost use Rattle.std.specs.Prelude.{◌≡◌, ◌≢◌, ◌<◌, ◌≤◌, ◌↔◌, length, IfErr, IfOk, IfSome, IfNone, OnOk, IsTrue};
-ghost use Rattle.std.specs.FinMap.{empty};
+ghost use Rattle.std.specs.Prelude.{◌≡◌, ◌≢◌, ◌<◌, ◌≤◌, ◌↔◌, length, IfErr, IfOk, OnOk, IsTrue};
+ghost use Rattle.std.specs.FinMap as map;
 ghost use Rattle.ov_net.specs.Limits.{most_packets};
 ghost use Rattle.ov_net.specs.Net.{IsGone};
 ghost use Rattle.ov_grow.specs.Replay.{Replays};
 ghost use Rattle.ov_grow.specs.WrittenLines.{comment_line};
 ghost use Rattle.ov_grow.specs.Growth.{AreLive, Does, IsLive, Writes};
-ghost use Rattle.ov_grow.specs.Growing.{beginning};
+ghost use Rattle.ov_grow.specs.Growing.{begins};
+ghost use Rattle.ov_grow.specs.BroadcastLog.{made_by, next_id};
+ghost use Rattle.ov_grow.specs.Acts.{event_of};
 ghost use Rattle.ov_grow.specs.Code.Standing.{Goes, IsNoWay, IsRefusedAct, growth_of};
 ghost use Rattle.ov_grow.specs.declared.fault.GrowFault.TheVariants.{OutOfMemory as out_of_memory};
 
+use crate::broadcast_log::BroadcastLog;
 use crate::core_recorded_as_script::{Recorded, Recording};
 use crate::fault::GrowFault;
 use crate::random_choices::Choices;
 use crate::recordable_event::Act;
 use ov_grow_options::GrowOptions;
-use ov_ids::{NodeId, OutOfMemory};
+use ov_ids::{MsgId, NodeId, OutOfMemory};
 use ov_net::World;
 use std::alloc::Global;
 
-/// An overlay that grows: the recording of its steps so far, and the choices that are left.
+/// An overlay that grows: the recording of its steps so far, the choices that are left, and the log of broadcasts, if
+/// one is kept.
 #[derive(Drop)]
 pub(crate) struct Growing {
     pub(crate) alloc: Global,
     pub(crate) recording: Recording,
     pub(crate) choices: Choices,
+    pub(crate) log: BroadcastLog,
 }
 
 impl Growing {
-    /// Nothing has happened. OutOfMemory (99) is returned if an allocation was refused.
-    pub(crate) fn new(alloc: Global, options: &GrowOptions) -> Result<Growing, OutOfMemory>
-        ensures begins { IfOk result (λ g. growth_of g ≡ beginning options.now) }
-        ensures unborn { IfOk result (λ g. g.recording.core.world.net.nodes ≡ empty) }
+    /// Nothing has happened. A log of broadcasts is kept if it is asked for. OutOfMemory (99) is returned if an
+    /// allocation was refused.
+    pub(crate) fn new(
+        alloc: Global,
+        options: &GrowOptions,
+        logged: bool,
+    ) -> Result<Growing, OutOfMemory>
+        ensures begins { IfOk result (λ g. growth_of g ≡ begins logged options.now) }
+        ensures unborn { IfOk result (λ g. g.recording.core.world.net.nodes ≡ map.empty) }
     {
         let heading = options.to_string(alloc)?;
         let recording = Recording::new(alloc, options.params, options.seed, heading.as_str())?;
         let choices = Choices::new(options.seed);
+        let log = BroadcastLog::new(alloc, logged);
         Ok(Growing {
             alloc,
             recording,
             choices,
+            log,
         })
     }
 
@@ -88,9 +100,38 @@ impl Growing {
         ensures refused { IfErr result (IsNoWay (λ s u. Does s act u) self.old) }
         ensures judged { IfErr result (IsRefusedAct act self.old) }
     {
+        let made = self.id_made_by(&act);
+        let before = self.packets();
         self.recording.act(act)?;
+        self.log
+            .tell(self.alloc, &act, made, before, &self.recording)?;
         let _text = self.recording.text();
         Ok(())
+    }
+
+    /// The id of the broadcast that an act makes now, if it makes one.
+    fn id_made_by(&self, act: &Act) -> Option<MsgId>
+        ensures { result ≡ made_by (event_of act.now) self.now.recording.core.world.net }
+    {
+        match act {
+            Act::Broadcast(node) => self.next_id(*node),
+            Act::Boot(_, _) | Act::Crash(_) | Act::CrashReport(_, _) | Act::Shuffle(_) => None,
+            Act::Deliver(_) | Act::Lose(_) | Act::Repeat(_) => None,
+            Act::Timer(_, _) | Act::Snapshot => None,
+        }
+    }
+
+    /// The id of the next broadcast of a node, if it lives.
+    fn next_id(&self, node: NodeId) -> Option<MsgId>
+        ensures { result ≡ next_id node (map.get self.now.recording.core.world.net.nodes node) }
+    {
+        match self.world().peer(node) {
+            Some(peer) => Some(MsgId {
+                origin: node,
+                seq: peer.made(),
+            }),
+            None => None,
+        }
     }
 
     /// Writes a comment. OutOfMemory (99) is returned if an allocation was refused.
@@ -112,6 +153,7 @@ impl Growing {
             alloc: _,
             recording,
             choices: _,
+            log: _,
         } = self;
         recording.finish()
     }

@@ -2,6 +2,7 @@
 //! does the same; and a sweep grows many overlays, and tells each as a row of numbers.
 #![tactic(auto)]
 
+mod broadcast_log;
 mod broadcasts;
 mod core_recorded_as_script;
 mod fault;
@@ -9,14 +10,21 @@ mod growth_in_progress;
 mod healing_phase;
 mod joining_phase;
 mod line_writing;
+mod logged_overlay_growing;
+mod message_cost;
+mod message_costs;
+mod message_counts;
+mod message_row_making;
 mod options_determine_growth;
 mod overlay_batch_growing;
 mod overlay_growing;
 mod packet_turns;
+mod phase_costs;
 mod phase_end_analysis_and_broadcasts;
 mod phase_measurements;
 mod phase_moment_and_deliveries;
 mod phase_rules;
+mod phase_shape;
 mod random_choices;
 mod recordable_event;
 mod replay_theorem;
@@ -30,6 +38,7 @@ mod sweeping;
 
 pub use core_recorded_as_script::{Recorded, Recording};
 pub use fault::GrowFault;
+pub use message_row_making::message_rows_of;
 pub use options_determine_growth::{one_growth, one_row};
 pub use overlay_batch_growing::{GrownBatch, RefusedRun, grow_batch};
 pub use overlay_growing::{Grown, grow};

@@ -4,9 +4,8 @@ ghost use Rattle.ov_snap.specs.ReportState.{ReportState};
 ghost use Rattle.ov_grow.specs.Replay.{Replays};
 ghost use Rattle.ov_grow.specs.Growing.{Grows, IsGrowRefusal};
 
-use crate::core_recorded_as_script::Recorded;
 use crate::fault::GrowFault;
-use crate::growth_in_progress::Growing;
+use crate::logged_overlay_growing::grow_logged;
 use crate::phase_moment_and_deliveries::Phase;
 use ov_grow_options::GrowOptions;
 use ov_snap::Core;
@@ -56,17 +55,6 @@ pub fn grow(alloc: Global, options: &GrowOptions) -> Result<Grown, GrowFault>
     ensures healed { IfOk result (λ g. (r : ReportState) × HasReportOfAll g.core g.healed.moment r) }
     ensures refused { IfErr result (IsGrowRefusal options.now) }
 {
-    let mut growing = Growing::new(alloc, options)?;
-    growing.join(options)?;
-    let settled = growing.settle(options)?;
-    let crashed = growing.crash(settled.moment, options)?;
-    let healed = growing.heal(options)?;
-    let Recorded { text, core } = growing.finish();
-    Ok(Grown {
-        text,
-        core,
-        settled,
-        crashed,
-        healed,
-    })
+    let logged = grow_logged(alloc, options, false)?;
+    Ok(logged.into_grown())
 }

@@ -62,7 +62,10 @@ impl Growing {
         ensures full { IfErr result IsFull }
     {
         let _world = self.recording.core().world();
+        let before = self.packets();
         self.recording.act(Act::Snapshot)?;
+        self.log
+            .tell(self.alloc, &Act::Snapshot, None, before, &self.recording)?;
         let _text = self.recording.text();
         Ok(())
     }

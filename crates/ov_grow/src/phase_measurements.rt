@@ -9,12 +9,21 @@ use ov_cert::Cert;
 use ov_graph::Graph;
 use ov_ids::NodeId;
 use ov_snap::Report;
-use ov_sweep_rows::{DeliveredShare, PhaseRow};
+use ov_sweep_rows::{DeliveredShare, PhaseCosts, PhaseRow, PhaseShape};
 
-/// What a row says of a phase: the numbers of the report of its end, and how many of its broadcasts were delivered.
-pub(crate) fn phase_row(report: &Report, phase: Phase, broadcasts: u32) -> PhaseRow
+/// What a row says of a phase: the numbers of the report of its end, how many of its broadcasts were delivered, and
+/// what was measured beside them.
+pub(crate) fn phase_row(
+    report: &Report,
+    phase: Phase,
+    broadcasts: u32,
+    costs: Option<PhaseCosts>,
+    shape: Option<PhaseShape>,
+) -> PhaseRow
     requires { HasNode report.now.graph }
-    ensures { AreNumbersOf report.now broadcasts phase.deliveries result }
+    ensures numbers { AreNumbersOf report.now broadcasts phase.deliveries result }
+    ensures costs { result.costs ≡ costs }
+    ensures shape { result.shape ≡ shape }
 {
     let graph = report.checked().graph();
     let nodes = graph.nodes().len() as u32;
@@ -25,6 +34,8 @@ pub(crate) fn phase_row(report: &Report, phase: Phase, broadcasts: u32) -> Phase
         links: link_count(graph),
         entries: report.moment(),
         delivered: DeliveredShare::new(phase.deliveries, broadcasts, nodes),
+        costs,
+        shape,
     }
 }
 

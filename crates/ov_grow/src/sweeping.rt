@@ -6,7 +6,7 @@ use crate::overlay_batch_growing::{GrownBatch, grow_batch};
 use crate::sweep_fault::SweepFault;
 use ov_grow_options::GrowOptions;
 use ov_ids::Workers;
-use ov_sweep_rows::Row;
+use ov_sweep_rows::{Measures, Row};
 use std::alloc::Global;
 use std::thread::Threads;
 
@@ -26,9 +26,9 @@ pub trait RowTaker {
         ensures { WereGiven rows.now (taken self.old) (taken self.new) result };
 }
 
-/// Grows an overlay with the options of each of these runs by these workers, batch by batch, and has the rows of each
-/// batch taken before the next one begins. The first run that is refused ends the sweep, after the rows before it were
-/// taken.
+/// Grows an overlay with the options of each of these runs by these workers, batch by batch, measures what is asked
+/// for, and has the rows of each batch taken before the next one begins. The first run that is refused ends the sweep,
+/// after the rows before it were taken.
 ///
 /// Run (see `GrowFault`): a run was refused. Write (72): the rows were not taken. OutOfMemory (99): an allocation was
 /// refused.
@@ -37,25 +37,26 @@ pub fn sweep<R: Threads + Sync, I: Iterator<Item = GrowOptions> + Drop, T: RowTa
     alloc: Global,
     runs: I,
     workers: Workers,
+    measures: Measures,
     taker: &mut T,
 ) -> Result<(), SweepFault>
     requires can { I.can_next runs }
     requires ends { IsFinite (I.remaining runs) }
-    ensures { IsSweepOf I.next_gives runs (T.taken taker.old) (T.taken taker.new) result }
+    ensures { IsSweepOf measures I.next_gives runs (T.taken taker.old) (T.taken taker.new) result }
 {
     let size = workers.count() as usize * RUNS_OF_A_WORKER;
     let mut batch = Vec::new(alloc);
     for options in runs {
         batch.push(options)?;
         if batch.len() >= size {
-            sweep_batch(rt, alloc, &batch, workers, taker)?;
+            sweep_batch(rt, alloc, &batch, workers, measures, taker)?;
             batch.clear();
         }
     }
     if batch.is_empty() {
         return Ok(());
     }
-    sweep_batch(rt, alloc, &batch, workers, taker)
+    sweep_batch(rt, alloc, &batch, workers, measures, taker)
 }
 
 /// Grows an overlay with each of these options, and has their rows taken.
@@ -64,11 +65,12 @@ fn sweep_batch<R: Threads + Sync, T: RowTaker>(
     alloc: Global,
     batch: &[GrowOptions],
     workers: Workers,
+    measures: Measures,
     taker: &mut T,
 ) -> Result<(), SweepFault>
-    ensures { AreSwept batch.now (T.taken taker.old) (T.taken taker.new) result }
+    ensures { AreSwept measures batch.now (T.taken taker.old) (T.taken taker.new) result }
 {
-    let GrownBatch { rows, refused } = grow_batch(rt, alloc, batch, workers)?;
+    let GrownBatch { rows, refused } = grow_batch(rt, alloc, batch, workers, measures)?;
     taker.take(&rows)?;
     match refused {
         Some(refused) => Err(SweepFault::Run(refused)),

@@ -21,6 +21,7 @@ use Rattle.ov_snap.specs.Snapshots.{IsMoment}
 use Rattle.ov_run_meaning.specs.Subjects.{IsReported}
 use Rattle.ov_grow.specs.Recordings.{all_of}
 use Rattle.ov_grow.specs.Acts.{event_of}
+use Rattle.ov_grow.specs.Code.Logging.{log_of}
 use Rattle.ov_grow.specs.declared.recordable_event.Act.{Act}
 use Rattle.ov_grow.specs.declared.recordable_event.Act.TheVariants as act
 use Rattle.ov_grow.specs.Faults.{of_event}
@@ -34,7 +35,12 @@ use Rattle.ov_grow.specs.declared.growth_in_progress.Growing.{Growing}
 -- where growing stands
 abbrev pub growth_of : Growing → Growth
 growth_of g =
-    record { text = g.recording.script.text; world = g.recording.core.world; choices = g.choices }
+    record {
+      text = g.recording.script.text;
+      world = g.recording.core.world;
+      choices = g.choices;
+      log = log_of g.log;
+    }
 
 -- growing goes on in this way, and keeps the reports that are filed
 pub record Goes (Way : Growth → Growth → Type 0) (b u : Growing) : Type 0 where

@@ -15,7 +15,8 @@ loop-place-preserved c =
     let longer = length-append old (row ∷ []) in
     record {
       count = rw pushed (omega (arith, longer, i.count));
-      each = rw pushed (row_more c.args.batch.now old row c.loop-place.place i.count i.each (search rules));
+      each = rw pushed (row_more c.args.measures c.args.batch.now old row c.loop-place.place i.count i.each (search
+          rules));
     }
 
 pub returns-in-Err : goal.returns-in-Err
@@ -28,7 +29,8 @@ returns-in-Err c =
       each = i.each;
       ends = (
         subst (λ (n : ℕ). slice_get batch n ≡ Some c.index-batch-place.result) (sym i.count) read,
-        refused_here batch c.loop-place.place c.index-batch-place.result c.in-Err.fault read
-            (subst (λ (x : Outcome). IsOutcomeAt batch c.loop-place.place x) c.in-Err.is c.in_ok-row.ensures),
+        refused_here c.args.measures batch c.loop-place.place c.index-batch-place.result c.in-Err.fault read
+            (subst (λ (x : Outcome). IsOutcomeAt c.args.measures batch c.loop-place.place x) c.in-Err.is
+            c.in_ok-row.ensures),
       );
     }

@@ -8,5 +8,5 @@ use Rattle.ov_grow.proofs.overlay_batch_growing.put_together.Given as goal
 abbrev pub invariant-loop-place : goal.invariant-loop-place
 invariant-loop-place l = record {
   count : length l.rows.items ≡ l.place;
-  each : (i : ℕ) (row : Row) → slice_get l.rows.items i ≡ Some row → IsOutcomeAt l.fn.batch i (Ok row);
+  each : (i : ℕ) (row : Row) → slice_get l.rows.items i ≡ Some row → IsOutcomeAt l.fn.measures l.fn.batch i (Ok row);
 }

@@ -19,7 +19,7 @@ loop-place-preserved c =
     rw (length-append old (x ∷ [])) (omega arith) in
     record {
       place = rw pushed (omega (arith, longer, i.place));
-      each = rw pushed (apart_more c.args.batch.now c.args.first c.args.apart c.loop-place.place old x
+      each = rw pushed (apart_more c.args.measures c.args.batch.now c.args.first c.args.apart c.loop-place.place old x
           c.index-batch-place.result i.each i.place
           (slice_get_read c.args.batch.now (length c.args.batch.now) c.loop-place.place c.index-batch-place.result refl
           c.loop-place-test.true c.index-batch-place.is) c.row_of.ensures.row c.row_of.ensures.refused);

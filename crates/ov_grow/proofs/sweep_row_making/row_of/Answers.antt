@@ -1,35 +1,15 @@
--- The row of what was grown.
-use Rattle.std.proofs.Common.{ℕ, refl, subst}
-use Rattle.ov_grow.specs.Rows.{IsToldOf}
+use Rattle.std.proofs.Common.{refl, inl, inr}
+use Rattle.ov_grow.specs.Sweeps.{IsRunRefusal}
+use Rattle.ov_grow.specs.declared.fault.GrowFault.TheVariants.{OutOfMemory}
+use Rattle.ov_grow.proofs.Going.{passes_on}
 use Rattle.ov_grow.proofs.sweep_row_making.row_of.Goals as goal
 
-pub returns-clause-row : goal.returns-clause-row
-returns-clause-row c =
-    let grown = c.in_ok-grown.grown in
-    let b = c.count-broadcasts.ensures.value in
-    record {
-      options = refl;
-      three = refl;
-      text = grown.text.items;
-      core = grown.core;
-      settled = grown.settled;
-      crashed = grown.crashed;
-      healed = grown.healed;
-      grows = c.in_ok-grown.ensures.grows;
-      replays = c.in_ok-grown.ensures.replays;
-      settle = (
-        c.row_after-settle.result,
-        refl,
-        subst (λ (n : ℕ). IsToldOf grown.core grown.settled n c.row_after-settle.result) b c.row_after-settle.ensures,
-      );
-      crash = (
-        c.row_after-crash.result,
-        refl,
-        subst (λ (n : ℕ). IsToldOf grown.core grown.crashed n c.row_after-crash.result) b c.row_after-crash.ensures,
-      );
-      heal = (
-        c.row_after-heal.result,
-        refl,
-        subst (λ (n : ℕ). IsToldOf grown.core grown.healed n c.row_after-heal.result) b c.row_after-heal.ensures,
-      );
-    }
+pub returns-in_err-logged-clause-refused : goal.returns-in_err-logged-clause-refused
+returns-in_err-logged-clause-refused c =
+    passes_on (IsRunRefusal c.args.measures c.args.options.now) c.from_residual.result
+    c.in_err-logged.field-0.0 c.from_residual.ensures.1 c.in_err-logged.ensures.refused
+
+pub returns-in_err-row_told-clause-refused : goal.returns-in_err-row_told-clause-refused
+returns-in_err-row_told-clause-refused c =
+    passes_on (IsRunRefusal c.args.measures c.args.options.now) c.from_residual-in_err-row_told.result
+    OutOfMemory c.from_residual-in_err-row_told.ensures.1 (record { full = inr (inr refl); reason = inl refl })

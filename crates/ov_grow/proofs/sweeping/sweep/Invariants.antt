@@ -10,5 +10,5 @@ invariant-loop-options g l = record {
   can : (goal.iterator-loop-options g).can_next l.options-iterator;
   ends : (goal.iterator-loop-options g).is_finite l.options-iterator;
   swept : (runs : List GrowOptions) × (l.yielded ≡ runs ++ l.batch.items)
-      × AreSwept runs (g.T.RowTaker.taken l.fn.taker) (g.T.RowTaker.taken l.taker) (Ok tt);
+      × AreSwept l.fn.measures runs (g.T.RowTaker.taken l.fn.taker) (g.T.RowTaker.taken l.taker) (Ok tt);
 }

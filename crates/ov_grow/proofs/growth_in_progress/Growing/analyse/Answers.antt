@@ -24,7 +24,7 @@ returns-clause-answered c =
 
 pub returns-clause-goes : goal.returns-clause-goes
 returns-clause-goes c =
-    analysis_goes _ _ _ c.in_ok-analyse.ensures.analysed.0 _ refl c.in_ok-analyse.ensures.analysed.1
+    analysis_goes _ _ _ c.in_ok-analyse.ensures.analysed.0 _ refl refl c.in_ok-analyse.ensures.analysed.1
     c.in_ok-analyse.ensures.written
 
 pub returns-clause-live : goal.returns-clause-live

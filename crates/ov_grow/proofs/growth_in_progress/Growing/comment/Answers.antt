@@ -9,4 +9,4 @@ returns-in_err-comment-clause-refused c =
     passes_on (λ fault. fault ≡ OutOfMemory) c.from_residual.result OutOfMemory c.from_residual.ensures.1 refl
 
 pub returns-clause-goes : goal.returns-clause-goes
-returns-clause-goes c = comment_goes _ _ _ refl c.in_ok-comment.ensures.said
+returns-clause-goes c = comment_goes _ _ _ refl refl c.in_ok-comment.ensures.said
