@@ -1,5 +1,5 @@
--- That the search for a crashed neighbour may go on where it was: nobody has one more than before, unless an entry tells
--- that a node took one into its active view.
+-- That the search for a crashed neighbour may go on where it was: nobody has one more than before, unless an entry
+-- tells that a node took one into its active view.
 use Rattle.std.proofs.Common.{◌≡◌, ◌≢◌, ◌<◌, ◌≤◌, ◌+◌, ◌∙◌, ℕ, zero, suc, List, [], ◌∷◌, ◌++◌, length, take, drop}
 use Rattle.std.proofs.Common.{◌-◌, get_or, Option, Some, None, refl, sym, ap, subst, append_assoc, inl, inr, arith}
 use Rattle.std.proofs.Common.{length-append}
@@ -141,7 +141,8 @@ search_kept s u ids place (suc from) before after keeps none same quiet = λ a h
 
 -- a report and its packets
 pub reported_keeps :
-    (rules : PhaseRules) (s t u : Growth) (node crashed : ℕ) → Does s (act.CrashReport node crashed) t → RunOut rules t u
+    (rules : PhaseRules) (s t u : Growth) (node crashed : ℕ) → Does s (act.CrashReport node crashed) t → RunOut rules
+    t u
     → Keeps s u
 reported_keeps rules s t u node crashed did (n, turns, out) =
     keeps_trans s t u (report_keeps s t node crashed did) (turns_keep rules n t u turns)

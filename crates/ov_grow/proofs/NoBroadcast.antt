@@ -44,7 +44,8 @@ no_way_next sender nodes count n m node b t v fault so one whose none =
     (λ s u. (ids : List MsgId) × BroadcastsBegin sender nodes count s ids u) v b fault
     (λ u (ids, begin).
     let (others, more) = so ids u begin in
-    let (id, later, w, by, same, last) = begin_follows sender nodes m node others (growth_of t) (growth_of v) u whose.way
+    let (id, later, w, by, same, last) = begin_follows sender nodes m node others (growth_of t) (growth_of v) u
+    whose.way
     (subst (λ k. BroadcastsBegin sender nodes k (growth_of t) others u) one more) in
     (w, (id, by))) none
 

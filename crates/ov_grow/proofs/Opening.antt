@@ -225,7 +225,8 @@ seed_all : (n m k : ℕ) (p : ParamsState) (seed : ℕ) → IsSeedOf (stated_all
 unfolding IsSeedOf stated_all stated_second
 seed_all n m k p seed = inl (stated_second m seed, inr (inl refl), refl)
 
-none_ruled : (n m : ℕ) (p : ParamsState) (seed : ℕ) → ¬ HasKind says.Refill (stated_first n p ∷ stated_second m seed ∷ [])
+none_ruled : (n m : ℕ) (p : ParamsState) (seed : ℕ) → ¬ HasKind says.Refill (stated_first n p ∷ stated_second m seed
+    ∷ [])
 unfolding stated_first stated_second
 none_ruled n m p seed (line, rule, inl same, is) = absurd cc
 none_ruled n m p seed (line, rule, inr (inl same), is) = absurd cc

@@ -18,8 +18,8 @@ BroadcastBy node s id u =
     × (id ≡ record { origin = node; seq = p.tree.made })
     × Does s (act.Broadcast node) u
 
--- who of these live nodes broadcasts if node n is to: n itself, or else the one with the next larger id, or, if there is
--- none, the one with the smallest id
+-- who of these live nodes broadcasts if node n is to: n itself, or else the one with the next larger id, or, if there
+-- is none, the one with the smallest id
 abbrev pub StandsInFor : ℕ → List ℕ → ℕ → Type 0
 StandsInFor n live node =
     IsFirstOf (λ a. n ≤ a) live node

@@ -33,8 +33,7 @@ abbrev pub after_chance : ℕ → Lcg → Lcg
 after_chance p choices = if p == 0 then choices else later choices
 
 -- a random order of a list: again and again one of those that are left is chosen, which keep their order. `after` are
--- the
--- choices that are left
+-- the choices that are left
 abbrev pub IsRandomOrder : List ℕ → List ℕ → Lcg → Lcg → Type 0
 IsRandomOrder ids [] before after = (ids ≡ []) × (after ≡ before)
 IsRandomOrder ids (first ∷ order) before after =

@@ -27,8 +27,7 @@ abbrev pub begins : Bool → GrowOptions → Growth
 begins logged o = record (beginning o) { log = if logged then Some [] else None }
 
 -- from where b stands an overlay is grown with these options by the scenario of this text, which makes this world:
--- nodes
--- join, the overlay settles, nodes crash, and the overlay heals. There growing stands at s, t, v and u
+-- nodes join, the overlay settles, nodes crash, and the overlay heals. There growing stands at s, t, v and u
 pub record GrowsFrom (b : Growth) (o : GrowOptions) (text : List ℕ) (world : WorldState)
     (settled crashed healed : Phase) : Type 0
   where

@@ -1,6 +1,5 @@
 -- What single broadcasts cost. GOSSIP, IHAVE, GRAFT and PRUNE are Plumtree's (Leitão, Pereira, Rodrigues, SRDS 2007),
--- as
--- is the number of hops; that they are counted so is chosen here.
+-- as is the number of hops; that they are counted so is chosen here.
 use Rattle.std.specs.Prelude.{◌≡◌, ℕ, ◌+◌, max, Bool, true, false, List, [], ◌∷◌, map as each, length, count_by}
 use Rattle.std.specs.Prelude.{Option, Some, None, option_map, unwrap_or, is_some}
 use Rattle.std.specs.FinMap as map

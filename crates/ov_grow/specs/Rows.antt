@@ -76,9 +76,8 @@ IsAsked true IsRight None = ⊥
 IsAsked false IsRight told = told ≡ None
 
 -- what a row says of a phase that ended so, when growing stood at s: the numbers of the report of all nodes that the
--- core
--- files for its moment, and, if they are asked for, what the broadcasts cost, and the shape of the report's graph. What
--- this report says is true
+-- core files for its moment, and, if they are asked for, what the broadcasts cost, and the shape of the report's graph.
+-- What this report says is true
 pub record IsToldOf (m : Measures) (s : Growth) (c : CoreState) (ended : GrownPhase) (broadcasts : ℕ)
     (p : PhaseRow) : Type 0
   where

@@ -16,8 +16,8 @@ use crate::recordable_event::Act;
 use ov_ids::{MsgId, NodeId};
 
 impl Growing {
-    /// So many broadcasts, one by one or at once, until no packet is on its way and no timer of their messages runs. The
-    /// messages are returned in order. Some node must live.
+    /// So many broadcasts, one by one or at once, until no packet is on its way and no timer of their messages runs.
+    /// The messages are returned in order. Some node must live.
     pub(crate) fn broadcasts(
         &mut self,
         count: u32,

@@ -105,8 +105,8 @@ impl Recording {
     }
 
     /// Takes the event of an act, with the next random words of the script, and writes the line of the act. The event's
-    /// entry is the last of the journal then. It is refused for the first applicable refusal of the world (10 to 20, see
-    /// `NetFault`), or it is out of memory (99) if none applies. What is refused changes nothing, and no line is
+    /// entry is the last of the journal then. It is refused for the first applicable refusal of the world (10 to 20,
+    /// see `NetFault`), or it is out of memory (99) if none applies. What is refused changes nothing, and no line is
     /// written.
     pub fn act(&mut self, act: Act) -> Result<(), NetFault>
         ensures happened { OnOk result

@@ -84,7 +84,8 @@ impl Growing {
         requires live { AreLive (growth_of self.now) nodes.now }
         requires none { HaveNone (HasCrashed (growth_of self.now)) (take from nodes.now) }
         ensures some { IfSome result (λ found. AreFirst (growth_of self.now) found.node found.crashed) }
-        ensures before { IfSome result (λ found. HaveNone (HasCrashed (growth_of self.now)) (take found.place nodes.now)) }
+        ensures before { IfSome result (λ found. HaveNone (HasCrashed (growth_of self.now)) (take found.place
+            nodes.now)) }
         ensures none { IfNone result (HasNone (growth_of self.now)) }
     {
         let mut place = from;

@@ -44,7 +44,8 @@ took_next cfg s0 a b xs y records fields (Some z) reads reached =
     (z, took_some cfg s0 a b xs y z records fields (next_record cfg a [] [] y) refl reads reached)
 
 -- a record comes after rows
-comes_next : (form : RowForm) (text : List ℕ) (a b : Reader (Bor (List ℕ))) (left : ℕ) (rows : List Row) (fields : List (List ℕ))
+comes_next : (form : RowForm) (text : List ℕ) (a b : Reader (Bor (List ℕ))) (left : ℕ) (rows : List Row) (fields :
+    List (List ℕ))
     → Reads form text a left rows → TookRecord text_left a b fields → ComesAfterRows text form fields
 comes_next form text a b left rows fields reads took =
     let next = took_next default_config st.StartRecord a.state b.state (strip_bom text) reads.stands.rest
@@ -59,7 +60,8 @@ comes_next form text a b left rows fields reads took =
     }
 
 -- it can't be read
-pub next_unread : (form : RowForm) (text : List ℕ) (a b : Reader (Bor (List ℕ))) (left : ℕ) (rows : List Row) (why : ErrorKind)
+pub next_unread : (form : RowForm) (text : List ℕ) (a b : Reader (Bor (List ℕ))) (left : ℕ) (rows : List Row) (why :
+    ErrorKind)
     (fault : RowFault) → Reads form text a left rows → ExplainsRead text_left a b false why → IsFaultOf why fault
     → IsRowRefusal text fault
 next_unread form text a b left rows (kind.UnequalLengths pos expected len) fault reads explains is =
@@ -81,7 +83,8 @@ next_unread form text a b left rows (kind.Serialize told) fault reads explains i
 next_unread form text a b left rows (kind.Deserialize pos err) fault reads explains is = rw is tt
 
 -- it says no row
-pub next_untaken : (form : RowForm) (text : List ℕ) (a b : Reader (Bor (List ℕ))) (left next : ℕ) (rows : List Row) (row : Fields)
+pub next_untaken : (form : RowForm) (text : List ℕ) (a b : Reader (Bor (List ℕ))) (left next : ℕ) (rows : List Row)
+    (row : Fields)
     (fault : RowFault) → Reads form text a left rows → RowStep text_left a b next (Some (Ok row))
     → IsTakeFault form (fields_of row) fault → IsRowRefusal text fault
 next_untaken form text a b left next rows row Header reads step untaken = absurd untaken

@@ -14,7 +14,8 @@ use Rattle.ov_sweep_rows.proofs.Records.{Stands, fields_next, stands_last, stand
 use Rattle.ov_sweep_rows.proofs.Said.{header_said, is_header_test, is_row_test, row_said}
 
 -- a reader has given the header and records behind it, which say these rows, and goes on
-pub record Reads (form : RowForm) (text : List ℕ) (reader : Reader (Bor (List ℕ))) (left : ℕ) (rows : List Row) : Type 0 where
+pub record Reads (form : RowForm) (text : List ℕ) (reader : Reader (Bor (List ℕ))) (left : ℕ) (rows : List Row) :
+    Type 0 where
   pub records : List (List (List ℕ))
   pub stands : Stands text reader left (columns form ∷ records)
   pub lengths : reader.expected ≡ Some (length (columns form))
@@ -33,7 +34,8 @@ reads_begun form text a b left next row stands step flexible same = record {
 }
 
 -- the header once more
-reads_header : (form : RowForm) (text : List ℕ) (a b : Reader (Bor (List ℕ))) (left next : ℕ) (rows : List Row) (row : Fields)
+reads_header : (form : RowForm) (text : List ℕ) (a b : Reader (Bor (List ℕ))) (left next : ℕ) (rows : List Row) (row
+    : Fields)
     → Reads form text a left rows → RowStep text_left a b next (Some (Ok row)) → is_flexible b ≡ is_flexible a
     → fields_of row ≡ columns form → Reads form text b next rows
 reads_header form text a b left next rows row reads step flexible same = record {
@@ -45,8 +47,10 @@ reads_header form text a b left next rows row reads step flexible same = record 
 }
 
 -- a row more
-reads_row : (form : RowForm) (text : List ℕ) (a b : Reader (Bor (List ℕ))) (left next : ℕ) (rows : List Row) (row : Fields)
-    (is : Row) → Reads form text a left rows → RowStep text_left a b next (Some (Ok row)) → is_flexible b ≡ is_flexible a
+reads_row : (form : RowForm) (text : List ℕ) (a b : Reader (Bor (List ℕ))) (left next : ℕ) (rows : List Row) (row :
+    Fields)
+    (is : Row) → Reads form text a left rows → RowStep text_left a b next (Some (Ok row)) → is_flexible b ≡
+    is_flexible a
     → (fields_of row ≡ columns form → ⊥) → SayRow form (fields_of row) is → Reads form text b next (rows ++ (is ∷ []))
 reads_row form text a b left next rows row is reads step flexible other says = record {
   records = reads.records ++ (fields_of row ∷ []);
@@ -57,7 +61,8 @@ reads_row form text a b left next rows row is reads step flexible other says = r
 }
 
 -- one more record was taken
-pub reads_more : (form : RowForm) (text : List ℕ) (a b : Reader (Bor (List ℕ))) (left next : ℕ) (old new : List Row) (row : Fields)
+pub reads_more : (form : RowForm) (text : List ℕ) (a b : Reader (Bor (List ℕ))) (left next : ℕ) (old new : List Row)
+    (row : Fields)
     → Reads form text a left old → RowStep text_left a b next (Some (Ok row)) → is_flexible b ≡ is_flexible a
     → WasTaken form (fields_of row) old new → Reads form text b next new
 reads_more form text a b left next old new row reads step flexible taken = elim taken [

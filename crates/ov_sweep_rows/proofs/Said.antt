@@ -18,7 +18,11 @@ unfolding SayRows
 said_more form [] [] fields row said says = (says, tt)
 said_more form [] (r ∷ rows) fields row said says = absurd said
 said_more form (f ∷ records) [] fields row said says = absurd said
-said_more form (f ∷ records) (r ∷ rows) fields row said says = (said.0, said_more form records rows fields row said.1 says)
+said_more form (f ∷ records) (r ∷ rows) fields row said says = (
+  said.0,
+  said_more form records rows fields row said.1
+      says,
+)
 
 -- one record more, which is not the header
 pub row_said : (form : RowForm) (records : List (List (List ℕ))) (rows : List Row) (fields : List (List ℕ)) (row : Row)
@@ -33,10 +37,16 @@ pub header_said : (form : RowForm) (records : List (List (List ℕ))) (rows : Li
     → is_no_header form fields ≡ false → SayRows form (filter (is_no_header form) records) rows
     → SayRows form (filter (is_no_header form) (records ++ (fields ∷ []))) rows
 header_said form records rows fields tested said =
-    rw (filter-append (is_no_header form) records (fields ∷ []), tested, append-nil (filter (is_no_header form) records)) said
+    rw (
+      filter-append (is_no_header form) records (fields ∷ []),
+      tested,
+      append-nil (filter (is_no_header form)
+          records),
+    ) said
 
 -- whether the fields are the names of the columns
-header_decided : (form : RowForm) (fields : List (List ℕ)) → (pointwise (pointwise nat_eq) fields (columns form) ≡ true → fields ≡ columns form)
+header_decided : (form : RowForm) (fields : List (List ℕ)) → (pointwise (pointwise nat_eq) fields (columns form) ≡
+    true → fields ≡ columns form)
     × (fields ≡ columns form → pointwise (pointwise nat_eq) fields (columns form) ≡ true)
 header_decided form fields = pointwise_decides bytes_decides fields (columns form)
 
@@ -45,10 +55,12 @@ decided true none = absurd (none refl)
 decided false none = refl
 
 -- the header is known by its fields
-pub is_header_test : (form : RowForm) (fields : List (List ℕ)) → fields ≡ columns form → is_no_header form fields ≡ false
+pub is_header_test : (form : RowForm) (fields : List (List ℕ)) → fields ≡ columns form → is_no_header form fields ≡
+    false
 is_header_test form fields same = ap not ((header_decided form fields).1 same)
 
 -- and so is any other record
-pub is_row_test : (form : RowForm) (fields : List (List ℕ)) → (fields ≡ columns form → ⊥) → is_no_header form fields ≡ true
+pub is_row_test : (form : RowForm) (fields : List (List ℕ)) → (fields ≡ columns form → ⊥) → is_no_header form fields
+    ≡ true
 is_row_test form fields other =
     decided (pointwise (pointwise nat_eq) fields (columns form)) (λ same. other ((header_decided form fields).0 same))

@@ -72,9 +72,9 @@ pub record ComesAfterRows (text : List ℕ) (rows_have : RowForm) (fields : List
       rest
   pub are_said : SayRows rows_have (filter (is_no_header rows_have) records) rows
 
--- why a text is refused: its first record is the header of no form; or the first record behind it that is neither a row nor
--- the header once more has this number of fields, and so many are needed, one for each column; or what stands in its column that
--- the fault names is not of the form that the fault names; or an allocation was refused
+-- why a text is refused: its first record is the header of no form; or the first record behind it that is neither a row
+-- nor the header once more has this number of fields, and so many are needed, one for each column; or what stands in
+-- its column that the fault names is not of the form that the fault names; or an allocation was refused
 abbrev pub IsRowRefusal : List ℕ → RowFault → Type 0
 IsRowRefusal text Header = (rows_have : RowForm) → first_record text ≢ Some (columns rows_have)
 IsRowRefusal text (FieldCount line number needed) =

@@ -3,9 +3,9 @@ ghost use Rattle.ov_sweep_rows.specs.Columns.{columns};
 
 use crate::RowForm;
 
-/// The columns of a row that has all: 18 for the setting, which is all options but the seed and the further ones, in the
-/// order of their table; the seed; six for each phase; three for the further options; six for what the broadcasts of each
-/// phase cost; and seven for the shape of each phase.
+/// The columns of a row that has all: 18 for the setting, which is all options but the seed and the further ones, in
+/// the order of their table; the seed; six for each phase; three for the further options; six for what the broadcasts
+/// of each phase cost; and seven for the shape of each phase.
 const ALL_COLUMNS: [&str; 79] = [
     "nodes",
     "active",

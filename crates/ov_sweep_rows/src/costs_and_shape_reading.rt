@@ -86,7 +86,8 @@ fn shape_from(fields: &RowFields<'_>, first: usize) -> Result<PhaseShape, RowFau
 
 fn decimals_at(fields: &RowFields<'_>, place: usize) -> Result<FourDecimals, RowFault>
     ensures fault { IfErr result (IsFieldFault (fields_of fields.now.record.now)) }
-    ensures value { IfOk result (λ decimals. SpellsParts (text_at (fields_of fields.now.record.now) place) decimals.parts) }
+    ensures value { IfOk result (λ decimals. SpellsParts (text_at (fields_of fields.now.record.now) place)
+        decimals.parts) }
 {
     match fields.decimals(place) {
         Some(decimals) => Ok(decimals),

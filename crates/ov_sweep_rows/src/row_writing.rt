@@ -7,8 +7,8 @@ use csv::{Error as CsvError, Writer, WriterBuilder};
 use ov_ids::OutOfMemory;
 use std::alloc::Global;
 
-/// The header of rows of this form: the names of their columns, with one comma between two, and a line feed. OutOfMemory
-/// (99) if an allocation is refused.
+/// The header of rows of this form: the names of their columns, with one comma between two, and a line feed.
+/// OutOfMemory (99) if an allocation is refused.
 pub fn header_text(alloc: Global, form: RowForm) -> Result<Vec<u8>, OutOfMemory> {
     let mut writer = WriterBuilder::new().from_writer(Vec::new(alloc));
     write_names(&mut writer, column_names(form))?;

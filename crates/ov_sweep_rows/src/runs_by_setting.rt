@@ -136,8 +136,8 @@ pub(crate) fn common_command(
 }
 
 /// The command of the sweep with the values of the options in which settings differ too, in the order in which they
-/// come. The text is that of `common_command` if it would not fit a line, or if one of these options takes no value: then
-/// no sweep has all settings.
+/// come. The text is that of `common_command` if it would not fit a line, or if one of these options takes no value:
+/// then no sweep has all settings.
 pub(crate) fn swept_command(
     alloc: Global,
     settings: &[Setting<'_>],

@@ -35,7 +35,8 @@ loop-record-preserved c =
     let reads = c.loop-record.invariant in
     let step = rw (c.in-Some-record.is, c.in_ok-record.was) at
     (c.next-in-loop-record.ensures.steps reads.stands.turns reads.stands.plain) in
-    reads_more c.in-Some-form_of.form c.args.text.now c.loop-record.record-iterator.rdr c.next-in-loop-record.new.self.rdr
+    reads_more c.in-Some-form_of.form c.args.text.now c.loop-record.record-iterator.rdr
+    c.next-in-loop-record.new.self.rdr
     c.loop-record.record-iterator.left c.next-in-loop-record.new.self.left c.loop-record.rows.items
     c.take_record-in-loop-record.new.rows.items c.in_ok-record.field-0 reads (step.0 reads.stands.ready) step.3
     c.in_ok-take_record.ensures.taken
@@ -44,7 +45,8 @@ pub returns-clause-rows : goal.returns-clause-rows
 returns-clause-rows c =
     let reads = c.loop-record.invariant in
     let step = rw c.in-None.is at (c.next-in-loop-record.ensures.steps reads.stands.turns reads.stands.plain) in
-    reads_all c.in-Some-form_of.form c.args.text.now c.loop-record.record-iterator.rdr c.next-in-loop-record.new.self.rdr
+    reads_all c.in-Some-form_of.form c.args.text.now c.loop-record.record-iterator.rdr
+    c.next-in-loop-record.new.self.rdr
     c.loop-record.record-iterator.left c.next-in-loop-record.new.self.left c.loop-record.rows.items reads
     (step.0 reads.stands.ready)
 
@@ -55,7 +57,8 @@ returns-in_err-record-clause-fault c =
     (c.next-in-loop-record.ensures.steps reads.stands.turns reads.stands.plain) in
     fault_tells (IsFaultOf c.in_err-record.field-0.0.kind) (IsRowRefusal c.args.text.now)
     c.from_residual-in_err-record.result
-    (λ fault is. next_unread c.in-Some-form_of.form c.args.text.now c.loop-record.record-iterator.rdr c.next-in-loop-record.new.self.rdr
+    (λ fault is. next_unread c.in-Some-form_of.form c.args.text.now c.loop-record.record-iterator.rdr
+    c.next-in-loop-record.new.self.rdr
     c.loop-record.record-iterator.left c.loop-record.rows.items c.in_err-record.field-0.0.kind fault reads
     (step.0 reads.stands.ready) is)
     c.from_residual-in_err-record.ensures.1
@@ -68,7 +71,8 @@ returns-in_err-take_record-clause-fault c =
     fault_tells (λ fault. fault ≡ c.in_err-take_record.field-0.0) (IsRowRefusal c.args.text.now)
     c.from_residual-in_err-take_record.result
     (λ fault same. rw same (
-    next_untaken c.in-Some-form_of.form c.args.text.now c.loop-record.record-iterator.rdr c.next-in-loop-record.new.self.rdr
+    next_untaken c.in-Some-form_of.form c.args.text.now c.loop-record.record-iterator.rdr
+    c.next-in-loop-record.new.self.rdr
     c.loop-record.record-iterator.left c.next-in-loop-record.new.self.left c.loop-record.rows.items
     c.in_ok-record.field-0 c.in_err-take_record.field-0.0 reads (step.0 reads.stands.ready)
     c.in_err-take_record.ensures.fault

@@ -16,7 +16,8 @@ invariant_of-self-2 c =
     let made = made_room c.self.inside.script script core c.make_room.ensures.same c.self.invariant in
     let step = subst (λ (e : Event). Happened core e c.next_words.result.now entry c.take_event.new.self)
     c.event-event.ensures happens in
-    let happened = subst (λ (words : List ℕ). Happened core event words entry c.take_event.new.self) c.next_words.ensures
+    let happened = subst (λ (words : List ℕ). Happened core event words entry c.take_event.new.self)
+    c.next_words.ensures
     step in
     made_more script c.push.new.self core c.take_event.new.self (line.Event event script.next) made c.push.ensures.lines
     c.push.ensures.params

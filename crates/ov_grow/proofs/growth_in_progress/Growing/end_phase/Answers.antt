@@ -34,7 +34,8 @@ returns-in_err-broadcasts-clause-refused c =
 
 pub returns-clause-ends : goal.returns-clause-ends
 returns-clause-ends c = ends_goes c.args.rules.now c.args.broadcasts c.in_ok-moment.moment
-    c.deliveries_after-deliveries.result c.in_ok-broadcasts.field-0.items c.args.self.now c.analyse_now.new.self c.broadcasts.new.self
+    c.deliveries_after-deliveries.result c.in_ok-broadcasts.field-0.items c.args.self.now c.analyse_now.new.self
+    c.broadcasts.new.self
     c.in_ok-moment.ensures.goes c.in_ok-broadcasts.ensures.goes c.deliveries_after-deliveries.ensures
 
 pub returns-clause-answered : goal.returns-clause-answered
@@ -53,5 +54,6 @@ returns-clause-lasting c =
     let t = growth_of c.analyse_now.new.self in
     let u = growth_of c.broadcasts.new.self in
     still_live c.in_ok-moment.moment c.args.broadcasts t u c.in_ok-moment.ensures.within
-    (broadcasts_made c.args.rules.now c.args.broadcasts t u c.in_ok-broadcasts.field-0.items c.in_ok-broadcasts.ensures.goes.way)
+    (broadcasts_made c.args.rules.now c.args.broadcasts t u c.in_ok-broadcasts.field-0.items
+    c.in_ok-broadcasts.ensures.goes.way)
     c.in_ok-moment.ensures.lasting

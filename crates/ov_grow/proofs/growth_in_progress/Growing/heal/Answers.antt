@@ -61,7 +61,8 @@ end_phase-requires-clause-live c =
     let v = growth_of c.tell_crashes.new.self in
     let w = growth_of c.rounds.new.self in
     let keeps = keeps_trans s t w (keeps_same s t (ap (λ g. g.world) c.in_ok-comment.ensures.goes.way))
-    (keeps_trans t v w (told_all_keep c.args.options.now.detect c.healing-rules.result t v c.in_ok-tell_crashes.ensures.goes.way)
+    (keeps_trans t v w (told_all_keep c.args.options.now.detect c.healing-rules.result t v
+    c.in_ok-tell_crashes.ensures.goes.way)
     (rounds_keep c.healing-rules.result c.count.result v w c.in_ok-rounds.ensures.goes.way)) in
     lives_keeps s w keeps c.requires.live
 
@@ -72,7 +73,8 @@ end_phase-requires-clause-made c =
     let v = growth_of c.tell_crashes.new.self in
     let w = growth_of c.rounds.new.self in
     let keeps = keeps_trans s t w (keeps_same s t (ap (λ g. g.world) c.in_ok-comment.ensures.goes.way))
-    (keeps_trans t v w (told_all_keep c.args.options.now.detect c.healing-rules.result t v c.in_ok-tell_crashes.ensures.goes.way)
+    (keeps_trans t v w (told_all_keep c.args.options.now.detect c.healing-rules.result t v
+    c.in_ok-tell_crashes.ensures.goes.way)
     (rounds_keep c.healing-rules.result c.count.result v w c.in_ok-rounds.ensures.goes.way)) in
     let few : most_rounds + most_rounds + c.count-2.result ≤ most_broadcasts =
     omega (arith, c.count-2.ensures.limit) in

@@ -54,7 +54,8 @@ pub search_from-from-requires : goal.search_from-from-requires
 search_from-from-requires c =
     let keeps = reported_keeps c.args.rules.now (growth_of c.loop-found.self) (growth_of c.act.new.self)
     (growth_of c.run_out.new.self) _ _ c.in_ok-act.ensures.goes.way c.in_ok-run_out.ensures.goes.way in
-    let count = ap (λ (es : List Entry). length es) (c.journal-before.ensures.value ∙ ap (λ w. w.journal) c.world.ensures)
+    let count = ap (λ (es : List Entry). length es) (c.journal-before.ensures.value ∙ ap (λ w. w.journal)
+    c.world.ensures)
     in
     omega (arith, count, no_shorter (growth_of c.loop-found.self) (growth_of c.run_out.new.self) keeps)
 
@@ -64,7 +65,8 @@ loop-found-preserved c =
     let u = growth_of c.run_out.new.self in
     let keeps = reported_keeps c.args.rules.now s (growth_of c.act.new.self) u _ _ c.in_ok-act.ensures.goes.way
     c.in_ok-run_out.ensures.goes.way in
-    let count = ap (λ (es : List Entry). length es) (c.journal-before.ensures.value ∙ ap (λ w. w.journal) c.world.ensures)
+    let count = ap (λ (es : List Entry). length es) (c.journal-before.ensures.value ∙ ap (λ w. w.journal)
+    c.world.ensures)
     in
     record {
       way = left_reports c.args.rules.now _ _ c.args.self.now c.loop-found.self c.act.new.self c.run_out.new.self
