@@ -7,6 +7,7 @@ figure of several overlays is the mean over their seeds of a figure of each; wit
 """
 
 import argparse
+import pathlib
 import re
 import subprocess
 import sys
@@ -17,6 +18,7 @@ from study import DOCS
 from sweeps import PAPERS, ROWS, grouped, make, rows
 from tables import table
 
+HERE = pathlib.Path(__file__).resolve().parent
 PAGES = (DOCS / "PAPERS.md", DOCS / "TABLES.md")
 RULES = CHOICES["refill"]
 CRASHES = ("10", "30", "50", "70", "80", "90", "95")
@@ -293,7 +295,7 @@ def make_rows(name, simulate):
         make(name, simulate, None, 1)
     elif not (ROWS / f"{name}.csv").exists():
         ROWS.mkdir(exist_ok=True)
-        done = subprocess.run([sys.executable, "shape.py", *RANDOM.split()], stdout=subprocess.PIPE, check=True)
+        done = subprocess.run([sys.executable, HERE / "shape.py", *RANDOM.split()], stdout=subprocess.PIPE, check=True)
         (ROWS / f"{name}.csv").write_bytes(done.stdout)
 
 
