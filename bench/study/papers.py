@@ -28,7 +28,7 @@ LIGHT = ["#2c3e94", "#1d8aa8", "#2a9d8f", "#a08a00", "#d95f02", "#c0302a", "#7a1
 DARK = ["#9db0ff", "#6fd0e8", "#6fd6c8", "#e0cf5a", "#ff9a52", "#ff8a80", "#ff6fa0"]
 # Messages that are told together: in figures, and in tables.
 PIECES = ((1, 1), (2, 2), (3, 4), (5, 8), (9, 14), (15, 20), (21, 50), (51, 100), (101, 200), (201, 500), (501, 1000))
-OF_TABLE = ((1, 1), (2, 5), (6, 10), (11, 20), (41, 50), (91, 100), (191, 200), (491, 500), (991, 1000))
+OF_TABLE = ((1, 1), (2, 5), (6, 10), (11, 20), (41, 50), (91, 100), (191, 200), (491, 500), (901, 1000))
 OF_TREE = ((1, 1), (2, 2), (3, 10), (11, 20))
 PERCENT = Axis("", 0, 100, whole_numbers(0, 20, 40, 60, 80, 100))
 # What `simulate` has no part in: random graphs, in which each node has as many links.
@@ -151,7 +151,7 @@ def tree():
     across = Axis("message", 1, 20, whole_numbers(1, 2, 5, 10, 20), is_log=True)
     panels = [
         Panel(60, 480, "relative redundancy", across, Axis("", 0, 4, whole_numbers(0, 1, 2, 3, 4))),
-        Panel(620, 480, "hops of the last delivery", across, Axis("", 0, 50, whole_numbers(0, 10, 20, 30, 40, 50))),
+        Panel(620, 480, "most hops of a message", across, Axis("", 0, 50, whole_numbers(0, 10, 20, 30, 40, 50))),
     ]
     for panel in panels:
         panel.axes()

@@ -18,14 +18,14 @@ namespace {
 constexpr const char* HELP =
     R"(usage: simulate OPTIONS [--runs N] [MODE] [--exact N]
 
-OPTIONS are those of docs/GROWING.md, with any number of nodes. Each but --seed takes a list, as --active 3,4,5: all
-settings are grown, that of the first option of the table varying slowest, each with N seeds from --seed on (1 without
---runs). MODE is one of:
+OPTIONS are those of docs/GROWING.md, with any number of nodes; --sequential, --sender N and --detect are among them
+("Further options"). Each but --seed takes a list, as --active 3,4,5: all settings are grown, that of the first option
+of the table varying slowest, each with N seeds from --seed on (1 without --runs). MODE is one of:
 
   (no mode)    three lines for each overlay, one for each phase, for people
   --csv        a row for each overlay, as `overlay sweep` has it, with a header; --costs and --shape, which may stand
                together, put the columns of docs/GROWING.md behind it
-  --messages   a row for each broadcast, with a header; this needs --sequential
+  --messages   a row for each broadcast, with a header, as `overlay sweep --messages` has it; this needs --sequential
   --scenario   the scenario that `overlay grow` prints
   --graph      the settled overlay, as a graph file for `overlay analyse`
   --fates      a row for each overlay, of the settled one: components, and what became of the nodes that are alone
@@ -41,7 +41,6 @@ settings are grown, that of the first option of the table varying slowest, each 
   --exact N    up to N nodes the node connectivity is found exactly (512); beyond that only whether it is 0
 
 What the tool has no option for:
-  --sequential, --sender N, --detect   as docs/GROWING.md says ("Further options"); the tool will have them
   --reports-at-once   all reports come before a packet moves when the overlay begins to heal
   --one-contact       everybody joins by node 1
   --until-full        an attempt that found a neighbour goes on while the active view has a free place
