@@ -8,7 +8,7 @@ from typing import Any, Dict, List, Optional
 
 from .errors import Refused
 from .graphs import MOST_TOLD, shown
-from .programs import Program, call, find, lines_of
+from .programs import Program, call, find, lines_of, opened
 
 NO_SUCH_ENTRY = 86
 
@@ -38,10 +38,10 @@ def counted(kind: str, entries: List[str]) -> str:
 def drawn(certificate: str, graph_file: str, names: Dict[int, Any], entry: List[str],
           overlay: Optional[Program]) -> str:
     """The picture of a certificate, with the names in a graph file, and with the paths of an entry."""
-    with tempfile.NamedTemporaryFile(suffix=".graph") as file:
+    with tempfile.NamedTemporaryFile(suffix=".graph") as file, opened(certificate) as data:
         file.write(graph_file.encode())
         file.flush()
-        ended = call(find("overlay", overlay), ["picture", f"--names={file.name}", *entry], certificate.encode())
+        ended = call(find("overlay", overlay), ["picture", f"--names={file.name}", *entry], data)
     try:
         return "".join(f"{line}\n" for line in lines_of(ended))
     except Refused as why:
