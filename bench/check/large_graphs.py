@@ -1,18 +1,18 @@
 #!/usr/bin/env python3
-"""large_graphs.py [NAME ..]: writes graphs whose certificates are large as graph files `NAME.graph`, into the folder that
-it is run in; without names all of them.
+"""large_graphs.py [NAME ..]: writes graphs whose certificates are large as graph files `NAME.graph`, into the folder
+that it is run in; without names all of them.
 
-Each has 1,024 nodes. half-1024 and nine-tenths-1024 have so many of all links, at random; two-sides-512 links each of 512
-nodes to each of 512 others, and three-parts-1024 is split into three parts as equal as can be, with all links between
-nodes of different parts. largest-1024 is made to have the longest certificate that was found (docs/CHECK-A-REPORT.md): of
-its first 684 nodes each has 3 links to nodes of the other half of these, and lacks 339, and all other links are there.
-The ids are the numbers from 1 on; of largest-1024-long-ids they have ten digits.
+Each has 1,024 nodes. half-1024 and nine-tenths-1024 have so many of all links, at random; two-sides-512 links each of
+512 nodes to each of 512 others, and three-parts-1024 is split into three parts as equal as can be, with all links
+between nodes of different parts. largest-1024 is made to have the longest certificate that was found
+(docs/CHECK-A-REPORT.md): of its first 684 nodes each has 3 links to nodes of the other half of these, and lacks 339,
+and all other links are there. The ids are the numbers from 1 on; of largest-1024-long-ids they have ten digits.
 
 The k of largest-1024 is 684, the links of each of its first nodes. For what splits it has all later nodes, and leaves
 some nodes of each half. If it leaves a of one, these are linked to a + 2 of the other half or more, as STEPS are chosen
-(by Kneser's theorem), which it has too: so it has 340 + 342 - a + a + 2 nodes or more. The paths between two first nodes
-that are not linked begin with all links of one and end with all of the other, so they run through every node of the
-graph, whichever paths are chosen.
+(by Kneser's theorem), which it has too: so it has 340 + 342 - a + a + 2 nodes or more. The paths between two first
+nodes that are not linked begin with all links of one and end with all of the other, so they run through every node of
+the graph, whichever paths are chosen.
 """
 
 import random

@@ -12,9 +12,9 @@ COLON = re.compile(r"[ \t\n\r]*:[ \t\n\r]*")
 def members_of(certificate: str, *keys: str) -> List[Any]:
     """The values that a certificate file has for these keys. It must be one to which overlay-check says yes.
 
-    Such a file has no text but its keys and its verdict. So if it has no escapes, and the text of a key occurs once, the
-    member stands there, and it alone is decoded: a large file takes as many times its bytes otherwise as Python needs
-    for its lists. Of any other file, all is decoded; of a key that occurs twice the last member counts.
+    Such a file has no text but its keys and its verdict. So if it has no escapes, and a key occurs once in quotes, its
+    member stands there, and it alone is decoded: Python's lists take many times the bytes of a file. Any other file is
+    decoded as a whole; of a key that occurs twice the last member counts.
 
     >>> members_of('{"k":1,"links":[[1,2]],"moment":6,"nodes":[1,2],"verdict":"linked","version":1}', "nodes", "links")
     [[1, 2], [[1, 2]]]

@@ -6,3 +6,4 @@ mod files;
 mod graph;
 mod rows;
 mod told;
+mod tokens;
