@@ -1,7 +1,7 @@
 #!/usr/bin/env python3
 """size_bound.py: prints how many bytes a certificate of a graph of 1,024 nodes has at most, with the ids 1 to 1024 and
 with ids of ten digits, and the k of which that is so; and how many that of largest-1024 of large_graphs.py has, but for
-a few KB.
+its fans, which are counted as if they ran through all nodes: half a MB too much.
 
 A node is in at most 1,023 - k pairs, since it has k links or more. The k paths of an entry share no node but their
 ends, so each other node is on one of them at most. docs/CHECK-A-REPORT.md says more.
@@ -10,15 +10,16 @@ ends, so each other node is on one of them at most. docs/CHECK-A-REPORT.md says 
 import large_graphs
 
 NODES = 1024
-# What stands around the ids of a pair and of a fan, and around each path: brackets and commas.
-PAIR, FAN, PATH = len('{"i":,"j":,"paths":[]},'), len('{"j":,"paths":[]},'), len("[],") - 1
+# What stands around the ids of a pair and of a fan, and around each path: brackets and commas. The comma or bracket
+# behind an id is counted with it, also in `"i":1,`; no comma is behind the last path.
+PAIR, FAN, PATH = len('{"i":"j":"paths":[]},') - 1, len('{"j":"paths":[]},') - 1, len("[,")
 # The keys of the file, its verdict, and its numbers.
 REST = 200
 
 
 def size(widths, k, lacked):
-    """The bytes of a certificate of this k if each of the first k nodes lacks so many links, all to others of these, and
-    the paths of each entry run through all nodes. A width is that of an id with the comma or the bracket behind it."""
+    """The bytes of a certificate of this k if each of the first k nodes lacks so many links, all to others of these,
+    and the paths of each entry run through all nodes. A width is that of an id with what stands behind it."""
     every, pairs, ends = sum(widths), k * lacked // 2, lacked * sum(widths[:k])
     found = pairs * (PAIR + every + k * PATH) + k * ends
     found += sum(FAN + every + k * (width + PATH) for width in widths[k:])
