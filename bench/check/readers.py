@@ -7,8 +7,9 @@ the picture (`overlay picture`) of each file. The package of this checkout judge
 of its own; --check names the overlay-check that it asks, else it finds one. They take turns, so that a busy moment
 strikes all, RUNS times each or until ENOUGH seconds have gone by. The table has the least seconds of a whole process by
 the clock, its least processor seconds, and its highest peak of memory in MB. Those of Python have the processor seconds
-of the program that it waits for, and the peak of the larger of the two. It ends with an error if two programs print
-different graphs, if a program fails, or if a certificate does not hold. Pictures may differ.
+of the program that it waits for, and the peak of the larger of the two. A peak below some 20 MB is not seen: it is that
+of this script, which starts the programs. It ends with an error if two programs print different graphs, if a program
+fails, or if a certificate does not hold. Pictures may differ.
 """
 
 import argparse

@@ -87,7 +87,7 @@ def unproved(crate: str) -> Optional[str]:
 def call(program: str, words: Sequence[str], data: Data, output: Optional[BinaryIO] = None) -> Ended:
     """Runs a program with these words and this standard input. What it prints goes into the file `output`, if one is
     given, and else is what is told."""
-    out = subprocess.PIPE if output is None else output
+    out: Union[int, BinaryIO] = subprocess.PIPE if output is None else output
     command = [program, *words]
     try:
         if isinstance(data, bytes):

@@ -5,5 +5,5 @@ mod failing_calls;
 mod files;
 mod graph;
 mod rows;
-mod told;
 mod tokens;
+mod told;
