@@ -6,11 +6,11 @@ usage: large.py OVERLAY BEFORE NOW [GRAPH ..]
 OVERLAY makes the certificates that are missing in out/; BEFORE and NOW are executables of overlay-check, and - in place
 of BEFORE is none. They take turns, so that a busy moment strikes both. A time is the wall clock of a whole process, the
 least of ROUNDS; memory is the peak that the system tells, in bytes a byte of the file. Ends with an error if the two
-print different lines.
+print different lines, or if a certificate does not hold: a line `holds ..`, and the status 0.
 
-The graphs: half-256 and half-1024 have half of all links, at random; three-parts has 1,024 nodes in three parts, each
-node linked to all of the other parts. Without words all of them are taken. The certificate of three-parts has a
-gigabyte, and takes OVERLAY some GB to make.
+The graphs are half-256, which has 256 nodes and half of all links, at random, and those of large_graphs.py by their
+names there. Without words half-256, half-1024 and three-parts-1024 are taken. The certificate of the last one has 1,087
+MB, and takes OVERLAY 2.3 GB to make.
 """
 
 import random
@@ -19,26 +19,20 @@ import sys
 from itertools import combinations
 from pathlib import Path
 
+import large_graphs
+
 OUT = Path(__file__).resolve().parent / "out"
 ROUNDS = 3
 
 
-def half(count):
-    """The links of a graph that has half of them."""
-    every = list(combinations(range(1, count + 1), 2))
-    return sorted(random.Random(1).sample(every, len(every) // 2))
+def half_of_256():
+    """Half of all links between 256 nodes."""
+    every = list(combinations(range(1, 257), 2))
+    return random.Random(1).sample(every, len(every) // 2)
 
 
-def three_parts(count):
-    """The links between nodes of different parts; the part of a node is what is left of its id divided by three."""
-    return [(a, b) for a, b in combinations(range(1, count + 1), 2) if a % 3 != b % 3]
-
-
-GRAPHS = {
-    "half-256": (256, half),
-    "half-1024": (1024, half),
-    "three-parts": (1024, three_parts),
-}
+GRAPHS = {"half-256": half_of_256, **large_graphs.MAKERS}
+USUAL = ("half-256", "half-1024", "three-parts-1024")
 
 
 def certificate(overlay, name):
@@ -46,10 +40,8 @@ def certificate(overlay, name):
     file = OUT / f"{name}-by-overlay.json"
     if not file.exists():
         OUT.mkdir(exist_ok=True)
-        count, links = GRAPHS[name]
         graph, part = OUT / f"{name}.graph", OUT / f"{name}.part"
-        graph.write_text("".join([*(f"node {node}\n" for node in range(1, count + 1)),
-                                  *(f"link {a} {b}\n" for a, b in links(count))]))
+        large_graphs.write(OUT / name, GRAPHS[name]())
         with open(part, "wb") as last_line:
             made = subprocess.Popen([overlay, "analyse", graph, "--certificate"], stdout=subprocess.PIPE)
             subprocess.run(["tail", "-n", "1"], stdin=made.stdout, stdout=last_line, check=True)
@@ -60,8 +52,11 @@ def certificate(overlay, name):
 
 
 def run(program, file):
-    """What a program prints of a file, the seconds and the peak of memory in bytes."""
+    """What a program prints of a file, which must hold, the seconds and the peak of memory in bytes."""
     done = subprocess.run(["/usr/bin/time", "-f", "%e %M", program, file], capture_output=True, text=True)
+    if done.returncode != 0 or not done.stdout.startswith("holds "):
+        told = f"{done.stdout[:200]!r} {done.stderr[:200]!r}"
+        sys.exit(f"{program} says of {file}, with status {done.returncode}: {told}")
     seconds, kilobytes = done.stderr.split()[-2:]
     return done.stdout, float(seconds), int(kilobytes) * 1024
 
@@ -94,7 +89,7 @@ def main():
     titles = ["graph", "bytes", "before, s", "bytes a byte", "now, s", "bytes a byte", "MB", "ratio of time"]
     for cells in titles, ["---"] * len(titles):
         print("|", " | ".join(cells), "|")
-    for name in sys.argv[4:] or GRAPHS:
+    for name in sys.argv[4:] or USUAL:
         print("|", " | ".join(row(name, certificate(overlay, name), before, now)), "|", flush=True)
 
 

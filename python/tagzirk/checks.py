@@ -8,7 +8,7 @@ from typing import Optional, Union
 
 from .answers import Answer, read_answer
 from .errors import ProgramFailed
-from .programs import Program, bytes_of, call, find, refuse
+from .programs import Data, Program, call, find, opened, refuse
 
 
 @dataclass(frozen=True)
@@ -46,8 +46,14 @@ def check(certificate: Union[str, bytes, "os.PathLike[str]"], *, overlay_check: 
 
     It holds of the graph in the file. Whether this is your graph is to be compared: docs/CHECK-A-REPORT.md says how.
     """
+    with opened(certificate) as data:
+        return judged(data, overlay_check)
+
+
+def judged(data: Data, overlay_check: Optional[Program]) -> Verdict:
+    """What overlay-check says of a certificate that it reads as its standard input."""
     program = find("overlay_check", overlay_check)
-    ended = call(program, [], bytes_of(certificate))
+    ended = call(program, [], data)
     line = ended.out.rstrip("\n")
     if not line:
         refuse(*ended.err.partition("\n")[::2])

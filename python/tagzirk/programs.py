@@ -2,22 +2,31 @@
 
 from __future__ import annotations
 
+import contextlib
+import mmap
 import os
 import pathlib
 import re
 import shutil
 import subprocess
 import sys
-from typing import Dict, NamedTuple, NoReturn, Optional, Sequence, Tuple, Union
+import tempfile
+from typing import BinaryIO, Dict, Iterator, NamedTuple, NoReturn, Optional, Sequence, Tuple, Union
 
 from .errors import ProgramFailed, ProgramMissing, Refused
 
 Program = Union[str, "os.PathLike[str]"]
+# What a program reads: bytes, or an open file, from where it stands.
+Data = Union[bytes, BinaryIO]
 
 CHECKOUT = pathlib.Path(__file__).resolve().parents[2]
 REFUSED = re.compile(r"(?:line \d+: )?refused (\d+)")
 # The unproved programs that were found, by the checkout and the crate: to ask for one takes a tenth of a second.
 found_unproved: Dict[Tuple[str, str], str] = {}
+# How many characters of a text are put into a file at once.
+BLOCK = 1 << 20
+# No line of an answer has so many bytes: 2,048 ids of ten digits, and some words.
+LINE = 1 << 16
 
 
 class Ended(NamedTuple):
@@ -75,16 +84,22 @@ def unproved(crate: str) -> Optional[str]:
     return place
 
 
-def call(program: str, words: Sequence[str], data: bytes) -> Ended:
-    """Runs a program with these words and this standard input."""
+def call(program: str, words: Sequence[str], data: Data, output: Optional[BinaryIO] = None) -> Ended:
+    """Runs a program with these words and this standard input. What it prints goes into the file `output`, if one is
+    given, and else is what is told."""
+    out: Union[int, BinaryIO] = subprocess.PIPE if output is None else output
+    command = [program, *words]
     try:
-        ended = subprocess.run([program, *words], input=data, stdout=subprocess.PIPE, stderr=subprocess.PIPE)
+        if isinstance(data, bytes):
+            ended = subprocess.run(command, input=data, stdout=out, stderr=subprocess.PIPE)
+        else:
+            ended = subprocess.run(command, stdin=data, stdout=out, stderr=subprocess.PIPE)
     except OSError as why:
         raise ProgramMissing(f"{program} could not be started: {why.strerror}") from None
     if ended.returncode < 0:
         raise ProgramFailed(f"{program} was ended by signal {-ended.returncode}")
-    out, err = (it.decode(errors="backslashreplace") for it in (ended.stdout, ended.stderr))
-    return Ended(out, err, ended.returncode)
+    told, err = ((it or b"").decode(errors="backslashreplace") for it in (ended.stdout, ended.stderr))
+    return Ended(told, err, ended.returncode)
 
 
 def refuse(line: str, reason: str) -> NoReturn:
@@ -95,12 +110,54 @@ def refuse(line: str, reason: str) -> NoReturn:
     raise Refused(int(said[1]), line, reason.rstrip("\n"))
 
 
-def lines_of(ended: Ended) -> list[str]:
-    """The lines of standard output of a program that reached its end. Any other raises what standard error says."""
+def demand_end(ended: Ended) -> None:
+    """Raises what standard error says of a program that did not reach its end."""
     if ended.status != 0:
         line, _, reason = ended.err.partition("\n")
         refuse(line, reason)
+
+
+def lines_of(ended: Ended) -> list[str]:
+    """The lines of standard output of a program that reached its end. Any other raises what standard error says."""
+    demand_end(ended)
     return ended.out.split("\n")[:-1]
+
+
+@contextlib.contextmanager
+def opened(text: Union[str, bytes, "os.PathLike[str]"]) -> Iterator[Data]:
+    """A text, its bytes, or the file that a path names, for a program to read. Of a text, or of a file, no whole copy
+    is made in memory."""
+    if isinstance(text, bytes):
+        yield text
+    elif isinstance(text, str):
+        with tempfile.TemporaryFile() as written:
+            for begin in range(0, len(text), BLOCK):
+                written.write(text[begin:begin + BLOCK].encode())
+            written.seek(0)
+            yield written
+    else:
+        with open(text, "rb", buffering=0) as file:
+            yield file
+
+
+def first_line(printed: BinaryIO) -> Tuple[str, int]:
+    """The first line that a program printed into a file without a buffer, and where the next one begins. A program that
+    is given the file reads from there. If the last line ends with a line feed, that is taken away."""
+    place, end = printed.fileno(), printed.seek(0, os.SEEK_END)
+    if end > 0 and os.pread(place, 1, end - 1) == b"\n":
+        os.ftruncate(place, end - 1)
+    line, _, _ = os.pread(place, LINE, 0).partition(b"\n")
+    begin = printed.seek(len(line) + 1)
+    return line.decode(errors="backslashreplace"), begin
+
+
+def text_from(file: BinaryIO, begin: int) -> str:
+    """The text of a file from a place on. Its bytes are not read into memory beside it."""
+    if os.fstat(file.fileno()).st_size <= begin:
+        return ""
+    with mmap.mmap(file.fileno(), 0, access=mmap.ACCESS_READ) as whole, memoryview(whole) as view:
+        with view[begin:] as part:
+            return str(part, "utf-8", "backslashreplace")
 
 
 def bytes_of(text: Union[str, bytes, "os.PathLike[str]"]) -> bytes:

@@ -2,16 +2,17 @@
 
 from __future__ import annotations
 
-import json
+import tempfile
 from dataclasses import dataclass, field
 from typing import Any, Dict, Generic, Iterable, List, Optional, Tuple
 
 from .answers import Answer, read_answer
-from .checks import check
+from .certificates import members_of
+from .checks import Verdict, judged
 from .errors import BadGraph, NotConfirmed
 from .graphs import Graph, NamedGraph, Node, is_name, named_graph, shown
 from .pictures import drawn
-from .programs import Program, call, find, lines_of, refuse
+from .programs import Program, call, demand_end, find, first_line, refuse, text_from
 
 
 @dataclass(frozen=True)
@@ -108,21 +109,21 @@ def listed(names: Iterable[Any]) -> str:
     return ", ".join(map(shown, names))
 
 
-def confirmed(certificate: str, overlay_check: Optional[Program]) -> Answer:
+def confirmed(verdict: Verdict) -> Answer:
     """What a certificate says to which overlay-check says yes."""
-    verdict = check(certificate, overlay_check=overlay_check)
     if verdict.answer is None:
         raise NotConfirmed(f"the certificate does not hold: {verdict.line}\n{verdict.reason}")
     return verdict.answer
 
 
 def demand_asked(answer: Answer, certificate: str, graph: NamedGraph[Any], members: Optional[List[int]]) -> None:
-    """Demands that a certificate that holds is of this graph and these members."""
-    said = json.loads(certificate)
-    if said["nodes"] != graph.nodes or said["links"] != graph.links:
+    """Demands that a certificate that holds is of this graph and these members. `answer` is what overlay-check says of
+    it, so its group and its moment are those of the certificate; its group is None if it is all nodes."""
+    nodes, links = members_of(certificate, "nodes", "links")
+    if nodes != graph.nodes or links != graph.links:
         raise NotConfirmed("the graph in the certificate is another one")
-    group = said.get("group", graph.nodes)
-    if group != (graph.nodes if members is None else members):
+    asked = None if members is None or members == graph.nodes else tuple(members)
+    if answer.group != asked:
         raise NotConfirmed("the group in the certificate is another one")
     if answer.moment != 0:
         raise NotConfirmed("the certificate is of a moment, and not of a graph that was given")
@@ -171,12 +172,14 @@ def analysed(named: NamedGraph[Node], members: Optional[List[int]] = None, worke
     words = ["analyse", "--certificate", f"--workers={workers}"]
     if members is not None:
         words.append(f"--group={','.join(map(str, members))}")
-    ended = call(find("overlay", overlay), words, named.text.encode())
-    line, *certificates = lines_of(ended) or [""]
-    if line.startswith("refused "):
-        refuse(line, ended.err)
-    certificate = "\n".join(certificates)
-    answer = confirmed(certificate, overlay_check)
+    with tempfile.TemporaryFile(buffering=0) as printed:
+        ended = call(find("overlay", overlay), words, named.text.encode(), printed)
+        demand_end(ended)
+        line, begin = first_line(printed)
+        if line.startswith("refused "):
+            refuse(line, ended.err)
+        answer = confirmed(judged(printed, overlay_check))
+        certificate = text_from(printed, begin)
     if read_answer(line, "report") != answer:
         raise NotConfirmed(f"the report is not that of the certificate: {line}")
     demand_asked(answer, certificate, named, members)

@@ -2,7 +2,6 @@
 
 from __future__ import annotations
 
-import json
 import os
 import re
 from dataclasses import dataclass, field
@@ -10,6 +9,8 @@ from functools import cached_property
 from typing import Callable, Iterable, List, Optional, Tuple, Type, TypeVar, Union
 
 from .answers import Answer, Ids, ids_of, read_answer
+from .certificates import members_of
+from .checks import check
 from .errors import NotConfirmed
 from .programs import Program, bytes_of, call, find, lines_of, refuse
 from .reports import confirmed
@@ -201,7 +202,8 @@ class Run:
             raise NotConfirmed("run again, the scenario printed something else, as sections may let it")
         if text.startswith("refused "):
             refuse(text, f"there is no report of moment {moment}{asked}")
-        answer, nodes = confirmed(text, self.overlay_check), json.loads(text)["nodes"]
+        answer = confirmed(check(text, overlay_check=self.overlay_check))
+        (nodes,) = members_of(text, "nodes")
         if answer.moment != moment or (answer.group or tuple(nodes)) != tuple(members or nodes):
             raise NotConfirmed("the certificate is of another moment or group")
         if any(it != answer for it in self.reports if (it.moment, it.group) == (moment, answer.group)):

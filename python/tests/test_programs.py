@@ -16,13 +16,17 @@ import stat
 import subprocess
 import sys
 import tempfile
+import tracemalloc
 import unittest
 import warnings
 from unittest import mock
 
 import tagzirk
 from tagzirk.answers import read_answer
+from tagzirk.certificates import members_of
+from tagzirk.graphs import named_graph
 from tagzirk.programs import CHECKOUT, find
+from tagzirk.reports import analysed
 
 EXAMPLES = CHECKOUT / "examples"
 CHECKER = CHECKOUT / "tools" / "check.py"
@@ -174,6 +178,37 @@ class Analyses(unittest.TestCase):
                 tagzirk.analyse(graph, workers=workers)
             self.assertEqual((raised.exception.number, raised.exception.line), (number, f"refused {number}"))
             self.assertIn(reason, raised.exception.reason)
+
+
+class LargeCertificates(unittest.TestCase):
+    """Certificates of some MB, of which no second whole copy is made."""
+
+    def setUp(self):
+        links = random.Random(1).sample(list(itertools.combinations(range(1, 257), 2)), 16320)
+        self.graph = named_graph(links)
+
+    def peak_of(self, call):
+        """The most bytes that Python holds during a call, and what it gives."""
+        tracemalloc.start()
+        try:
+            given = call()
+            return tracemalloc.get_traced_memory()[1], given
+        finally:
+            tracemalloc.stop()
+
+    def test_no_second_copy(self):
+        peak, report = self.peak_of(lambda: analysed(self.graph))
+        size = len(report.certificate)
+        self.assertGreater(size, 4_000_000)
+        # one copy is the answer; the links are lists of two numbers, each less than 200 bytes
+        links = 200 * len(self.graph.links)
+        self.assertLess(peak - links, 1.5 * size)
+        peak, verdict = self.peak_of(lambda: tagzirk.check(report.certificate))
+        self.assertTrue(verdict)
+        self.assertLess(peak, 0.7 * size)
+        peak, (nodes,) = self.peak_of(lambda: members_of(report.certificate, "nodes"))
+        self.assertEqual(nodes, self.graph.nodes)
+        self.assertLess(peak, 0.1 * size)
 
 
 class Dumps(unittest.TestCase):
@@ -395,6 +430,24 @@ class StandIns(unittest.TestCase):
              for text, other in others.items()]:
             with self.assertRaises(tagzirk.NotConfirmed, msg=text):
                 tagzirk.analyse(path, overlay=self.that_prints(*printed))
+
+    def test_a_key_that_occurs_twice(self):
+        # the last member counts, however its key is spelled
+        path = [("a", "b"), ("b", "c")]
+        right, other = tagzirk.analyse(path), tagzirk.analyse([(1, 2), (1, 3)])
+        links = '"links":[[1,2],[2,3]]'
+        self.assertIn(links, right.certificate)
+        escaped = other.certificate.replace('"links"', '"\\u006cinks"')
+        for text in other.certificate, f"{{{links},{other.certificate[1:]}", f"{{{links},{escaped[1:]}", \
+                escaped.replace("[[1,2],[1,3]]", f"[[1,2],[1,3]],{links},{escaped[escaped.index('u006c') - 2:]}"[:-1]):
+            said = tagzirk.check(text)
+            self.assertTrue(said, msg=(text, said))
+            with self.assertRaisesRegex(tagzirk.NotConfirmed, "the graph in the certificate", msg=text):
+                tagzirk.analyse(path, overlay=self.that_prints(f"report{said.line[5:]}", text))
+        line = f"report{tagzirk.check(right.certificate).line[5:]}"
+        for text in f'{{"links":[],{right.certificate[1:]}', right.certificate.replace('"links"', '"\\u006cinks" '), \
+                json.dumps(json.loads(right.certificate), indent=1):
+            self.assertEqual(tagzirk.analyse(path, overlay=self.that_prints(line, text)).certificate, text)
 
     def test_a_checker_that_does_not_say_yes(self):
         for text in "print('fails 44 3'); sys.exit(1)", "print('refused 60'); sys.exit(1)":

@@ -5,4 +5,5 @@ mod failing_calls;
 mod files;
 mod graph;
 mod rows;
+mod tokens;
 mod told;
