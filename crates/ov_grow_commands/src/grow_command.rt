@@ -102,9 +102,7 @@ fn certificate_lines(
 ) -> Result<String, OutOfMemory>
     ensures { IfOk result (λ text. string_bytes text ≡ certificate_lines settled crashed healed) }
 {
-    Ok(format!(in alloc;
-        "certificate {settled}\ncertificate {crashed}\ncertificate {healed}\n"
-    )?)
+    Ok(format!(in alloc; "certificate {settled}\ncertificate {crashed}\ncertificate {healed}\n")?)
 }
 
 /// Ends if growing was refused. Prints why.
