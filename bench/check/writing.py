@@ -88,8 +88,8 @@ def least(runs):
 
 
 def copy_certificate(file, to):
-    """Copies the certificate in a file. The line before it."""
-    (report,) = lines_before(file)
+    """Copies the certificate in a file. The first line before it, which is the report."""
+    report, *_ = lines_before(file)
     while block := file.read(BLOCK):
         to.write(block)
     to.flush()
