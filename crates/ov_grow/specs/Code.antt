@@ -5,6 +5,6 @@ pub mod Kept
 pub mod Writing
 pub mod Logging
 pub mod Standing
-pub mod LoggedGrowths
+pub mod GrowingWithLog
 pub mod Counting
 pub mod Shares

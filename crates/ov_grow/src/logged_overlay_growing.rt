@@ -3,7 +3,7 @@ ghost use Rattle.ov_snap.specs.CoreState.{HasReportOfAll};
 ghost use Rattle.ov_snap.specs.ReportState.{ReportState};
 ghost use Rattle.ov_grow.specs.Replay.{Replays};
 ghost use Rattle.ov_grow.specs.Growing.{IsGrowRefusalFrom, begins};
-ghost use Rattle.ov_grow.specs.Code.LoggedGrowths.{IsLoggedGrowth};
+ghost use Rattle.ov_grow.specs.Code.GrowingWithLog.{IsLoggedGrowth};
 
 use crate::core_recorded_as_script::Recorded;
 use crate::fault::GrowFault;

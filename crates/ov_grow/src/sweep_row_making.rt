@@ -7,7 +7,7 @@ ghost use Rattle.ov_grow.specs.MessageCosts.{AreCosts};
 ghost use Rattle.ov_grow.specs.Rows.{ArePhaseCosts, IsAsked, IsRowOf, IsShapeOf, IsToldOf};
 ghost use Rattle.ov_grow.specs.Replay.{Replays};
 ghost use Rattle.ov_grow.specs.Sweeps.{IsRunRefusal};
-ghost use Rattle.ov_grow.specs.Code.LoggedGrowths.{IsLoggedGrowth};
+ghost use Rattle.ov_grow.specs.Code.GrowingWithLog.{IsLoggedGrowth};
 
 use crate::fault::GrowFault;
 use crate::logged_overlay_growing::{LoggedGrowth, grow_logged};
