@@ -1,4 +1,5 @@
 pub mod Members
+pub mod Moved
 pub mod Sets
 pub mod Rising
 pub mod Cases

@@ -3,8 +3,8 @@ use Rattle.ov_ids.specs.Sets.{IsSet, count_below}
 use Rattle.ov_ids.proofs.Sets.{count_below-le-length, IsSet-adding, adding_present, adding_absent, members_adding}
 use Rattle.ov_ids.proofs.id_set.IdSet.insert.Goals as goal
 
-pub insert-requires : goal.insert-requires
-insert-requires c =
+pub insert_at-requires-clause-within : goal.insert_at-requires-clause-within
+insert_at-requires-clause-within c =
     let within : count_below c.args.id c.self.inside.ids.items ≤ length c.self.inside.ids.items =
     count_below-le-length c.args.id c.self.inside.ids.items in
     let at : c.in-Err.i ≡ count_below c.args.id c.self.inside.ids.items =
@@ -13,7 +13,7 @@ insert-requires c =
 
 pub returns-in-Err-clause-value : goal.returns-in-Err-clause-value
 returns-in-Err-clause-value c =
-    c.insert.ensures.items ∙ rw (c.in-Err.ensures.place, c.self.view_is)
+    c.insert_at.ensures ∙ rw (c.in-Err.ensures.place, c.self.view_is)
     (sym (adding_absent c.args.id c.args.self.now (sym c.in-Err.ensures.value)))
 
 pub returns-in-Err-clause-members : goal.returns-in-Err-clause-members

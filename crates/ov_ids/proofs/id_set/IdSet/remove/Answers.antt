@@ -3,8 +3,8 @@ use Rattle.ov_ids.specs.Sets.{IsSet}
 use Rattle.ov_ids.proofs.Sets.{count_below-lt-length, IsSet-without, without_present, without_absent, members_without}
 use Rattle.ov_ids.proofs.id_set.IdSet.remove.Goals as goal
 
-pub remove-requires : goal.remove-requires
-remove-requires c =
+pub remove_at-requires : goal.remove_at-requires
+remove_at-requires c =
     let within : c.in-Ok.i < length c.self.inside.ids.items =
     rw (c.in-Ok.ensures.place, c.self.view_is)
     (count_below-lt-length c.args.id c.args.self.now (sym c.in-Ok.ensures.value))
@@ -12,7 +12,7 @@ remove-requires c =
 
 pub returns-in-Ok-clause-value : goal.returns-in-Ok-clause-value
 returns-in-Ok-clause-value c =
-    c.remove.ensures.items ∙ rw (c.in-Ok.ensures.place, c.self.view_is)
+    c.remove_at.ensures ∙ rw (c.in-Ok.ensures.place, c.self.view_is)
     (sym (without_present c.args.id c.args.self.now c.place_of.ensures.set (sym c.in-Ok.ensures.value)))
 
 pub returns-in-Ok-clause-members : goal.returns-in-Ok-clause-members
