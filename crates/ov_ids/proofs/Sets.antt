@@ -2,7 +2,7 @@
 use Rattle.std.proofs.Common.{subst, ap, zero, ◌≡◌, ◌≢◌, ◌↔◌, ℕ, suc, ◌<◌, ◌≤◌, ◌+◌, Bool, true, false, cond, not}
 use Rattle.std.proofs.Common.{IsTrue, ◌||◌, ◌&&◌, eqb, ltb, List, [], ◌∷◌, length, get_or, refl, inl, inr, sym, ◌∙◌}
 use Rattle.std.proofs.Common.{◌⊎◌, arith}
-use Rattle.std.specs.Prelude.{insert, remove, slice_index}
+use Rattle.std.specs.Prelude.{insert, remove, slice_index, if◌then◌else◌}
 use Rattle.std.specs.List.{AllByRecursion}
 use Rattle.std.proofs.lemmas.Bool.{and_parts, not-true, or_cases, or_left, or_right, ltb-true, ltb-false, lt-ltb}
 use Rattle.std.proofs.lemmas.Bool.{le-ltb, eq-eqb, ne_eqb, eqb-false, eqb-true, or_parts, cases_order, both_ways}
@@ -253,3 +253,24 @@ length-without_set x (y ∷ t) s =
           let same : without x t ≡ t = without_absent x t (has_below_all x t above) in omega (arith, ap length same)
       | false ↦ λ _. omega (arith, length-without_set x t s.1)
     ] refl
+
+-- how many ids are below x
+abbrev pub all_below : ℕ → List ℕ → ℕ
+all_below x [] = 0
+all_below x (y ∷ ys) = if ltb y x then suc (all_below x ys) else all_below x ys
+
+none_below : (x : ℕ) (t : List ℕ) → AllByRecursion (λ z. x ≤ z) t → all_below x t ≡ 0
+none_below x [] a = refl
+none_below x (y ∷ t) a = rw (le-ltb y x a.0) (none_below x t a.1)
+
+-- in a set those below x come first
+pub all_below_first : (x : ℕ) (t : List ℕ) → IsSet t → all_below x t ≡ count_below x t
+all_below_first x [] s = refl
+all_below_first x (y ∷ t) s =
+    elim (cases_order x y) [
+      | inl same ↦ rw (le-ltb y x (omega arith))
+          (none_below x t (All-map (λ z. y < z) (λ z. x ≤ z) (λ z r. omega arith) t s.0))
+      | inr (inl less) ↦ rw (le-ltb y x (omega arith))
+          (none_below x t (All-map (λ z. y < z) (λ z. x ≤ z) (λ z r. omega arith) t s.0))
+      | inr (inr more) ↦ rw (lt-ltb y x more) (ap suc (all_below_first x t s.1))
+    ]
