@@ -2,8 +2,10 @@
 
 M. E. O'Neill, PCG: A Family of Simple Fast Space-Efficient Statistically Good Algorithms for Random Number Generation,
 2014. How a number becomes a seed is `seed_from_u64` of Rust's crate `rand_core`; how a seed becomes a state is `Pcg64`
-of the crate `rand_pcg`.
+of the crate `rand_pcg`. A step multiplies and adds, so many steps at once do the same, with other factors.
 """
+
+import functools
 
 MASK_32, MASK_64, MASK_128 = 2**32 - 1, 2**64 - 1, 2**128 - 1
 # The multiplier of the step of 128 bits.
@@ -28,6 +30,25 @@ def stretched(number):
     return seed
 
 
+def output(state):
+    """The word of a state."""
+    return rotated((state >> 64 ^ state) & MASK_64, state >> 122, 64)
+
+
+def following(state, increment, count):
+    """The words of so many states that follow a state, each made when it is taken."""
+    for _ in range(count):
+        state = (state * MULTIPLIER + increment) & MASK_128
+        yield output(state)
+
+
+@functools.lru_cache(maxsize=None)
+def factors(steps):
+    """What the state and what the increment is multiplied by in so many steps at once, which adds both."""
+    powers = [pow(MULTIPLIER, it, MASK_128 + 1) for it in range(steps + 1)]
+    return powers.pop(), sum(powers)
+
+
 class Pcg64:
     """The generator that a number makes; `next` answers its next word of 64 bits."""
 
@@ -35,13 +56,20 @@ class Pcg64:
         seed = stretched(number)
         self.increment = seed >> 128 | 1
         self.state = (seed & MASK_128) + self.increment & MASK_128
-        self.step()
+        self.leap(1)
 
-    def step(self):
-        """The next state."""
-        self.state = (self.state * MULTIPLIER + self.increment) & MASK_128
+    def leap(self, steps):
+        """Takes so many steps at once."""
+        of_state, of_increment = factors(steps)
+        self.state = (self.state * of_state + self.increment * of_increment) & MASK_128
 
     def next(self):
         """The next word."""
-        self.step()
-        return rotated((self.state >> 64 ^ self.state) & MASK_64, self.state >> 122, 64)
+        self.leap(1)
+        return output(self.state)
+
+    def block(self, size):
+        """The next so many words, each made when it is taken. The generator itself is behind them all at once."""
+        words = following(self.state, self.increment, size)
+        self.leap(size)
+        return words

@@ -1,6 +1,6 @@
 #!/usr/bin/env python3
-"""compare.py [--overlay PROGRAM] [--grows] [--simulate PROGRAM] [--rules] [--count N] [--first SEED]: grows N overlays
-with options drawn at random, and holds others against grow.py:
+"""compare.py [--overlay PROGRAM] [--grows] [--simulate PROGRAM] [--rules] [--count N] [--first SEED] [--jobs J]: grows
+N overlays with options drawn at random, in J processes side by side, and holds others against grow.py:
 
   --overlay   the scenario, run strictly by this program, prints event for event what growing saw, and no line is
               refused
@@ -14,7 +14,9 @@ It ends with status 1 at the first difference. The same seeds give the same opti
 
 import argparse
 import dataclasses
+import functools
 import itertools
+import multiprocessing
 import random
 import subprocess
 import sys
@@ -22,7 +24,7 @@ from collections import Counter
 
 from grow import Growing
 from options import CHOICES, LIMITS, Options
-from rows import header, row_of
+from rows import asks_further, header, row_of, swept_header
 from world import Refusal
 
 
@@ -51,6 +53,11 @@ def drawn(seed):
     return options
 
 
+def words_of(options):
+    """The arguments of `overlay grow` that say options."""
+    return options.heading().split(" ")[2:]
+
+
 def run(program, words, given=b""):
     """The status and the standard output of a program."""
     done = subprocess.run(
@@ -67,22 +74,69 @@ def first_difference(text, other):
     return next((f"line {at}: {one!r} and {two!r}" for at, (one, two) in enumerate(pairs, 1) if one != two), "lengths")
 
 
-def refusals(given, words, fault):
+def found(differences, given, options):
+    """What is compared of an overlay, and how it differs, up to the first difference; its command first."""
+    told = []
+    for where, difference in differences(given, options):
+        told.append((where, difference))
+        if difference:
+            break
+    return options.heading(), told
+
+
+def found_of_all(differences, given, settings):
+    """What is found of each of many overlays, in their order, by so many processes as are asked for."""
+    of_one = functools.partial(found, differences, given)
+    if given.jobs == 1:
+        yield from map(of_one, settings)
+        return
+    with multiprocessing.Pool(given.jobs) as pool:
+        yield from pool.imap(of_one, settings)
+
+
+def status_of(compared):
+    """Tells the first difference, or how often all agreed: the status."""
+    held = Counter()
+    for name, told in compared:
+        for where, difference in told:
+            held[where] += 1
+            if difference:
+                print(f"{name}\n{where}: {difference}")
+                return 1
+    print(", ".join(f"{count} times {where}" for where, count in held.items()), "agreed")
+    return 0
+
+
+def add_counts(parser):
+    """Adds the options that say how many overlays are compared, and how many at once."""
+    parser.add_argument("--count", type=int, default=50)
+    parser.add_argument("--first", type=int, default=0)
+    parser.add_argument("--jobs", type=int, default=1)
+
+
+def seeds(given):
+    """The seeds of the overlays."""
+    return range(given.first, given.first + given.count)
+
+
+def refusals(given, options, fault):
     """Who does not refuse what grow.py refused, each in words."""
-    said = f"it does not refuse as grow.py does: {fault}"
+    words, said = words_of(options), f"it does not refuse as grow.py does: {fault}"
     if given.overlay and given.grows:
         yield "overlay grow, refused", None if run(given.overlay, ["grow", *words]) == (1, "") else said
+        swept = run(given.overlay, ["sweep", *words, "--runs", "1"])
+        yield "overlay sweep, refused", None if swept == (1, swept_header(asks_further(options)) + "\n") else said
     if given.simulate:
         yield "simulate, refused", None if run(given.simulate, [*words, "--scenario"]) == (1, "") else said
 
 
 def differences(given, options):
     """What is compared, and how it differs, in words."""
-    growing, words = Growing(options), options.heading().split(" ")[2:]
+    growing, words = Growing(options), words_of(options)
     try:
         scenario = "\n".join([*growing.grow(), ""])
     except Refusal as fault:
-        yield from refusals(given, words, fault)
+        yield from refusals(given, options, fault)
         return
     if given.overlay:
         status, printed = run(given.overlay, ["run", "--strict"], scenario.encode())
@@ -100,7 +154,7 @@ def differences(given, options):
 
 def settings(given):
     """The options of each overlay."""
-    for seed in range(given.first, given.first + given.count):
+    for seed in seeds(given):
         options = drawn(seed)
         rules = CHOICES["refill"] if given.rules else [options.refill]
         yield from (dataclasses.replace(options, refill=rule) for rule in rules)
@@ -133,20 +187,12 @@ def main():
     parser.add_argument("--simulate")
     parser.add_argument("--grows", action="store_true")
     parser.add_argument("--rules", action="store_true")
-    parser.add_argument("--count", type=int, default=50)
-    parser.add_argument("--first", type=int, default=0)
+    add_counts(parser)
     given = parser.parse_args()
-    held = Counter()
-    compared = [(options.heading(), differences(given, options)) for options in settings(given)]
-    compared += [("sweep of lists", sweep_differences(given))] if given.rules else []
-    for name, found in compared:
-        for where, difference in found:
-            held[where] += 1
-            if difference:
-                print(f"{name}\n{where}: {difference}")
-                return 1
-    print(", ".join(f"{count} times {where}" for where, count in held.items()), "agreed")
-    return 0
+    compared = found_of_all(differences, given, settings(given))
+    if given.rules:
+        compared = itertools.chain(compared, [("sweep of lists", sweep_differences(given))])
+    return status_of(compared)
 
 
 if __name__ == "__main__":

@@ -1,13 +1,14 @@
 #!/usr/bin/env python3
-"""compare_further.py [--simulate PROGRAM] [--networkx] [--overlay PROGRAM [--grows]] [--count N] [--first SEED]: grows N
-overlays with options drawn at random, --sequential, --sender and --detect among them, and holds others against grow.py:
+"""compare_further.py [--simulate PROGRAM] [--networkx] [--overlay PROGRAM [--grows]] [--nodes M] [--count N]
+[--first SEED] [--jobs J]: grows N overlays, of M nodes at most, with options drawn at random, --sequential, --sender and
+--detect among them, in J processes side by side, and holds others against grow.py:
 
   --simulate  this simulation prints the same scenario, the same row, with and without further columns, and the same row
               of each broadcast
   --networkx  networkx finds the same largest component, clustering, paths and diameter after each phase
   --overlay   the scenario, run strictly by this program, prints event for event what growing saw
-  --grows     this program grows the same scenario, and its sweep prints the same row, with and without further columns,
-              and the same row of each broadcast, or refuses all as grow.py does
+  --grows     this program grows the same scenario, and its sweep prints the same row, without further columns, with
+              --costs, with --shape and with both, and the same row of each broadcast, or refuses all as grow.py does
 
 It ends with status 1 at the first difference. The same seeds give the same options.
 """
@@ -15,22 +16,28 @@ It ends with status 1 at the first difference. The same seeds give the same opti
 import argparse
 import random
 import sys
-from collections import Counter
 from fractions import Fraction
 
-from compare import drawn, first_difference, run
+from compare import add_counts, drawn, first_difference, found_of_all, refusals, run, seeds, status_of, words_of
 from grow import Growing
 from rows import asks_further, further_header, further_row, header, message_rows, row_of, swept_header, swept_row
 from shapes import clustering, coefficient, largest, paths
 from world import Refusal
 
+# The further columns of a sweep: whether they tell what broadcasts cost, and the shape of the overlay.
+COLUMNS = {"--costs": (True, False), "--shape": (False, True), "--costs --shape": (True, True)}
 
-def drawn_further(seed):
-    """Options, drawn at random: those of compare.py, and further ones."""
+
+def drawn_further(seed, most=None):
+    """Options, drawn at random: those of compare.py, and further ones. If so many nodes are the most, how many there
+    are is drawn anew, and a sender that is no longer there is the last node."""
     options, draw = drawn(seed), random.Random(f"further {seed}")
     options.sequential, options.detect = draw.random() < 0.7, draw.random() < 0.7
     options.sender = draw.choice([None, draw.randint(1, options.nodes)])
     options.broadcasts = draw.choice([0, 1, draw.randint(2, 6), draw.randint(2, 20)])
+    if most is not None:
+        options.nodes = random.Random(f"nodes {seed}").randint(1, most)
+        options.sender = options.sender and min(options.sender, options.nodes)
     return options
 
 
@@ -80,11 +87,10 @@ def swept_rows(growing):
 def by_overlay(overlay, growing, words, scenario):
     """What a program is asked to grow, and how it differs, in words."""
     told = growing.options, growing.phases
-    asked = {
-        "grow": scenario,
-        "sweep --runs 1": swept_rows(growing),
-        "sweep --runs 1 --costs --shape": "\n".join([further_header(), further_row(*told), ""]),
-    }
+    asked = {"grow": scenario, "sweep --runs 1": swept_rows(growing)}
+    for named, columns in COLUMNS.items():
+        rows = [further_header(*columns), further_row(*told, *columns), ""]
+        asked[f"sweep --runs 1 {named}"] = "\n".join(rows)
     if growing.options.sequential:
         asked["sweep --runs 1 --messages"] = "\n".join([*message_rows(*told), ""])
     for command, text in asked.items():
@@ -93,16 +99,11 @@ def by_overlay(overlay, growing, words, scenario):
 
 def differences(given, options):
     """What is compared, and how it differs, in words."""
-    growing, words = Growing(options), options.heading().split(" ")[2:]
+    growing, words = Growing(options), words_of(options)
     try:
         scenario = "\n".join([*growing.grow(), ""])
     except Refusal as fault:
-        if given.overlay and given.grows:
-            is_refused = run(given.overlay, ["grow", *words]) == (1, "")
-            yield "overlay grow, refused", None if is_refused else f"it does not refuse as grow.py does: {fault}"
-        if given.simulate:
-            is_refused = run(given.simulate, [*words, "--scenario"]) == (1, "")
-            yield "simulate, refused", None if is_refused else f"it does not refuse as grow.py does: {fault}"
+        yield from refusals(given, options, fault)
         return
     if given.simulate:
         yield from by_simulate(given.simulate, growing, words, scenario)
@@ -123,19 +124,11 @@ def main():
     parser.add_argument("--networkx", action="store_true")
     parser.add_argument("--overlay")
     parser.add_argument("--grows", action="store_true")
-    parser.add_argument("--count", type=int, default=50)
-    parser.add_argument("--first", type=int, default=0)
+    parser.add_argument("--nodes", type=int)
+    add_counts(parser)
     given = parser.parse_args()
-    held = Counter()
-    for seed in range(given.first, given.first + given.count):
-        options = drawn_further(seed)
-        for where, difference in differences(given, options):
-            held[where] += 1
-            if difference:
-                print(f"{options.heading()}\n{where}: {difference}")
-                return 1
-    print(", ".join(f"{count} times {where}" for where, count in held.items()), "agreed")
-    return 0
+    settings = (drawn_further(seed, given.nodes) for seed in seeds(given))
+    return status_of(found_of_all(differences, given, settings))
 
 
 if __name__ == "__main__":

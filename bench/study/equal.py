@@ -1,7 +1,8 @@
 #!/usr/bin/env python3
-"""equal.py --overlay PROGRAM --simulate PROGRAM [--further [--costs]] [--count N] [--first SEED]: grows N overlays of
-up to 250 nodes with options drawn at random, by `overlay grow` and `overlay sweep` and by the simulation, and compares
-what they print byte for byte: the scenario, and the row of the sweep. Both must refuse the same overlays.
+"""equal.py --overlay PROGRAM --simulate PROGRAM [--further [--costs]] [--count N] [--first SEED] [--jobs J]: grows N
+overlays of up to 250 nodes with options drawn at random, in J processes side by side, by `overlay grow` and `overlay
+sweep` and by the simulation, and compares what they print byte for byte: the scenario, and the row of the sweep. Both
+must refuse the same overlays.
 
 With --further the further options of docs/GROWING.md are drawn too, and scenarios alone are compared; with --costs also
 the rows of the sweep with what broadcasts cost, and with --sequential the row of each broadcast.
@@ -10,21 +11,20 @@ It ends with status 1 at the first difference. The same seeds give the same opti
 """
 
 import argparse
-import random
+import dataclasses
 import sys
-from collections import Counter
 
-from compare import drawn, first_difference, run
+from compare import add_counts, drawn, first_difference, found_of_all, run, seeds, status_of, words_of
 from compare_further import drawn_further
+
+MOST_NODES = 250
 
 
 def options_of(seed, further):
     """Options, drawn at random."""
-    options = drawn_further(seed) if further else drawn(seed)
-    options.nodes = random.Random(f"nodes {seed}").randint(1, 250)
-    if options.sender is not None:
-        options.sender = min(options.sender, options.nodes)
-    return options
+    if further:
+        return drawn_further(seed, MOST_NODES)
+    return dataclasses.replace(drawn(seed), nodes=drawn_further(seed, MOST_NODES).nodes)
 
 
 def asked_for(given, options):
@@ -39,7 +39,7 @@ def asked_for(given, options):
 
 def differences(given, options):
     """What is compared, and how it differs, in words."""
-    words = options.heading().split(" ")[2:]
+    words = words_of(options)
     one, other = run(given.overlay, ["grow", *words]), run(given.simulate, [*words, "--scenario"])
     status = None if one[0] == other[0] else f"the status is {one[0]} and {other[0]}"
     yield "refused" if one[0] else "overlay grow", status or first_difference(one[1], other[1])
@@ -56,19 +56,10 @@ def main():
     parser.add_argument("--simulate", required=True)
     parser.add_argument("--further", action="store_true")
     parser.add_argument("--costs", action="store_true")
-    parser.add_argument("--count", type=int, default=50)
-    parser.add_argument("--first", type=int, default=0)
+    add_counts(parser)
     given = parser.parse_args()
-    held = Counter()
-    for seed in range(given.first, given.first + given.count):
-        options = options_of(seed, given.further)
-        for where, difference in differences(given, options):
-            held[where] += 1
-            if difference:
-                print(f"{options.heading()}\n{where}: {difference}")
-                return 1
-    print(", ".join(f"{count} times {where}" for where, count in held.items()), "agreed")
-    return 0
+    settings = (options_of(seed, given.further) for seed in seeds(given))
+    return status_of(found_of_all(differences, given, settings))
 
 
 if __name__ == "__main__":

@@ -61,8 +61,7 @@ class Growing:
     def act(self, line, kind, *given):
         """Takes a step, and writes its line."""
         kept = len(self.world.packets) - (kind == "deliver")
-        said = self.world.step(kind, given, [self.words.next() for _ in range(WORDS)])
-        self.deliveries += sum(change.startswith("delivered ") for change in said)
+        said = self.world.step(kind, given, self.words.block(WORDS))
         self.count(said, self.world.packets[kept:] if kind not in ("lose", "repeat") else [])
         self.lines.append(line)
         self.printed.append(" ".join([f"entry {self.world.entries}", *said]))
@@ -72,6 +71,7 @@ class Growing:
         for change in said:
             kind, *ids = change.split(" ")
             if kind == "delivered":
+                self.deliveries += 1
                 node, *name = map(int, ids)
                 cost = self.costs.setdefault(tuple(name), Cost(name[0]))
                 cost.delivered += 1

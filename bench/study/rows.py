@@ -150,16 +150,17 @@ def swept_row(options, phases, is_further):
     return ",".join([row_of(options, phases), *(map(str, further_fields(options)) if is_further else ())])
 
 
-def further_header():
-    """The first line of rows with all further columns."""
-    return ",".join([header(), *FURTHER_OPTIONS, *names(COSTS), *names(SHAPES)])
+def further_header(costs=True, shape=True):
+    """The first line of rows with further columns: what broadcasts cost, the shape of the overlay, or both."""
+    told = [*(names(COSTS) if costs else []), *(names(SHAPES) if shape else [])]
+    return ",".join([header(), *FURTHER_OPTIONS, *told])
 
 
-def further_row(options, phases):
-    """The row of an overlay with all further columns."""
-    costs = [figure for phase in phases for figure in phase.cost_figures()]
-    shapes = [figure for phase in phases for figure in phase.shape_figures()]
-    return ",".join([row_of(options, phases), *map(str, [*further_fields(options), *costs, *shapes])])
+def further_row(options, phases, costs=True, shape=True):
+    """The row of an overlay with these columns."""
+    told = [figure for phase in phases for figure in phase.cost_figures()] if costs else []
+    told += [figure for phase in phases for figure in phase.shape_figures()] if shape else []
+    return ",".join([row_of(options, phases), *map(str, [*further_fields(options), *told])])
 
 
 def message_rows(options, phases):
