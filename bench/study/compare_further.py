@@ -1,7 +1,7 @@
 #!/usr/bin/env python3
 """compare_further.py [--simulate PROGRAM] [--networkx] [--overlay PROGRAM [--grows]] [--nodes M] [--count N]
-[--first SEED] [--jobs J]: grows N overlays, of M nodes at most, with options drawn at random, --sequential, --sender and
---detect among them, in J processes side by side, and holds others against grow.py:
+[--first SEED] [--jobs J]: grows N overlays, of M nodes at most, with options drawn at random, --sequential, --sender
+and --detect among them, in J processes side by side, and holds others against grow.py:
 
   --simulate  this simulation prints the same scenario, the same row, with and without further columns, and the same row
               of each broadcast
