@@ -91,7 +91,7 @@ def by_overlay(overlay, growing, words, scenario):
     for named, columns in COLUMNS.items():
         rows = [further_header(*columns), further_row(*told, *columns), ""]
         asked[f"sweep --runs 1 {named}"] = "\n".join(rows)
-    if growing.options.sequential:
+    if growing.options.sequential and growing.options.broadcasts:
         asked["sweep --runs 1 --messages"] = "\n".join([*message_rows(*told), ""])
     for command, text in asked.items():
         yield f"overlay {command}", first_difference(text, run(overlay, [*command.split(), *words])[1])
