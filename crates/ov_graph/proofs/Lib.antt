@@ -1,3 +1,4 @@
 pub mod EvenTest
 pub mod BitRows
 pub mod GraphValues
+pub mod ShapeOfGraph

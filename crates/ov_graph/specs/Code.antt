@@ -2,3 +2,4 @@
 pub mod Kept
 pub mod Shifts
 pub mod Tests
+pub mod Found

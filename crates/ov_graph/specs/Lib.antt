@@ -6,4 +6,10 @@ pub mod Theorems
 pub mod Faults
 pub mod Changes
 pub mod Row
+pub mod Sums
+pub mod Distances
+pub mod Components
+pub mod ShortestPaths
+pub mod Clustering
+pub mod Degrees
 pub mod Code

@@ -14,10 +14,10 @@ use Rattle.ov_grow.specs.PhaseCosts.{phase_costs}
 use Rattle.ov_grow.specs.declared.message_cost.MessageCost.{MessageCost}
 use Rattle.ov_grow.specs.declared.phase_moment_and_deliveries.Phase.{Phase as GrownPhase}
 use Rattle.ov_grow.specs.Replay.{Replays}
-use Rattle.ov_shape.specs.Clustering.{IsClustering}
-use Rattle.ov_shape.specs.Components.{HasLargest}
-use Rattle.ov_shape.specs.Degrees.{IsQuartile}
-use Rattle.ov_shape.specs.Paths.{HasDiameter, HasMeanPath}
+use Rattle.ov_graph.specs.Clustering.{IsClustering}
+use Rattle.ov_graph.specs.Components.{HasLargest}
+use Rattle.ov_graph.specs.Degrees.{IsQuartile}
+use Rattle.ov_graph.specs.ShortestPaths.{HasDiameter, HasMeanPath}
 use Rattle.ov_sweep_rows.specs.Rows.{place_of}
 use Rattle.ov_sweep_rows.specs.declared.costs_and_shape.Measures.{Measures}
 use Rattle.ov_sweep_rows.specs.declared.costs_and_shape.PhaseCosts.{PhaseCosts}

@@ -1,0 +1,10 @@
+-- The shape of a graph: sums, walks by layers, the largest component, clustering.
+pub mod Sums
+pub mod Counts
+pub mod Walks
+pub mod Layers
+pub mod Searching
+pub mod Largest
+pub mod Passing
+pub mod Clusters
+pub mod Shapes

@@ -1,9 +1,0 @@
-pub mod Sums
-pub mod Counts
-pub mod Walks
-pub mod Layers
-pub mod Searching
-pub mod Largest
-pub mod Passing
-pub mod Clusters
-pub mod Shapes

@@ -1,2 +1,0 @@
--- What the code keeps, and what private contracts say of it.
-pub mod Found
