@@ -112,7 +112,7 @@ impl Script {
         ensures seed { self.new.seed ≡ self.old.seed }
     {
         write_act(&mut self.text, &act);
-        self.next = Words::from_pcg(&mut self.generator);
+        self.next.refill(&mut self.generator);
     }
 
     /// Adds the line that analyses a moment, for all nodes and by one worker. There must be room for it.

@@ -68,18 +68,31 @@ impl Words {
 
     /// The next 64 outputs of this generator, as by `from_rng`. The generator is moved on at once, and each word is
     /// made when it is drawn.
-    #[tactic(auto, using(crate::proofs::Made::outputs_made, crate::proofs::Made::all_made))]
+    #[tactic(auto, using(crate::proofs::Made::all_made))]
     pub fn from_pcg(rng: &mut Pcg64) -> Words
         ensures outputs { AreOutputs (stream_of (steps_u64_low pcg64) rng.old) result
             (stream_of (steps_u64_low pcg64) rng.new) }
         ensures count { length result ≡ words_per_event }
     {
-        let generator = copied(rng);
-        rng.advance(WORDS_PER_EVENT as u128);
-        Words {
+        let mut words = Words {
             listed: ArrayVec::new(),
-            generator,
-        }
+            generator: Pcg64::from_state(0, 0),
+        };
+        words.refill(rng);
+        words
+    }
+
+    /// Becomes the next 64 outputs of this generator, as `from_pcg` makes them. Only the generator's state is written,
+    /// and the words that were listed go.
+    #[tactic(auto, using(crate::proofs::Made::outputs_made, crate::proofs::Made::all_made))]
+    pub fn refill(&mut self, rng: &mut Pcg64)
+        ensures outputs { AreOutputs (stream_of (steps_u64_low pcg64) rng.old) self.new
+            (stream_of (steps_u64_low pcg64) rng.new) }
+        ensures count { length self.new ≡ words_per_event }
+    {
+        self.listed.clear();
+        self.generator = copied(rng);
+        rng.advance(WORDS_PER_EVENT as u128);
     }
 
     /// The same words in little room: if a generator makes them, nothing is allocated. OutOfMemory (99) if an

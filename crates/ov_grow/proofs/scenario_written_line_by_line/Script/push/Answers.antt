@@ -9,8 +9,8 @@ pub invariant_of-self : goal.invariant_of-self
 invariant_of-self c =
     let s = c.self.inside in
     let w = c.write_act in
-    let drawn = c.from_pcg-self-inside in
-    act_kept s.text.items w.new.text.items s.params s.seed s.next drawn.result _ _ c.args.act c.self.invariant
+    let drawn = c.refill in
+    act_kept s.text.items w.new.text.items s.params s.seed s.next drawn.new.self _ _ c.args.act c.self.invariant
     w.ensures.short w.ensures.items drawn.ensures.outputs drawn.ensures.count
 
 pub returns-clause-lines : goal.returns-clause-lines
