@@ -5,3 +5,4 @@ pub mod Narrowing
 pub mod Cuts
 pub mod Slots
 pub mod Entries
+pub mod KeptDesk

@@ -8,4 +8,8 @@ pub mod Naming
 pub mod Faults
 pub mod Theorems
 pub mod Outlines
+pub mod Desk
+pub mod SoundDesk
+pub mod Turns
+pub mod DeskTheorems
 pub mod Code

@@ -8,9 +8,9 @@ use Rattle.ov_ids.proofs.Stepping.{step_none}
 use Rattle.ov_graph.specs.Links.{LinkGraph}
 use Rattle.ov_net.specs.Journal.{AreLinks}
 use Rattle.ov_board.specs.Theorems.{AllEnded}
-use Rattle.ov_desk.specs.Desk.{GroupDeskState}
-use Rattle.ov_desk.specs.Sound.{IsSoundDesk}
-use Rattle.ov_desk.specs.Turns.{ClaimsNext, LooksNext, SettlesNext, WasClaimed, WasLookedAt, WasSettled}
+use Rattle.ov_even.specs.Desk.{GroupDeskState}
+use Rattle.ov_even.specs.SoundDesk.{IsSoundDesk}
+use Rattle.ov_even.specs.Turns.{ClaimsNext, LooksNext, SettlesNext, WasClaimed, WasLookedAt, WasSettled}
 use Rattle.ov_snap.specs.CoreState.{CoreState, HasDesk, HasReport, IsDeskOf, IsSound, most_desks}
 use Rattle.ov_snap.specs.DeskSteps.{ClaimedAt, HasTurned, LookedAt, SettledAt}
 use Rattle.ov_snap.specs.ReportState.{ReportState}

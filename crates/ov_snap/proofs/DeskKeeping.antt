@@ -12,9 +12,9 @@ use Rattle.ov_net.proofs.Steps.Places.{at_cases}
 use Rattle.ov_ids.specs.Workers.{MayWork}
 use Rattle.ov_even.proofs.AnalysisSteps.Assembling.{whole_group}
 use Rattle.ov_even.proofs.AnalysisSteps.Slotted.{at_set_same, at_set_other}
-use Rattle.ov_desk.specs.Desk.{GroupDeskState}
-use Rattle.ov_desk.specs.Sound.{IsSoundDesk}
-use Rattle.ov_desk.proofs.Staying.{stays_sound}
+use Rattle.ov_even.specs.Desk.{GroupDeskState}
+use Rattle.ov_even.specs.SoundDesk.{IsSoundDesk}
+use Rattle.ov_even.proofs.DeskTurns.Staying.{stays_sound}
 use Rattle.ov_snap.specs.CoreState.{CoreState, HasDesk, HasReport, IsDeskOf, IsSound, most_desks}
 use Rattle.ov_snap.specs.DeskSteps.{HasOneDeskMore, HasTurned, WasOpened, WasOpenedForGroup, ClaimedAt, LookedAt}
 use Rattle.ov_snap.specs.DeskSteps.{DeskWasFiled, SettledAt}

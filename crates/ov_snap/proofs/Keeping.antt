@@ -23,7 +23,7 @@ use Rattle.ov_net.proofs.Links.OneGraph.{links_one}
 use Rattle.ov_net.proofs.Journal.Resting.{links_rest}
 use Rattle.ov_net.proofs.Journal.Telling.{links_stay}
 use Rattle.ov_net.proofs.Steps.Places.{has_at}
-use Rattle.ov_desk.specs.Desk.{GroupDeskState}
+use Rattle.ov_even.specs.Desk.{GroupDeskState}
 use Rattle.ov_snap.specs.CoreState.{CoreState, HasReport, HasReportOfAll, IsDeskOf, IsSound}
 use Rattle.ov_snap.specs.CoreState.{most_desks, opening_core}
 use Rattle.ov_snap.specs.Code.Index.{ReportKey, key_of}

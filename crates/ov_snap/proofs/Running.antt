@@ -3,8 +3,8 @@ use Rattle.std.proofs.Common.{◌≡◌, ◌≢◌, ◌⊎◌, List, [], ◌∷�
 use Rattle.std.proofs.Common.{Result, Ok, Err, IfOk, IfErr, OnOk, OnErr, inl, inr, refl, sym, ap, ◌∙◌, subst}
 use Rattle.ov_ids.specs.FaultOrder.{IsRefusedBy}
 use Rattle.ov_net.specs.Refusals.{StepJudged}
-use Rattle.ov_desk.specs.Desk.{GroupDeskState}
-use Rattle.ov_desk.specs.Turns.{ClaimsNext, LooksNext, SettlesNext}
+use Rattle.ov_even.specs.Desk.{GroupDeskState}
+use Rattle.ov_even.specs.Turns.{ClaimsNext, LooksNext, SettlesNext}
 use Rattle.ov_snap.specs.CoreState.{CoreState, IsSound, KeepsReports}
 use Rattle.ov_snap.specs.Filing.{WasFiled}
 use Rattle.ov_snap.specs.Theorems.{EveryReportIsTrue, EveryReportStays}

@@ -7,8 +7,8 @@ use Rattle.ov_graph.specs.Links.{LinkGraph}
 use Rattle.ov_net.specs.Journal.{AreLinks}
 use Rattle.ov_net.specs.World.{WorldState, opening_world}
 use Rattle.ov_net.specs.declared.journal_entry_and_changes.Entry.{Entry}
-use Rattle.ov_desk.specs.Desk.{GroupDeskState}
-use Rattle.ov_desk.specs.Sound.{IsSoundDesk}
+use Rattle.ov_even.specs.Desk.{GroupDeskState}
+use Rattle.ov_even.specs.SoundDesk.{IsSoundDesk}
 use Rattle.ov_snap.specs.ReportState.{ReportState, IsTrueReport}
 use Rattle.ov_snap.specs.Snapshots.{IsMoment, AreSnapshots}
 use Rattle.ov_snap.specs.declared.kept_snapshots.Snapshot.{Snapshot}

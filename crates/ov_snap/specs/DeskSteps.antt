@@ -3,8 +3,8 @@ use Rattle.std.specs.Prelude.{◌≡◌, ℕ, List, [], ◌∷◌, ◌++◌, len
 use Rattle.ov_graph.specs.Links.{LinkGraph}
 use Rattle.ov_net.specs.Journal.{AreLinks}
 use Rattle.ov_even.specs.Answer.{IsAnswer}
-use Rattle.ov_desk.specs.Desk.{GroupDeskState, IsOpened}
-use Rattle.ov_desk.specs.Turns.{ClaimsNext, LooksNext, SettlesNext, WasClaimed, WasLookedAt, WasSettled}
+use Rattle.ov_even.specs.Desk.{GroupDeskState, IsOpened}
+use Rattle.ov_even.specs.Turns.{ClaimsNext, LooksNext, SettlesNext, WasClaimed, WasLookedAt, WasSettled}
 use Rattle.ov_snap.specs.CoreState.{CoreState, HasDesk}
 use Rattle.ov_snap.specs.ReportState.{ReportState}
 use Rattle.ov_snap.specs.Filing.{WasFiled}

@@ -7,8 +7,8 @@ use Rattle.ov_graph.specs.Links.{LinkGraph, IsGroup}
 use Rattle.ov_net.specs.Journal.{AreLinks, Live}
 use Rattle.ov_ids.specs.Workers.{MayWork}
 use Rattle.ov_board.specs.Theorems.{AllEnded}
-use Rattle.ov_desk.specs.Desk.{GroupDeskState}
-use Rattle.ov_desk.specs.Turns.{IsWorkerOf}
+use Rattle.ov_even.specs.Desk.{GroupDeskState}
+use Rattle.ov_even.specs.Turns.{IsWorkerOf}
 use Rattle.ov_snap.specs.CoreState.{CoreState, HasReport, HasDesk, most_desks}
 use Rattle.ov_snap.specs.ReportState.{ReportState}
 use Rattle.ov_snap.specs.Snapshots.{IsMoment}

@@ -20,7 +20,7 @@ use crate::kept_snapshots::{Snapshot, find, make_room};
 use crate::refused_core_call::CoreFault;
 use crate::reports_by_moment_and_group::Reports;
 use ov_cert::SharedGraph;
-use ov_desk::GroupDesk;
+use ov_even::GroupDesk;
 use ov_ids::{NodeId, OutOfMemory, Params};
 use ov_net::{Entry, Event, MOST_ENTRIES, NetFault, World};
 use ov_words::{WORDS_PER_EVENT, Words};

@@ -1,5 +1,5 @@
 //! All that is seen of a world, and of a core.
-use ov_desk::GroupDesk;
+use ov_even::GroupDesk;
 use ov_ids::{IdsText, NodeId};
 use ov_net::World;
 use ov_snap::{Core, Report};

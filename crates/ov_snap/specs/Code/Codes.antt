@@ -1,8 +1,8 @@
 -- Codes of a core, so that contracts can see it as a value. They say nothing else about it.
 use Rattle.std.specs.Prelude.{List, refl}
 use Rattle.std.specs.Coded.{Coded, code_by, coded×, coded_list}
-use Rattle.ov_desk.specs.Desk.{GroupDeskState}
-use Rattle.ov_desk.specs.contracts.worker_desk.GroupDesk as desk
+use Rattle.ov_even.specs.Desk.{GroupDeskState}
+use Rattle.ov_even.specs.contracts.group_desk.GroupDesk as desk
 use Rattle.ov_net.specs.Code.Codes.{world_code}
 use Rattle.ov_net.specs.World.{WorldState}
 use Rattle.ov_snap.specs.CoreState.{CoreState}

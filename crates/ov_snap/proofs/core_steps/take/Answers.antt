@@ -1,5 +1,5 @@
 -- Each call did its step, or was refused.
-use Rattle.ov_desk.specs.Turns.{ClaimsNext, LooksNext, SettlesNext}
+use Rattle.ov_even.specs.Turns.{ClaimsNext, LooksNext, SettlesNext}
 use Rattle.ov_snap.specs.CoreState.{CoreState}
 use Rattle.ov_snap.specs.Refusals.{DeskFilingJudged, FilingJudged, GroupOpeningJudged, OpeningJudged, TurnJudged}
 use Rattle.ov_snap.proofs.Running.{done, taken, taken_at_once, went_on}

@@ -1,6 +1,6 @@
 use Rattle.std.proofs.Common.{◌∙◌, ap, subst, sym}
 use Rattle.ov_cert.specs.State.{CheckedState}
-use Rattle.ov_desk.specs.Sound.{IsSoundDesk}
+use Rattle.ov_even.specs.SoundDesk.{IsSoundDesk}
 use Rattle.ov_graph.specs.Links.{LinkGraph}
 use Rattle.ov_net.specs.Journal.{AreLinks}
 use Rattle.ov_snap.specs.ReportState.{ReportState}

@@ -1,6 +1,0 @@
-pub mod Deciding
-pub mod Keeping
-pub mod Settling
-pub mod Staying
-pub mod Turned
-pub mod Workers

@@ -1,5 +1,0 @@
-use Rattle.ov_desk.proofs.Staying.{stays_sound}
-use Rattle.ov_desk.proofs.sound_desk_theorems.stays_sound.Goals as goal
-
-pub returns : goal.returns
-returns c = stays_sound

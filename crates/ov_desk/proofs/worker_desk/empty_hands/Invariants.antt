@@ -1,6 +1,0 @@
-use Rattle.std.proofs.Common.{◌≡◌, replicate}
-use Rattle.ov_desk.specs.declared.piece_in_hand.Hand.TheVariants.{Nothing}
-use Rattle.ov_desk.proofs.worker_desk.empty_hands.Given as goal
-
-abbrev pub invariant-loop : goal.invariant-loop
-invariant-loop l = l.hands.items ≡ replicate l.counter Nothing

@@ -1,5 +1,0 @@
-pub mod Desk
-pub mod Sound
-pub mod Turns
-pub mod Theorems
-pub mod Code
