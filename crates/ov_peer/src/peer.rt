@@ -21,9 +21,9 @@ ghost use Rattle.ov_peer.specs.declared.input_and_output.Input.TheVariants.{Boot
 ghost use Rattle.ov_peer.specs.declared.input_and_output.Input.TheVariants.{Timer};
 
 use crate::fault::PeerFault;
-use crate::hyparview_message_dispatch::{hear, walk};
+use crate::hyparview_message_dispatch::{hear_next, hear_of_crash, walk};
 use crate::input_and_output::{Input, Output};
-use crate::plan::{HyParViewChange, NextViews, Plan, follow, views_plan};
+use crate::plan::{HyParViewChange, NextViews, Plan, follow};
 use crate::tree_updates::{joins, tell};
 use ov_ids::{MsgId, NodeId, OutOfMemory, Params, Seq};
 use ov_neighbor::Attempt;
@@ -185,6 +185,7 @@ impl Peer {
     }
 
     /// Plans one step, with random choices by the next words.
+    #[inline(always)]
     fn plan_by(&self, input: Input, draws: &mut Draws<'_>) -> Result<Plan, PeerFault>
         requires words { most_words ≤ length draws.old }
         requires range { IsInputInRange input }
@@ -257,6 +258,7 @@ impl Peer {
     }
 
     /// The node starts: it is to send JOIN to its contact, if there is one.
+    #[inline(always)]
     fn boot(&self, contact: Option<NodeId>) -> Result<Plan, OutOfMemory>
         ensures { IfOk result (λ g. (words : List ℕ) → IsGoodPlan self.now (Boot contact) words words g) }
     {
@@ -270,6 +272,7 @@ impl Peer {
     }
 
     /// The node starts a shuffle.
+    #[inline(always)]
     fn shuffle(&self, draws: &mut Draws<'_>) -> Result<Plan, OutOfMemory>
         requires { most_words ≤ length draws.old }
         ensures { IfOk result (IsGoodPlan self.now input.Shuffle draws.old draws.new) }
@@ -279,36 +282,30 @@ impl Peer {
         Ok(Plan::of_moves(moves, HyParViewChange::Shuffle(sent)))
     }
 
-    /// The node's views and attempt, which a handler is to change.
-    fn next_views(&self) -> Result<NextViews, OutOfMemory>
-        ensures { IfOk result (λ n. n
+    /// The node's views and attempt, which a handler is to change, in the box in which a plan has them.
+    #[inline(always)]
+    fn next_views(&self) -> Result<Box<NextViews>, OutOfMemory>
+        ensures { IfOk result (λ n. n.value
             ≡ record { views = self.now.hyparview.views; attempt = self.now.hyparview.attempt }) }
     {
-        let views = self.views.copy();
         let attempt = self.attempt.copy()?;
-        Ok(NextViews { views, attempt })
+        let views = self.views.copy();
+        Ok(Box::new(self.alloc, NextViews { views, attempt })?)
     }
 
     /// A node is reported to have crashed.
+    #[inline(always)]
     fn crash_report(&self, crashed: NodeId, draws: &mut Draws<'_>) -> Result<Plan, OutOfMemory>
         requires { most_words ≤ length draws.old }
         ensures { IfOk result (IsGoodPlan self.now (CrashReport crashed) draws.old draws.new) }
     {
-        let NextViews {
-            mut views,
-            mut attempt,
-        } = self.next_views()?;
-        let moves = ov_neighbor::on_crash_report(
-            self.alloc,
-            &mut views,
-            &mut attempt,
-            draws,
-            crashed,
-        )?;
-        Ok(views_plan(self.alloc, moves, NextViews { views, attempt })?)
+        let mut next = self.next_views()?;
+        let moves = hear_of_crash(self.alloc, &mut next, draws, crashed)?;
+        Ok(Plan::of_moves(moves, HyParViewChange::ViewsAndAttempt(next)))
     }
 
     /// A message comes.
+    #[inline(always)]
     fn receive(&self, message: Message, draws: &mut Draws<'_>) -> Result<Plan, OutOfMemory>
         requires words { most_words ≤ length draws.old }
         requires range { AreInRange message }
@@ -328,6 +325,7 @@ impl Peer {
     }
 
     /// A message of HyParView comes. If its walk only goes on, the views are not copied.
+    #[inline(always)]
     fn hear(&self, from: NodeId, body: &Body, draws: &mut Draws<'_>) -> Result<Plan, OutOfMemory>
         requires words { most_words ≤ length draws.old }
         requires range { AreInRange (record { from = from; body = body.now }) }
@@ -343,6 +341,7 @@ impl Peer {
     }
 
     /// A message of HyParView comes, and may change the views and the attempt.
+    #[inline(always)]
     fn handle(&self, from: NodeId, body: &Body, draws: &mut Draws<'_>) -> Result<Plan, OutOfMemory>
         requires words { most_words ≤ length draws.old }
         requires range { AreInRange (record { from = from; body = body.now }) }
@@ -350,23 +349,13 @@ impl Peer {
         ensures { IfOk result
             (IsGoodPlan self.now (Receive (record { from = from; body = body.now })) draws.old draws.new) }
     {
-        let NextViews {
-            mut views,
-            mut attempt,
-        } = self.next_views()?;
-        let moves = hear(
-            self.alloc,
-            &mut views,
-            &mut attempt,
-            &self.sent,
-            draws,
-            from,
-            body,
-        )?;
-        Ok(views_plan(self.alloc, moves, NextViews { views, attempt })?)
+        let mut next = self.next_views()?;
+        let moves = hear_next(self.alloc, &mut next, &self.sent, draws, from, body)?;
+        Ok(Plan::of_moves(moves, HyParViewChange::ViewsAndAttempt(next)))
     }
 
     /// The node broadcasts a payload.
+    #[inline(always)]
     fn broadcast(&self, payload: Seq<u8>) -> Result<Plan, PeerFault>
         ensures plan { IfOk result (λ g. (words : List ℕ) → IsGoodPlan self.now (Broadcast payload) words words g) }
         ensures judged { IfOk result (λ _. IsFaultOf self.now (Broadcast payload) None) }
@@ -383,6 +372,7 @@ impl Peer {
     }
 
     /// The timer of a message fires.
+    #[inline(always)]
     fn timer(&self, id: MsgId) -> Result<Plan, PeerFault>
         ensures plan { IfOk result (λ g. (words : List ℕ) → IsGoodPlan self.now (Timer id) words words g) }
         ensures judged { IfOk result (λ _. IsFaultOf self.now (Timer id) None) }

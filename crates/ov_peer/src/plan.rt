@@ -46,6 +46,7 @@ pub struct Plan {
 
 impl Plan {
     /// The plan of a step of HyParView's part alone.
+    #[inline(always)]
     pub(crate) fn of_moves(moves: Moves, views_change: HyParViewChange) -> Plan
         ensures { (n : HyParViewState) → IsPlanOfMoves moves n (hyparview_after n views_change) result }
     {
@@ -59,6 +60,7 @@ impl Plan {
     }
 
     /// The plan of a step of Plumtree's part alone, at the node `me`.
+    #[inline(always)]
     pub(crate) fn of_tree(alloc: Global, me: NodeId, planned: PlumPlan) -> Plan
         ensures sends { result.sends ≡ planned.spread.sends }
         ensures changes { result.changes.items ≡ [] }
@@ -81,16 +83,8 @@ impl Plan {
     }
 }
 
-/// The plan of a step of HyParView's part alone, after which the node has these views and this attempt.
-pub(crate) fn views_plan(alloc: Global, moves: Moves, next: NextViews) -> Result<Plan, OutOfMemory>
-    ensures { IfOk result (λ g. (n : HyParViewState)
-        → IsPlanOfMoves moves n (record n { views = next.views; attempt = next.attempt }) g) }
-{
-    let next = Box::new(alloc, next)?;
-    Ok(Plan::of_moves(moves, HyParViewChange::ViewsAndAttempt(next)))
-}
-
 /// What the node `me` delivers, with its id.
+#[inline(always)]
 fn delivery_at(me: NodeId, delivered: Option<(MsgId, Seq<u8>)>) -> Option<Delivery>
     ensures { result ≡ delivery_at me delivered }
 {
@@ -105,6 +99,7 @@ fn delivery_at(me: NodeId, delivered: Option<(MsgId, Seq<u8>)>) -> Option<Delive
 }
 
 /// Changes a node's views, its attempt and the list of its last shuffle as a plan says.
+#[inline(always)]
 pub(crate) fn follow(
     views: &mut Views,
     attempt: &mut Attempt,
