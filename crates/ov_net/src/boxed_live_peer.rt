@@ -41,6 +41,7 @@ impl LivePeer {
     }
 
     /// Has the node follow a plan, which is one for it. Out of memory, the node is as it was.
+    #[inline(always)]
     pub(crate) fn follow(&mut self, plan: Plan) -> Result<(), OutOfMemory>
         requires { IsPlanFor self.old plan }
         ensures ok { OnOk result (Follows self.old plan self.new) }

@@ -21,6 +21,7 @@ use ov_words::Words;
 
 impl World {
     /// The effects of an event to which no refusal applies. The world is not changed.
+    #[inline(always)]
     pub(crate) fn effects_of(&self, event: &Event, words: &Words) -> Result<Effects, OutOfMemory>
         requires { MayHappen self.now.net (length self.now.journal) event.now }
         ensures effects { IfOk result (AreEffects self.now.net event.now words.now) }
@@ -74,6 +75,7 @@ impl World {
 
     /// The effects by which no node changes. The packet at the named place, if there is one, is taken out, and more
     /// packets go last.
+    #[inline(always)]
     fn packet_effects(&self, taken: Option<usize>, packets: Vec<Packet>) -> Effects
         ensures { result ≡ record { taken = taken; node = None; packets = packets; changes = []; delivery = None } }
     {
@@ -101,6 +103,7 @@ impl World {
     }
 
     /// The effects of a delivery: the packet is taken out, and its receiver, if it is alive, handles the message.
+    #[inline(always)]
     fn effects_of_deliver(&self, place: u32, words: &Words) -> Result<Effects, OutOfMemory>
         requires { place < length self.now.net.packets }
         ensures effects { IfOk result (AreEffects self.now.net (Deliver place) words.now) }

@@ -19,6 +19,7 @@ pub enum Member {
 
 impl Member {
     /// Has the node, which is alive, follow a plan, which is one for it. Out of memory, the node is as it was.
+    #[inline(always)]
     pub(crate) fn follow(&mut self, plan: Plan) -> Result<(), OutOfMemory>
         requires { (p : PeerState) × (self.old ≡ Live p) × IsPlanFor p plan }
         ensures ok { OnOk result (MemberFollows self.old plan self.new) }

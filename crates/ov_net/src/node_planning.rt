@@ -54,6 +54,7 @@ pub(crate) fn effects_of_input(
 }
 
 /// The plan by which a live node takes an input that it may take.
+#[inline(always)]
 fn plan_of(peer: &Peer, input: Input, words: &Words) -> Result<Plan, OutOfMemory>
     requires range { IsInputInRange input }
     requires fault { fault_of peer.now input ≡ None }
@@ -69,6 +70,7 @@ fn plan_of(peer: &Peer, input: Input, words: &Words) -> Result<Plan, OutOfMemory
 }
 
 /// What a plan of a node sends and delivers, and how it changes the active view.
+#[inline(always)]
 fn additions_of_plan(alloc: Global, node: NodeId, plan: &Plan) -> Result<Additions, OutOfMemory>
     requires { AreSendsInRange plan.now.sends.items }
     ensures packets { IfOk result (λ b. b.packets.items ≡ plan.now.sends.items) }
@@ -109,6 +111,7 @@ pub(crate) fn effects_of_birth(
 }
 
 /// Boots a node that is being born. Returns what its first step and its birth add to the world.
+#[inline(always)]
 fn boot_newborn(
     alloc: Global,
     node: NodeId,

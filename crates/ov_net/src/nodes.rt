@@ -56,6 +56,7 @@ impl Nodes {
     }
 
     /// Has the live node with this id follow a plan, which is one for it. Out of memory, nothing changes.
+    #[inline(always)]
     pub(crate) fn follow(&mut self, id: NodeId, plan: Plan) -> Result<(), OutOfMemory>
         requires { CanChange id (Follows plan) self.old }
         ensures ok { OnOk result (NodeChanges id (Follows plan) self.old self.new) }

@@ -35,6 +35,7 @@ impl Drop for NodeChange {
 
 impl NodeChange {
     /// Changes a node: it is born, follows its plan, or crashes. Out of memory, nothing changes.
+    #[inline(always)]
     pub(crate) fn make(self, nodes: &mut Nodes, id: NodeId) -> Result<(), OutOfMemory>
         requires { CanChange id self nodes.old }
         ensures ok { OnOk result (NodeChanges id self nodes.old nodes.new) }

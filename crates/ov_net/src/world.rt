@@ -198,6 +198,7 @@ impl World {
     }
 
     /// The effects of an event, if no refusal applies; else the first applicable one. Nothing changes.
+    #[inline(always)]
     fn judged_effects(&self, event: &Event, words: &Words) -> Result<Effects, NetFault>
         ensures judged { IfOk result (λ _. MayHappen self.now.net (length self.now.journal) event.now) }
         ensures effects { IfOk result (AreEffects self.now.net event.now words.now) }
@@ -255,6 +256,7 @@ impl World {
 
 /// Reserves room for an entry and `count` packets, adds the node that is born at the event to the graph, and changes
 /// the named node, if there are any. Out of memory, nothing changes.
+#[inline(always)]
 fn reserve_and_change(
     nodes: &mut Nodes,
     graph: &mut Graph,
@@ -284,6 +286,7 @@ fn reserve_and_change(
 
 /// Adds the node that is born at an event to the graph, and changes the named node, if there are any. Out of memory,
 /// nothing changes.
+#[inline(always)]
 fn change_nodes(
     nodes: &mut Nodes,
     graph: &mut Graph,
@@ -345,6 +348,7 @@ fn since_after(before: u32, told: &Told, number: u32) -> u32
 }
 
 /// Changes the named node, if there is one. Out of memory, nothing changes.
+#[inline(always)]
 fn change_named_node(
     nodes: &mut Nodes,
     node: Option<(NodeId, NodeChange)>,
@@ -360,6 +364,7 @@ fn change_named_node(
 }
 
 /// Takes out the packet at the named place, if there is one, and appends more packets. There is room for them.
+#[inline(always)]
 fn update_packets(packets: &mut BlockList<Packet>, taken: Option<usize>, more: Vec<Packet>)
     requires within { IsWithin taken packets.old.items }
     requires room { vec_len more ≤ packets.old.room }
