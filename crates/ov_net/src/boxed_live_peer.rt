@@ -1,8 +1,9 @@
 ghost use Rattle.std.specs.Prelude.{◌≡◌, IfOk, OnOk, OnErr};
 ghost use Rattle.ov_peer.specs.Planning.{Follows, IsPlanFor};
 
+use crate::boxed_plan::BoxedPlan;
 use ov_ids::OutOfMemory;
-use ov_peer::{Peer, Plan};
+use ov_peer::Peer;
 use std::alloc::Global;
 use std::marker::Model;
 
@@ -42,12 +43,14 @@ impl LivePeer {
 
     /// Has the node follow a plan, which is one for it. Out of memory, the node is as it was.
     #[inline(always)]
-    pub(crate) fn follow(&mut self, plan: Plan) -> Result<(), OutOfMemory>
+    pub(crate) fn follow(&mut self, plan: BoxedPlan) -> Result<(), OutOfMemory>
         requires { IsPlanFor self.old plan }
         ensures ok { OnOk result (Follows self.old plan self.new) }
         ensures err { OnErr result (self.new ≡ self.old) }
     {
-        self.peer.apply(plan)?;
-        Ok(())
+        match self.peer.apply(plan.into_plan()) {
+            Ok(_) => Ok(()),
+            Err(fault) => Err(fault),
+        }
     }
 }

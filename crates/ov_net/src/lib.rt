@@ -3,6 +3,7 @@
 #![tactic(auto)]
 
 mod boxed_live_peer;
+mod boxed_plan;
 mod deterministic_world_theorems;
 mod event;
 mod event_judging;

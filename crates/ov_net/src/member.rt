@@ -5,8 +5,8 @@ ghost use Rattle.ov_net.specs.Code.Effects.{MemberFollows};
 ghost use Rattle.ov_net.specs.declared.member.Member.TheVariants.{Live};
 
 use crate::boxed_live_peer::LivePeer;
+use crate::boxed_plan::BoxedPlan;
 use ov_ids::OutOfMemory;
-use ov_peer::Plan;
 
 /// A node that was born.
 #[derive(Drop)]
@@ -20,7 +20,7 @@ pub enum Member {
 impl Member {
     /// Has the node, which is alive, follow a plan, which is one for it. Out of memory, the node is as it was.
     #[inline(always)]
-    pub(crate) fn follow(&mut self, plan: Plan) -> Result<(), OutOfMemory>
+    pub(crate) fn follow(&mut self, plan: BoxedPlan) -> Result<(), OutOfMemory>
         requires { (p : PeerState) × (self.old ≡ Live p) × IsPlanFor p plan }
         ensures ok { OnOk result (MemberFollows self.old plan self.new) }
         ensures err { OnErr result (self.new ≡ self.old) }

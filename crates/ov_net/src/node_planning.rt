@@ -9,6 +9,7 @@ ghost use Rattle.ov_net.specs.declared.planned_effects.NodeChange.TheVariants as
 ghost use Rattle.ov_net.specs.declared.journal_entry_and_changes.Change.TheVariants.{Born};
 
 use crate::boxed_live_peer::LivePeer;
+use crate::boxed_plan::BoxedPlan;
 use crate::journal_entry_and_changes::{Change, copy_delivery};
 use crate::packet::Packet;
 use crate::planned_effects::{Effects, NodeChange};
@@ -42,8 +43,8 @@ pub(crate) fn effects_of_input(
     ensures effects { IfOk result (AreEffectsOfPlan node taken peer.now input words.now) }
     ensures few { IfOk result SendFew }
 {
-    let plan = plan_of(peer, input, words)?;
-    let added = additions_of_plan(alloc, node, &plan)?;
+    let plan = plan_of(alloc, peer, input, words)?;
+    let added = additions_of_plan(alloc, node, plan.as_plan())?;
     Ok(Effects {
         taken,
         node: Some((node, NodeChange::Follows(plan))),
@@ -55,7 +56,12 @@ pub(crate) fn effects_of_input(
 
 /// The plan by which a live node takes an input that it may take.
 #[inline(always)]
-fn plan_of(peer: &Peer, input: Input, words: &Words) -> Result<Plan, OutOfMemory>
+fn plan_of(
+    alloc: Global,
+    peer: &Peer,
+    input: Input,
+    words: &Words,
+) -> Result<BoxedPlan, OutOfMemory>
     requires range { IsInputInRange input }
     requires fault { fault_of peer.now input ≡ None }
     ensures planned { IfOk result (PlansInput peer.now input words.now) }
@@ -63,7 +69,7 @@ fn plan_of(peer: &Peer, input: Input, words: &Words) -> Result<Plan, OutOfMemory
     ensures ranges { IfOk result (λ g. AreSendsInRange g.sends.items) }
 {
     match peer.plan(input, words) {
-        Ok(plan) => Ok(plan),
+        Ok(plan) => BoxedPlan::new(alloc, plan),
         Err(PeerFault::OutOfMemory) => Err(OutOfMemory),
         Err(_) => unreachable!(),
     }

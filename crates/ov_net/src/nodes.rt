@@ -4,9 +4,9 @@ ghost use Rattle.std.specs.FinMap as map;
 ghost use Rattle.ov_net.specs.Code.Effects.{CanChange, NodeChanges};
 ghost use Rattle.ov_net.specs.declared.planned_effects.NodeChange.TheVariants.{Follows};
 
+use crate::boxed_plan::BoxedPlan;
 use crate::member::Member;
 use ov_ids::{NodeId, OutOfMemory};
-use ov_peer::Plan;
 use std::alloc::Global;
 use std::collections::BTreeMap;
 use std::marker::Model;
@@ -57,7 +57,7 @@ impl Nodes {
 
     /// Has the live node with this id follow a plan, which is one for it. Out of memory, nothing changes.
     #[inline(always)]
-    pub(crate) fn follow(&mut self, id: NodeId, plan: Plan) -> Result<(), OutOfMemory>
+    pub(crate) fn follow(&mut self, id: NodeId, plan: BoxedPlan) -> Result<(), OutOfMemory>
         requires { CanChange id (Follows plan) self.old }
         ensures ok { OnOk result (NodeChanges id (Follows plan) self.old self.new) }
         ensures err { OnErr result (self.new ≡ self.old) }

@@ -2,13 +2,14 @@ ghost use Rattle.std.specs.Prelude.{◌≡◌, IfOk, OnOk, OnErr};
 ghost use Rattle.ov_net.specs.Code.Effects.{CanChange, NodeChanges};
 
 use crate::boxed_live_peer::LivePeer;
+use crate::boxed_plan::BoxedPlan;
 use crate::event::Event;
 use crate::journal_entry_and_changes::{Change, Told, copy_delivery};
 use crate::member::Member;
 use crate::nodes::Nodes;
 use crate::packet::Packet;
 use ov_ids::{NodeId, OutOfMemory, Seq};
-use ov_peer::{Delivery, Plan};
+use ov_peer::Delivery;
 use ov_words::Words;
 use std::alloc::Global;
 
@@ -17,7 +18,7 @@ pub(crate) enum NodeChange {
     /// It is born, and this is its state after its first input.
     Born(LivePeer),
     /// It takes an input, and follows this plan.
-    Follows(Plan),
+    Follows(BoxedPlan),
     /// It crashes.
     Crashes,
 }
