@@ -4,16 +4,13 @@ use Rattle.std.proofs.Common.{Some, None}
 use Rattle.std.proofs.Common.{refl, sym, ap, arith}
 use Rattle.std.specs.Prelude.{count_by, is_some}
 use Rattle.std.proofs.lemmas.List.Sums.{sum_by-cons}
-use Rattle.std.proofs.lemmas.Map.Views.{tells_apart}
 use Rattle.ov_ids.specs.declared.id.MsgId.{MsgId}
-use Rattle.ov_plum.proofs.Maps.{id_cmp_same}
 use Rattle.ov_net.specs.Net.{Net}
 use Rattle.ov_grow.specs.MessageCosts.{cost_of, hops_among, is_gossip, is_graft, is_ihave, prunes_of, round_at, same_id}
-use Rattle.ov_grow.specs.Code.Counting.{counted, counted_all, is_last, last_after, no_counts, no_nodes, once, one_more}
+use Rattle.ov_grow.specs.Code.Counting.{counted, counted_all, is_last, last_after, no_counts, no_nodes, once}
 use Rattle.ov_grow.specs.Code.Counting.{reached_all, reached_more}
 use Rattle.ov_grow.specs.declared.broadcast_log.Mark.{Mark}
 use Rattle.ov_grow.specs.declared.broadcast_log.Mark.TheVariants.{Made, Gossip, Ihave, Graft, Prune}
-use Rattle.ov_grow.specs.declared.message_cost.CountedKind.TheVariants as kind
 use Rattle.ov_grow.specs.declared.message_cost.MessageCost.{MessageCost}
 use Rattle.ov_grow.specs.declared.message_cost.MessageCounts.{MessageCounts}
 use Rattle.ov_grow.specs.declared.message_cost.NodesReached.{NodesReached}
