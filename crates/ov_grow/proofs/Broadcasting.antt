@@ -45,11 +45,6 @@ stands_last n ids x none some ascend is = inr (
   first_found (λ a. 0 ≤ a) ids 0 x some (is_item ids 0 x some is) ascend (λ a has. absurd has) (omega arith),
 )
 
--- who stands in for a node is one of the live nodes
-pub stands_among : (n : ℕ) (live : List ℕ) (node : ℕ) → StandsInFor n live node → Has live node
-stands_among n live node (inl one) = one.has
-stands_among n live node (inr (none, one)) = one.has
-
 -- the next broadcast
 pub begins_more : (sender : Option ℕ) (nodes : List ℕ) (n m node : ℕ) (id : MsgId) (later : List MsgId)
     (s t v u : Growth) → n ≡ suc m → IsSender sender nodes s node t → BroadcastBy node t id v
@@ -121,9 +116,6 @@ fire_each_next nodes ids i node others s u within is fires =
 pub timers_more : (rules : PhaseRules) (ids : List MsgId) (s t v u : Growth) → Fire ids s true t → RunOut rules t v
     → TimersFire rules ids v u → TimersFire rules ids s u
 timers_more rules ids s t v u fires out (n, times) = (suc n, (t, v, fires, out, times))
-
-pub timers_end : (rules : PhaseRules) (ids : List MsgId) (s u : Growth) → Fire ids s false u → TimersFire rules ids s u
-timers_end rules ids s u none = (0, none)
 
 -- the journal is longer if a timer fired
 abbrev pub LongerIf : Bool → Growth → Growth → Type 0

@@ -4,103 +4,35 @@ use Rattle.std.proofs.Common.{Some, None}
 use Rattle.std.proofs.Common.{refl, sym, ap, arith}
 use Rattle.std.specs.Prelude.{count_by, is_some}
 use Rattle.std.proofs.lemmas.List.Sums.{sum_by-cons}
-use Rattle.std.proofs.lemmas.Map.Views.{tells_apart}
 use Rattle.ov_ids.specs.declared.id.MsgId.{MsgId}
-use Rattle.ov_plum.proofs.Maps.{id_cmp_same}
 use Rattle.ov_net.specs.Net.{Net}
 use Rattle.ov_grow.specs.MessageCosts.{cost_of, hops_among, is_gossip, is_graft, is_ihave, prunes_of, round_at, same_id}
-use Rattle.ov_grow.specs.Code.Counting.{counted, counted_all, is_last, last_after, no_counts, no_nodes, once, one_more}
+use Rattle.ov_grow.specs.Code.Counting.{counted, counted_all, is_last, last_after, no_counts, no_nodes, once}
 use Rattle.ov_grow.specs.Code.Counting.{reached_all, reached_more}
 use Rattle.ov_grow.specs.declared.broadcast_log.Mark.{Mark}
 use Rattle.ov_grow.specs.declared.broadcast_log.Mark.TheVariants.{Made, Gossip, Ihave, Graft, Prune}
-use Rattle.ov_grow.specs.declared.message_cost.CountedKind.TheVariants as kind
 use Rattle.ov_grow.specs.declared.message_cost.MessageCost.{MessageCost}
 use Rattle.ov_grow.specs.declared.message_cost.MessageCounts.{MessageCounts}
 use Rattle.ov_grow.specs.declared.message_cost.NodesReached.{NodesReached}
 
--- ---- one message more
-
 plus_none : (n : ℕ) → n ≡ n + 0
 plus_none n = omega arith
 
-pub same_counts : (c d : MessageCounts) → c.gossip ≡ d.gossip → c.ihave ≡ d.ihave → c.graft ≡ d.graft
-    → c.prune ≡ d.prune → c ≡ d
-same_counts c d gossip ihave graft prune =
-    λ i. record { gossip = gossip i; ihave = ihave i; graft = graft i; prune = prune i }
+assoc : (a b d : ℕ) → a + b + d ≡ a + (b + d)
+assoc a b d = omega arith
 
--- GOSSIP of one id is counted
-pub gossip_counted : (b : Bool) (c : MessageCounts) → cond b (one_more kind.Gossip c) c
-    ≡ record { gossip = c.gossip + once b; ihave = c.ihave + 0; graft = c.graft + 0; prune = c.prune + 0 }
-gossip_counted true c = same_counts _ _ refl (plus_none c.ihave) (plus_none c.graft) (plus_none c.prune)
-gossip_counted false c =
-    same_counts _ _ (plus_none c.gossip) (plus_none c.ihave) (plus_none c.graft) (plus_none c.prune)
-
-pub ihave_counted : (b : Bool) (c : MessageCounts) → cond b (one_more kind.Ihave c) c
-    ≡ record { gossip = c.gossip + 0; ihave = c.ihave + once b; graft = c.graft + 0; prune = c.prune + 0 }
-ihave_counted true c = same_counts _ _ (plus_none c.gossip) refl (plus_none c.graft) (plus_none c.prune)
-ihave_counted false c =
-    same_counts _ _ (plus_none c.gossip) (plus_none c.ihave) (plus_none c.graft) (plus_none c.prune)
-
-pub graft_counted : (b : Bool) (c : MessageCounts) → cond b (one_more kind.Graft c) c
-    ≡ record { gossip = c.gossip + 0; ihave = c.ihave + 0; graft = c.graft + once b; prune = c.prune + 0 }
-graft_counted true c = same_counts _ _ (plus_none c.gossip) (plus_none c.ihave) refl (plus_none c.prune)
-graft_counted false c =
-    same_counts _ _ (plus_none c.gossip) (plus_none c.ihave) (plus_none c.graft) (plus_none c.prune)
-
-pub prune_counted : (b : Bool) (c : MessageCounts) → cond b (one_more kind.Prune c) c
-    ≡ record { gossip = c.gossip + 0; ihave = c.ihave + 0; graft = c.graft + 0; prune = c.prune + once b }
-prune_counted true c = same_counts _ _ (plus_none c.gossip) (plus_none c.ihave) (plus_none c.graft) refl
-prune_counted false c =
-    same_counts _ _ (plus_none c.gossip) (plus_none c.ihave) (plus_none c.graft) (plus_none c.prune)
-
--- nothing is counted
-pub none_counted : (c : MessageCounts)
-    → c ≡ record { gossip = c.gossip + 0; ihave = c.ihave + 0; graft = c.graft + 0; prune = c.prune + 0 }
-none_counted c = same_counts _ _ (plus_none c.gossip) (plus_none c.ihave) (plus_none c.graft) (plus_none c.prune)
-
--- what was counted at another id that is the same
-pub counts_where : {X : Type 0} (f : MsgId → X) (g : X → X) (id other : MsgId) (b : Bool) → same_id id other ≡ b
-    → cond b (g (f id)) (f other) ≡ cond b (g (f other)) (f other)
-counts_where f g id other true same = ap (λ k. g (f k)) (tells_apart id_cmp_same id other same)
-counts_where f g id other false same = refl
-
--- ---- all marks
-
-gossips : (id : MsgId) (last : Option MsgId) (marks : List Mark) (c : MessageCounts)
-    → (counted_all id last marks c).gossip ≡ c.gossip + count_by (is_gossip id) marks
-gossips id last [] c = plus_none c.gossip
-gossips id last (mark ∷ more) c =
-    let rest = gossips id (last_after last mark) more (counted id last mark c) in
-    let first = sum_by-cons (λ m. cond (is_gossip id m) 1 0) mark more in
-    rest ∙ (assoc c.gossip (once (is_gossip id mark)) (count_by (is_gossip id) more)
-    ∙ ap (λ n. c.gossip + n) (sym first))
-  where
-    assoc : (a b d : ℕ) → a + b + d ≡ a + (b + d)
-    assoc a b d = omega arith
-
-ihaves : (id : MsgId) (last : Option MsgId) (marks : List Mark) (c : MessageCounts)
-    → (counted_all id last marks c).ihave ≡ c.ihave + count_by (is_ihave id) marks
-ihaves id last [] c = plus_none c.ihave
-ihaves id last (mark ∷ more) c =
-    let rest = ihaves id (last_after last mark) more (counted id last mark c) in
-    let first = sum_by-cons (λ m. cond (is_ihave id m) 1 0) mark more in
-    rest ∙ (assoc c.ihave (once (is_ihave id mark)) (count_by (is_ihave id) more)
-    ∙ ap (λ n. c.ihave + n) (sym first))
-  where
-    assoc : (a b d : ℕ) → a + b + d ≡ a + (b + d)
-    assoc a b d = omega arith
-
-grafts : (id : MsgId) (last : Option MsgId) (marks : List Mark) (c : MessageCounts)
-    → (counted_all id last marks c).graft ≡ c.graft + count_by (is_graft id) marks
-grafts id last [] c = plus_none c.graft
-grafts id last (mark ∷ more) c =
-    let rest = grafts id (last_after last mark) more (counted id last mark c) in
-    let first = sum_by-cons (λ m. cond (is_graft id m) 1 0) mark more in
-    rest ∙ (assoc c.graft (once (is_graft id mark)) (count_by (is_graft id) more)
-    ∙ ap (λ n. c.graft + n) (sym first))
-  where
-    assoc : (a b d : ℕ) → a + b + d ≡ a + (b + d)
-    assoc a b d = omega arith
+-- marks of one kind are counted one by one
+tallied : (count : MessageCounts → ℕ) (is : Mark → Bool) (id : MsgId)
+    → ((last : Option MsgId) (mark : Mark) (c : MessageCounts) → count (counted id last mark c)
+    ≡ count c + once (is mark))
+    → (last : Option MsgId) (marks : List Mark) (c : MessageCounts)
+    → count (counted_all id last marks c) ≡ count c + count_by is marks
+tallied count is id one last [] c = plus_none (count c)
+tallied count is id one last (mark ∷ more) c =
+    let rest = tallied count is id one (last_after last mark) more (counted id last mark c) in
+    let first = sum_by-cons (λ m. cond (is m) 1 0) mark more in
+    rest ∙ (ap (λ n. n + count_by is more) (one last mark c)
+    ∙ (assoc (count c) (once (is mark)) (count_by is more) ∙ ap (λ n. count c + n) (sym first)))
 
 -- PRUNE, if the broadcast is the last one or is not
 prune_more : (id : MsgId) (last : Bool) (more : List Mark) (n : ℕ)
@@ -146,9 +78,6 @@ deliveries w id (node ∷ more) r =
     let first = sum_by-cons (λ n. cond (is_some (round_at w n id)) 1 0) node more in
     rest ∙ (assoc r.delivered (once (is_some (round_at w node id))) (count_by (λ n. is_some (round_at w n id)) more)
     ∙ ap (λ n. r.delivered + n) (sym first))
-  where
-    assoc : (a b d : ℕ) → a + b + d ≡ a + (b + d)
-    assoc a b d = omega arith
 
 most_none : (n : ℕ) → n ≡ max n 0
 most_none n = omega arith
@@ -193,8 +122,11 @@ cost_is w live marks id r c reached counts =
       live = (ap (λ (x : NodesReached). x.live) reached ∙ (lives w id live no_nodes ∙ from_none _)) i;
       delivered = (ap (λ (x : NodesReached). x.delivered) reached ∙ (deliveries w id live no_nodes ∙ from_none _)) i;
       hops = (ap (λ (x : NodesReached). x.hops) reached ∙ (farthest w id live no_nodes ∙ most_from_none _)) i;
-      gossip = (ap (λ (x : MessageCounts). x.gossip) counts ∙ (gossips id None marks no_counts ∙ from_none _)) i;
-      ihave = (ap (λ (x : MessageCounts). x.ihave) counts ∙ (ihaves id None marks no_counts ∙ from_none _)) i;
-      graft = (ap (λ (x : MessageCounts). x.graft) counts ∙ (grafts id None marks no_counts ∙ from_none _)) i;
+      gossip = (ap (λ (x : MessageCounts). x.gossip) counts
+          ∙ (tallied (λ x. x.gossip) (is_gossip id) id (λ last mark x. refl) None marks no_counts ∙ from_none _)) i;
+      ihave = (ap (λ (x : MessageCounts). x.ihave) counts
+          ∙ (tallied (λ x. x.ihave) (is_ihave id) id (λ last mark x. refl) None marks no_counts ∙ from_none _)) i;
+      graft = (ap (λ (x : MessageCounts). x.graft) counts
+          ∙ (tallied (λ x. x.graft) (is_graft id) id (λ last mark x. refl) None marks no_counts ∙ from_none _)) i;
       prune = (ap (λ (x : MessageCounts). x.prune) counts ∙ (prunes id None marks no_counts ∙ from_none _)) i;
     }

@@ -41,7 +41,7 @@ use Rattle.ov_grow.specs.Code.Standing.{AllLive, HaveMade, MayCrash, StillLive}
 use Rattle.ov_grow.specs.declared.phase_rules.PhaseRules.{PhaseRules}
 use Rattle.ov_grow.proofs.Keeping.{keeps_same, lives_still, order_has, order_lives, turns_keep}
 use Rattle.ov_grow.proofs.Made.{none_made}
-use Rattle.ov_grow.proofs.Making.{MakesMost, makes_none, makes_then, run_out_keeps}
+use Rattle.ov_grow.proofs.Making.{MakesMost, made_keeps, makes_none, makes_then, run_out_keeps}
 
 -- a birth: nobody else changes, and the new node has made no broadcast
 boot_made : (s u : Growth) (id : ℕ) (contact : Option ℕ) → Does s (act.Boot id contact) u → MakesMost 0 s u
@@ -270,6 +270,13 @@ pub to_crash_same : (crash : Crash) (m : ℕ) (s u : Growth) (nodes : List ℕ) 
     → u.world ≡ s.world
 to_crash_same (Share share) m s u nodes (order, (live, after, are, orders, same), is) = ap (λ g. g.world) same
 to_crash_same Cut m s u nodes (cut, same) = ap (λ g. g.world) same
+
+-- behind a comment nodes are chosen, and crash: nobody has made more broadcasts
+pub crashing_made : (k : ℕ) (crash : Crash) (m : ℕ) (nodes those : List ℕ) (s t v u : Growth) → t.world ≡ s.world
+    → AreToCrash crash m t nodes v → DoesEach act.Crash those v u → HaveMade k s → HaveMade k u
+crashing_made k crash m nodes those s t v u same are each most =
+    let chosen = keeps_same s v (to_crash_same crash m t v nodes are ∙ same) in
+    crashes_made k those v u each (made_keeps k s v chosen most)
 
 -- who is spared lives after the crashes
 pub spared_lives_on : (nodes : List ℕ) (s u : Growth) → MayCrash nodes s → DoesEach act.Crash nodes s u

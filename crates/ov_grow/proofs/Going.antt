@@ -20,24 +20,11 @@ pub kept_trans : (b t u : CoreState) → KeepsReports b t → KeepsReports t u �
 kept_trans b t u (first, one) (second, two) =
     (first ++ second, two ∙ (ap (λ r. r ++ second) one ∙ append_assoc b.reports first second))
 
--- nothing was done
-pub goes_nowhere : (b : Growing) → Goes (λ s u. u ≡ s) b b
-goes_nowhere b = record { way = refl; kept = kept_same b.recording.core b.recording.core refl }
-
 -- the same way, under another name
 pub goes_as : (P Q : Growth → Growth → Type 0) (b u : Growing) → (P (growth_of b) (growth_of u) → Q (growth_of b)
     (growth_of u))
     → Goes P b u → Goes Q b u
 goes_as P Q b u put gone = record { way = put gone.way; kept = gone.kept }
-
--- one way, and then another
-pub goes_then : (P Q R : Growth → Growth → Type 0) (b t u : Growing)
-    → ((s v w : Growth) → P s v → Q v w → R s w)
-    → Goes P b t → Goes Q t u → Goes R b u
-goes_then P Q R b t u put first second = record {
-  way = put (growth_of b) (growth_of t) (growth_of u) first.way second.way;
-  kept = kept_trans b.recording.core t.recording.core u.recording.core first.kept second.kept;
-}
 
 -- only choices were drawn
 pub goes_by_choice : (P : Growth → Growth → Type 0) (b : Growing) (left : Lcg)

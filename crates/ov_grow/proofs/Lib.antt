@@ -26,6 +26,8 @@ pub mod Counting
 pub mod Totals
 pub mod OneGrowth
 pub mod OnePhase
+pub mod AnyLog
+pub mod LogAside
 pub mod NoTurn
 pub mod NoJoin
 pub mod NoBroadcast
@@ -43,4 +45,5 @@ pub mod Sharing
 pub mod Asking
 pub mod OneShape
 pub mod OneRow
+pub mod OneMessages
 pub mod Batches

@@ -46,10 +46,6 @@ pub has_crashed : (w : Net) (a : ℕ) (born live : Bool) → born ≡ true → (
     → (IsTrue live ↔ ((p : PeerState) × LivesAs w a p)) → IsTrue (not live) ↔ IsGone w a
 has_crashed w a born live holds is tested = crashed_or_not w a (map.get w.nodes a) live refl (is.0 holds) tested
 
--- who has crashed does not live
-pub gone_not_live : (w : Net) (a : ℕ) → IsGone w a → ¬ ((p : PeerState) × LivesAs w a p)
-gone_not_live w a gone (p, lives) = let e = sym gone ∙ lives in cc
-
 -- whether a timer runs at a node whose state is p
 pub timer_tested : (s : Growth) (node : ℕ) (id : MsgId) (p : PeerState) (runs : Bool) → LivesAs s.world.net node p
     → runs ≡ set.contains p.tree.running id → IsTrue runs ↔ TimerRuns s node id

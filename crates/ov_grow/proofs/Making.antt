@@ -16,20 +16,22 @@ use Rattle.std.proofs.Common.{◌++◌, ◌<◌, append_assoc, length}
 use Rattle.ov_plum.specs.PlumState.{most_broadcasts}
 use Rattle.ov_net.specs.Journal as journal
 use Rattle.ov_net.specs.World.{Stands}
-use Rattle.ov_grow_options.specs.declared.options.GrowOptions.{GrowOptions}
 use Rattle.ov_grow.specs.declared.recordable_event.Act.TheVariants as act
 use Rattle.ov_grow.specs.Growth.{Growth, Does, IsLive, SomebodyLives}
 use Rattle.ov_grow.specs.Turns.{RunOut}
 use Rattle.ov_grow.specs.Rounds.{DoesEach, Round, Rounds}
 use Rattle.ov_grow.specs.Broadcasts.{AtOnce, BroadcastBy, Broadcasts, BroadcastsBegin, FireAt, FireAtEach, FireTimes}
 use Rattle.ov_grow.specs.Broadcasts.{FiresIfItRuns, OneByOne}
-use Rattle.ov_grow.specs.Phases.{AreTold, EndsPhase, IsAnalysedAt, ReportCrashes, ReportTimes, Settle, settling}
-use Rattle.ov_grow.specs.Code.Standing.{AllLive, HaveMade, MayMake, StillLive}
+use Rattle.ov_grow.specs.Phases.{AreTold, EndsPhase, IsAnalysedAt, ReportCrashes, ReportTimes}
+use Rattle.ov_grow.specs.Code.Standing.{AllLive, Goes, HaveMade, MayMake, StillLive, growth_of}
+use Rattle.ov_grow.specs.declared.fault.GrowFault.{GrowFault}
+use Rattle.ov_grow.specs.declared.growth_in_progress.Growing.{Growing}
 use Rattle.ov_grow.specs.declared.phase_moment_and_deliveries.Phase.{Phase}
 use Rattle.ov_grow.specs.declared.phase_rules.PhaseRules.{PhaseRules}
 use Rattle.ov_grow.proofs.Keeping.{Keeps, keeps_same, keeps_trans, lives_still, shuffle_keeps, snapshot_keeps}
 use Rattle.ov_grow.proofs.Keeping.{report_keeps, timer_keeps, turns_keep}
-use Rattle.std.specs.Prelude.{MatchBool}
+use Rattle.std.specs.Prelude.{IfOk, MatchBool, Result}
+use Rattle.std.proofs.lemmas.Result.{IfOk-weaker}
 use Rattle.ov_grow.proofs.Broadcasting.{sender_same}
 use Rattle.ov_grow.proofs.Made.{one_made}
 
@@ -174,13 +176,9 @@ rounds_keep rules zero s u same = keeps_same s u (ap (λ g. g.world) same)
 rounds_keep rules (suc n) s u (t, round, more) =
     keeps_trans s t u (round_keeps rules s t round) (rounds_keep rules n t u more)
 
--- an overlay that settles
-pub settle_made : (o : GrowOptions) (s u : Growth) (phase : Phase) → Settle o s phase u → MakesMost o.broadcasts s u
-settle_made o s u phase (t, v, says, rounds, ends) =
-    makes_then 0 o.broadcasts o.broadcasts s v u (omega arith)
-    (makes_none s v (keeps_trans s t v (keeps_same s t (ap (λ g. g.world) says))
-    (rounds_keep (settling o) o.rounds t v rounds)))
-    (ending_made (settling o) o.broadcasts v u phase ends)
+-- rounds of shuffles behind a comment
+pub settle_keeps : (rules : PhaseRules) (n : ℕ) (s t u : Growth) → t.world ≡ s.world → Rounds rules n t u → Keeps s u
+settle_keeps rules n s t u same rounds = keeps_trans s t u (keeps_same s t same) (rounds_keep rules n t u rounds)
 
 -- so many broadcasts are made, of so many that may be made
 abbrev pub HasRoom : ℕ → ℕ → Growth → Type 0
@@ -243,6 +241,31 @@ reports_keep rules s u (n, times) = times_reported rules n s u times
 pub told_all_keep : (detect : Bool) (rules : PhaseRules) (s u : Growth) → AreTold detect rules s u → Keeps s u
 told_all_keep true rules s u same = keeps_same s u (ap (λ g. g.world) same)
 told_all_keep false rules s u reports = reports_keep rules s u reports
+
+-- the same behind a comment, and then rounds of shuffles
+pub heal_keeps : (detect : Bool) (rules : PhaseRules) (n : ℕ) (s t v u : Growth) → t.world ≡ s.world
+    → AreTold detect rules t v → Rounds rules n v u → Keeps s u
+heal_keeps detect rules n s t v u same told rounds =
+    keeps_trans s t u (keeps_same s t same)
+    (keeps_trans t v u (told_all_keep detect rules t v told) (rounds_keep rules n v u rounds))
+
+-- when a phase has ended some node lives
+pub ended_live : (rules : PhaseRules) (n : ℕ) (b u : Growing) (result : Result Phase GrowFault)
+    → IfOk result (λ phase. Goes (λ s x. EndsPhase rules n s phase x) b u)
+    → IfOk result (λ phase. SomebodyLives (growth_of u))
+ended_live rules n b u result ended = IfOk-weaker result
+    (λ phase. Goes (λ s x. EndsPhase rules n s phase x) b u) (λ phase. SomebodyLives (growth_of u))
+    (λ phase ends. ending_live rules n (growth_of b) (growth_of u) phase ends.way) ended
+
+-- and each has made as many broadcasts as before, and those of the phase, at most
+pub ended_made : (rules : PhaseRules) (n k most : ℕ) (b u : Growing) (result : Result Phase GrowFault)
+    → k + n ≤ most → HaveMade k (growth_of b)
+    → IfOk result (λ phase. Goes (λ s x. EndsPhase rules n s phase x) b u)
+    → IfOk result (λ phase. HaveMade most (growth_of u))
+ended_made rules n k most b u result few made ended = IfOk-weaker result
+    (λ phase. Goes (λ s x. EndsPhase rules n s phase x) b u) (λ phase. HaveMade most (growth_of u))
+    (λ phase ends. have_more (k + n) most (growth_of u) few
+    ((ending_made rules n (growth_of b) (growth_of u) phase ends.way).made k made)) ended
 
 -- all of the nodes at the last moment of the journal live
 pub still_now : (m : ℕ) (s : Growth) → Stands s.world → m ≡ length s.world.journal → StillLive m s

@@ -92,7 +92,7 @@ one_asked IsRight one true (Some x) None a b = absurd b
 one_asked IsRight one false x y a b = a ∙ sym b
 
 -- where growing stands, broadcasts have one list of costs
-one_costs_by : (log : Option (List Mark)) (s : Growth) (cs ds : List MessageCost) → AreCostsBy log s cs
+pub one_costs_by : (log : Option (List Mark)) (s : Growth) (cs ds : List MessageCost) → AreCostsBy log s cs
     → AreCostsBy log s ds → cs ≡ ds
 one_costs_by None s cs ds a b = a ∙ sym b
 one_costs_by (Some marks) s cs ds (live, are, is) (nodes, also, same) =

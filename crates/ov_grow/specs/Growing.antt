@@ -1,4 +1,5 @@
--- How an overlay is grown, and that its options alone decide what is written. Chosen here.
+-- How an overlay is grown, that its options alone decide what is written, and that a log changes nothing else. Chosen
+-- here.
 use Rattle.std.specs.Prelude.{◌≡◌, ◌⊎◌, ℕ, Bool, if◌then◌else◌, List, [], Some, None}
 use Rattle.ov_net.specs.World.{WorldState, opening_world}
 use Rattle.ov_grow.specs.Scripts.{opening}
@@ -77,3 +78,11 @@ OneGrowth =
     (settled crashed healed settles crashes heals : Phase)
     → Grows o text world settled crashed healed → Grows o other beside settles crashes heals
     → (text ≡ other) × (world ≡ beside) × (settled ≡ settles) × (crashed ≡ crashes) × (healed ≡ heals)
+
+-- a log of broadcasts that is kept changes nothing else: an overlay is grown by a scenario, with its world and phases,
+-- exactly if it is grown so when no log is kept
+abbrev pub LogChangesNothing : Type 0
+LogChangesNothing =
+    (logged : Bool) (o : GrowOptions) (text : List ℕ) (world : WorldState) (settled crashed healed : Phase)
+    → (GrowsFrom (begins logged o) o text world settled crashed healed → Grows o text world settled crashed healed)
+    × (Grows o text world settled crashed healed → GrowsFrom (begins logged o) o text world settled crashed healed)

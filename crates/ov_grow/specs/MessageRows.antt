@@ -4,6 +4,7 @@ use Rattle.ov_snap.specs.CoreState.{CoreState}
 use Rattle.ov_grow_options.specs.declared.options.GrowOptions.{GrowOptions}
 use Rattle.ov_grow.specs.Growing.{GrowsFrom, begins}
 use Rattle.ov_grow.specs.MessageCosts.{AreCosts}
+use Rattle.ov_grow.specs.Replay.{Replays}
 use Rattle.ov_grow.specs.declared.message_cost.MessageCost.{MessageCost}
 use Rattle.ov_grow.specs.declared.phase_moment_and_deliveries.Phase.{Phase as GrownPhase}
 use Rattle.ov_sweep_rows.specs.declared.message_row.MessageRow.{MessageRow}
@@ -31,8 +32,9 @@ abbrev pub message_rows : GrowOptions → Phase → ℕ → List MessageCost →
 message_rows o phase number [] = []
 message_rows o phase number (c ∷ more) = message_row o phase number c ∷ message_rows o phase (number + 1) more
 
--- the rows of all broadcasts of the overlay that is grown with the options o, in the order of the phases and of the
--- broadcasts, whose numbers count from 1 in each phase
+-- the rows of all broadcasts of the overlay that is grown with the options o: there is a text by which it is grown,
+-- which replays its core. They stand in the order of the phases and of the broadcasts, whose numbers count from 1 in
+-- each phase
 pub record AreMessagesOf (o : GrowOptions) (rows : List MessageRow) : Type 0 where
   pub text : List ℕ
   pub core : CoreState
@@ -40,6 +42,7 @@ pub record AreMessagesOf (o : GrowOptions) (rows : List MessageRow) : Type 0 whe
   pub crashed : GrownPhase
   pub healed : GrownPhase
   pub grows : GrowsFrom (begins true o) o text core.world settled crashed healed
+  pub replays : Replays text core
   pub settle_costs : List MessageCost
   pub crash_costs : List MessageCost
   pub heal_costs : List MessageCost
@@ -48,3 +51,8 @@ pub record AreMessagesOf (o : GrowOptions) (rows : List MessageRow) : Type 0 whe
   pub heal : AreCosts grows.u heal_costs
   pub whole : rows
       ≡ message_rows o Settle 1 settle_costs ++ (message_rows o Crash 1 crash_costs ++ message_rows o Heal 1 heal_costs)
+
+-- the options decide the rows of broadcasts: those of the same options are the same
+abbrev pub OneMessages : Type 0
+OneMessages =
+    (o : GrowOptions) (rows other : List MessageRow) → AreMessagesOf o rows → AreMessagesOf o other → rows ≡ other

@@ -109,6 +109,6 @@ pub record IsRowOf (m : Measures) (o : GrowOptions) (row : Row) : Type 0 where
   pub crash : (p : PhaseRow) × SaysOf row Crash p × IsToldOf m grows.v core crashed o.broadcasts p
   pub heal : (p : PhaseRow) × SaysOf row Heal p × IsToldOf m grows.u core healed o.broadcasts p
 
--- the options decide the row, whatever is measured: two rows of the same options are the same
+-- for given measures the options decide the row: two rows of the same measures and options are the same
 abbrev pub OneRow : Type 0
 OneRow = (m : Measures) (o : GrowOptions) (row other : Row) → IsRowOf m o row → IsRowOf m o other → row ≡ other

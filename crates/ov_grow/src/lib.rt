@@ -39,7 +39,7 @@ mod sweeping;
 pub use core_recorded_as_script::{Recorded, Recording};
 pub use fault::GrowFault;
 pub use message_row_making::message_rows_of;
-pub use options_determine_growth::{one_growth, one_row};
+pub use options_determine_growth::{log_changes_nothing, one_growth, one_messages, one_row};
 pub use overlay_batch_growing::{GrownBatch, RefusedRun, grow_batch};
 pub use overlay_growing::{Grown, grow};
 pub use phase_moment_and_deliveries::Phase;

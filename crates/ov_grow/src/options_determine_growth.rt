@@ -1,4 +1,5 @@
-ghost use Rattle.ov_grow.specs.Growing.{OneGrowth};
+ghost use Rattle.ov_grow.specs.Growing.{LogChangesNothing, OneGrowth};
+ghost use Rattle.ov_grow.specs.MessageRows.{OneMessages};
 ghost use Rattle.ov_grow.specs.Rows.{OneRow};
 
 /// The options alone decide what is grown: the text, the world and the phases.
@@ -6,7 +7,18 @@ pub fn one_growth()
     ensures { OneGrowth }
 {}
 
-/// The options alone decide the row.
+/// A log of broadcasts that is kept changes nothing else: the text, the world and the phases are those of growing that
+/// keeps none.
+pub fn log_changes_nothing()
+    ensures { LogChangesNothing }
+{}
+
+/// For given measures the options alone decide the row.
 pub fn one_row()
     ensures { OneRow }
+{}
+
+/// The options alone decide the rows of broadcasts.
+pub fn one_messages()
+    ensures { OneMessages }
 {}

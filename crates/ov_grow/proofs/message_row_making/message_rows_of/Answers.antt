@@ -26,6 +26,7 @@ returns-clause-rows c =
       crashed = logged.grown.crashed;
       healed = logged.grown.healed;
       grows = is.grows;
+      replays = c.in_ok-logged.ensures.replays;
       settle_costs = logged.settle_costs.items;
       crash_costs = logged.crash_costs.items;
       heal_costs = logged.heal_costs.items;

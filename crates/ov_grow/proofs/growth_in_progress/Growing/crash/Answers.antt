@@ -12,10 +12,9 @@ use Rattle.std.proofs.Common.{◌+◌, ◌≤◌, ap, arith, inr, subst, sym}
 use Rattle.ov_plum.specs.PlumState.{most_broadcasts}
 use Rattle.ov_grow_options.specs.Limits.{most_rounds}
 use Rattle.ov_grow.specs.Faults.{IsFull}
-use Rattle.ov_grow.specs.Growth.{SomebodyLives}
-use Rattle.ov_grow.proofs.Crashing.{crashes_made, spared_lives_on, to_crash_same}
-use Rattle.ov_grow.proofs.Keeping.{keeps_same, keeps_trans}
-use Rattle.ov_grow.proofs.Making.{ending_live, ending_made, have_more, lives_keeps, made_keeps}
+use Rattle.ov_grow.proofs.Crashing.{crashing_made, spared_lives_on}
+use Rattle.ov_grow.proofs.Keeping.{keeps_same}
+use Rattle.ov_grow.proofs.Making.{ended_live, ended_made, lives_keeps}
 use Rattle.ov_grow.proofs.growth_in_progress.Growing.crash.Goals as goal
 
 pub to_crash-requires-clause-answered : goal.to_crash-requires-clause-answered
@@ -84,17 +83,11 @@ end_phase-requires-clause-live c =
 
 pub end_phase-requires-clause-made : goal.end_phase-requires-clause-made
 end_phase-requires-clause-made c =
-    let s = growth_of c.args.self.now in
-    let t = growth_of c.comment.new.self in
-    let comment = keeps_same s t (ap (λ g. g.world) c.in_ok-comment.ensures.goes.way) in
-    let v = growth_of c.to_crash.new.self in
-    let w = growth_of c.crash_each.new.self in
-    let nodes = c.deref.result.now in
-    let before : HaveMade most_rounds v = made_keeps most_rounds s v
-    (keeps_trans s t v comment (keeps_same t v (to_crash_same c.args.options.now.crash c.args.settled t v
-    c.in_ok-nodes.nodes.items c.in_ok-nodes.ensures.goes.way))) c.requires.made in
-    let after : HaveMade most_rounds w =
-    crashes_made most_rounds nodes v w c.in_ok-crash_each.ensures.goes.way before in
+    let after : HaveMade most_rounds (growth_of c.crash_each.new.self) =
+    crashing_made most_rounds c.args.options.now.crash c.args.settled c.in_ok-nodes.nodes.items c.deref.result.now
+    (growth_of c.args.self.now) (growth_of c.comment.new.self) (growth_of c.to_crash.new.self)
+    (growth_of c.crash_each.new.self) (ap (λ g. g.world) c.in_ok-comment.ensures.goes.way)
+    c.in_ok-nodes.ensures.goes.way c.in_ok-crash_each.ensures.goes.way c.requires.made in
     let few : most_rounds + c.count.result ≤ most_broadcasts = omega (arith, c.count.ensures.limit) in
     (most_rounds, after, few)
 
@@ -109,33 +102,17 @@ returns-in_err-nodes-clause-full c =
     (inr (inr refl))
 
 pub returns-clause-live : goal.returns-clause-live
-returns-clause-live c = IfOk-weaker c.end_phase.result
-    (λ phase. Goes (λ s u. EndsPhase c.crashing-rules.result c.count.result s phase u) c.crash_each.new.self
-    c.end_phase.new.self)
-    (λ phase. SomebodyLives (growth_of c.end_phase.new.self))
-    (λ phase ends. ending_live c.crashing-rules.result c.count.result (growth_of c.crash_each.new.self)
-    (growth_of c.end_phase.new.self) phase ends.way)
+returns-clause-live c =
+    ended_live c.crashing-rules.result c.count.result c.crash_each.new.self c.end_phase.new.self c.end_phase.result
     c.end_phase.ensures.ends
 
 pub returns-clause-made : goal.returns-clause-made
 returns-clause-made c =
-    let s = growth_of c.args.self.now in
-    let t = growth_of c.comment.new.self in
-    let comment = keeps_same s t (ap (λ g. g.world) c.in_ok-comment.ensures.goes.way) in
-    let v = growth_of c.to_crash.new.self in
-    let w = growth_of c.crash_each.new.self in
-    let nodes = c.deref.result.now in
-    let before : HaveMade most_rounds v = made_keeps most_rounds s v
-    (keeps_trans s t v comment (keeps_same t v (to_crash_same c.args.options.now.crash c.args.settled t v
-    c.in_ok-nodes.nodes.items c.in_ok-nodes.ensures.goes.way))) c.requires.made in
-    let after : HaveMade most_rounds w =
-    crashes_made most_rounds nodes v w c.in_ok-crash_each.ensures.goes.way before in
-    let u = growth_of c.end_phase.new.self in
+    let after : HaveMade most_rounds (growth_of c.crash_each.new.self) =
+    crashing_made most_rounds c.args.options.now.crash c.args.settled c.in_ok-nodes.nodes.items c.deref.result.now
+    (growth_of c.args.self.now) (growth_of c.comment.new.self) (growth_of c.to_crash.new.self)
+    (growth_of c.crash_each.new.self) (ap (λ g. g.world) c.in_ok-comment.ensures.goes.way)
+    c.in_ok-nodes.ensures.goes.way c.in_ok-crash_each.ensures.goes.way c.requires.made in
     let few : most_rounds + c.count.result ≤ most_rounds + most_rounds = omega (arith, c.count.ensures.limit) in
-    IfOk-weaker c.end_phase.result
-    (λ phase. Goes (λ s u. EndsPhase c.crashing-rules.result c.count.result s phase u) c.crash_each.new.self
-    c.end_phase.new.self)
-    (λ phase. HaveMade (most_rounds + most_rounds) u)
-    (λ phase ends. have_more (most_rounds + c.count.result) (most_rounds + most_rounds) u few
-    ((ending_made c.crashing-rules.result c.count.result w u phase ends.way).made most_rounds after))
-    c.end_phase.ensures.ends
+    ended_made c.crashing-rules.result c.count.result most_rounds (most_rounds + most_rounds) c.crash_each.new.self
+    c.end_phase.new.self c.end_phase.result few after c.end_phase.ensures.ends

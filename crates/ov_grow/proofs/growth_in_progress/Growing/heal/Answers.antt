@@ -10,8 +10,7 @@ use Rattle.std.proofs.Common.{◌+◌, ◌≤◌, ap, arith, inr}
 use Rattle.ov_plum.specs.PlumState.{most_broadcasts}
 use Rattle.ov_grow_options.specs.Limits.{most_rounds}
 use Rattle.ov_grow.specs.Faults.{IsFull}
-use Rattle.ov_grow.proofs.Keeping.{keeps_same, keeps_trans}
-use Rattle.ov_grow.proofs.Making.{lives_keeps, made_keeps, rounds_keep, told_all_keep}
+use Rattle.ov_grow.proofs.Making.{heal_keeps, lives_keeps, made_keeps}
 use Rattle.ov_grow.proofs.growth_in_progress.Growing.heal.Goals as goal
 
 pub returns-in_err-comment-clause-refused : goal.returns-in_err-comment-clause-refused
@@ -57,25 +56,20 @@ returns-clause-refused c = IfErr-weaker _ _ _ (λ fault none. no_way_healed c.ar
 pub end_phase-requires-clause-live : goal.end_phase-requires-clause-live
 end_phase-requires-clause-live c =
     let s = growth_of c.args.self.now in
-    let t = growth_of c.comment.new.self in
-    let v = growth_of c.tell_crashes.new.self in
     let w = growth_of c.rounds.new.self in
-    let keeps = keeps_trans s t w (keeps_same s t (ap (λ g. g.world) c.in_ok-comment.ensures.goes.way))
-    (keeps_trans t v w (told_all_keep c.args.options.now.detect c.healing-rules.result t v
-    c.in_ok-tell_crashes.ensures.goes.way)
-    (rounds_keep c.healing-rules.result c.count.result v w c.in_ok-rounds.ensures.goes.way)) in
-    lives_keeps s w keeps c.requires.live
+    lives_keeps s w
+    (heal_keeps c.args.options.now.detect c.healing-rules.result c.count.result s (growth_of c.comment.new.self)
+    (growth_of c.tell_crashes.new.self) w (ap (λ g. g.world) c.in_ok-comment.ensures.goes.way)
+    c.in_ok-tell_crashes.ensures.goes.way c.in_ok-rounds.ensures.goes.way) c.requires.live
 
 pub end_phase-requires-clause-made : goal.end_phase-requires-clause-made
 end_phase-requires-clause-made c =
     let s = growth_of c.args.self.now in
-    let t = growth_of c.comment.new.self in
-    let v = growth_of c.tell_crashes.new.self in
     let w = growth_of c.rounds.new.self in
-    let keeps = keeps_trans s t w (keeps_same s t (ap (λ g. g.world) c.in_ok-comment.ensures.goes.way))
-    (keeps_trans t v w (told_all_keep c.args.options.now.detect c.healing-rules.result t v
-    c.in_ok-tell_crashes.ensures.goes.way)
-    (rounds_keep c.healing-rules.result c.count.result v w c.in_ok-rounds.ensures.goes.way)) in
+    let keeps =
+    heal_keeps c.args.options.now.detect c.healing-rules.result c.count.result s (growth_of c.comment.new.self)
+    (growth_of c.tell_crashes.new.self) w (ap (λ g. g.world) c.in_ok-comment.ensures.goes.way)
+    c.in_ok-tell_crashes.ensures.goes.way c.in_ok-rounds.ensures.goes.way in
     let few : most_rounds + most_rounds + c.count-2.result ≤ most_broadcasts =
     omega (arith, c.count-2.ensures.limit) in
     (most_rounds + most_rounds, made_keeps (most_rounds + most_rounds) s w keeps c.requires.made, few)

@@ -1,6 +1,6 @@
 use Rattle.std.proofs.lemmas.Result.{IfErr-weaker, IfOk-weaker}
 use Rattle.ov_grow.specs.Phases.{EndsPhase, Settle}
-use Rattle.ov_grow.specs.Code.Standing.{Goes, HaveMade, IsNoWay, growth_of}
+use Rattle.ov_grow.specs.Code.Standing.{Goes, IsNoWay, growth_of}
 use Rattle.ov_grow.specs.declared.phase_moment_and_deliveries.Phase.{Phase}
 use Rattle.ov_grow.proofs.Going.{passes_on}
 use Rattle.ov_grow.proofs.NoPhase.{no_way_settle, no_way_settled}
@@ -9,9 +9,7 @@ use Rattle.std.proofs.Common.{◌+◌, ◌≤◌, ap, arith, inl, inr}
 use Rattle.ov_plum.specs.PlumState.{most_broadcasts}
 use Rattle.ov_grow_options.specs.Limits.{most_rounds}
 use Rattle.ov_grow.specs.Faults.{IsFull}
-use Rattle.ov_grow.specs.Growth.{SomebodyLives}
-use Rattle.ov_grow.proofs.Keeping.{keeps_same, keeps_trans}
-use Rattle.ov_grow.proofs.Making.{ending_live, ending_made, have_more, lives_keeps, made_keeps, rounds_keep}
+use Rattle.ov_grow.proofs.Making.{ended_live, ended_made, lives_keeps, made_keeps, settle_keeps}
 use Rattle.ov_grow.proofs.growth_in_progress.Growing.settle.Goals as goal
 
 pub returns-in_err-comment-clause-refused : goal.returns-in_err-comment-clause-refused
@@ -47,19 +45,18 @@ returns-clause-refused c = IfErr-weaker _ _ _ (λ fault none. no_way_settled c.a
 pub end_phase-requires-clause-live : goal.end_phase-requires-clause-live
 end_phase-requires-clause-live c =
     let s = growth_of c.args.self.now in
-    let t = growth_of c.comment.new.self in
     let v = growth_of c.rounds.new.self in
-    let keeps = keeps_trans s t v (keeps_same s t (ap (λ g. g.world) c.in_ok-comment.ensures.goes.way))
-    (rounds_keep c.settling-rules.result c.count.result t v c.in_ok-rounds.ensures.goes.way) in
-    lives_keeps s v keeps c.requires.live
+    lives_keeps s v
+    (settle_keeps c.settling-rules.result c.count.result s (growth_of c.comment.new.self) v
+    (ap (λ g. g.world) c.in_ok-comment.ensures.goes.way) c.in_ok-rounds.ensures.goes.way) c.requires.live
 
 pub end_phase-requires-clause-made : goal.end_phase-requires-clause-made
 end_phase-requires-clause-made c =
     let s = growth_of c.args.self.now in
-    let t = growth_of c.comment.new.self in
     let v = growth_of c.rounds.new.self in
-    let keeps = keeps_trans s t v (keeps_same s t (ap (λ g. g.world) c.in_ok-comment.ensures.goes.way))
-    (rounds_keep c.settling-rules.result c.count.result t v c.in_ok-rounds.ensures.goes.way) in
+    let keeps =
+    settle_keeps c.settling-rules.result c.count.result s (growth_of c.comment.new.self) v
+    (ap (λ g. g.world) c.in_ok-comment.ensures.goes.way) c.in_ok-rounds.ensures.goes.way in
     let few : 0 + c.count-2.result ≤ most_broadcasts = omega (arith, c.count-2.ensures.limit) in
     (0, made_keeps 0 s v keeps c.requires.made, few)
 
@@ -69,28 +66,17 @@ returns-in_err-comment-clause-full c =
     (inr (inr c.in_err-comment.ensures.refused))
 
 pub returns-clause-live : goal.returns-clause-live
-returns-clause-live c = IfOk-weaker c.end_phase.result
-    (λ phase. Goes (λ s u. EndsPhase c.settling-rules.result c.count-2.result s phase u) c.rounds.new.self
-    c.end_phase.new.self)
-    (λ phase. SomebodyLives (growth_of c.end_phase.new.self))
-    (λ phase ends. ending_live c.settling-rules.result c.count-2.result (growth_of c.rounds.new.self)
-    (growth_of c.end_phase.new.self) phase ends.way)
+returns-clause-live c =
+    ended_live c.settling-rules.result c.count-2.result c.rounds.new.self c.end_phase.new.self c.end_phase.result
     c.end_phase.ensures.ends
 
 pub returns-clause-made : goal.returns-clause-made
 returns-clause-made c =
     let s = growth_of c.args.self.now in
-    let t = growth_of c.comment.new.self in
     let v = growth_of c.rounds.new.self in
-    let keeps = keeps_trans s t v (keeps_same s t (ap (λ g. g.world) c.in_ok-comment.ensures.goes.way))
-    (rounds_keep c.settling-rules.result c.count.result t v c.in_ok-rounds.ensures.goes.way) in
-    let u = growth_of c.end_phase.new.self in
+    let keeps =
+    settle_keeps c.settling-rules.result c.count.result s (growth_of c.comment.new.self) v
+    (ap (λ g. g.world) c.in_ok-comment.ensures.goes.way) c.in_ok-rounds.ensures.goes.way in
     let few : 0 + c.count-2.result ≤ most_rounds = omega (arith, c.count-2.ensures.limit) in
-    IfOk-weaker c.end_phase.result
-    (λ phase. Goes (λ s u. EndsPhase c.settling-rules.result c.count-2.result s phase u) c.rounds.new.self
-    c.end_phase.new.self)
-    (λ phase. HaveMade most_rounds u)
-    (λ phase ends. have_more (0 + c.count-2.result) most_rounds u few
-    ((ending_made c.settling-rules.result c.count-2.result v u phase ends.way).made 0
-    (made_keeps 0 s v keeps c.requires.made)))
-    c.end_phase.ensures.ends
+    ended_made c.settling-rules.result c.count-2.result 0 most_rounds c.rounds.new.self c.end_phase.new.self
+    c.end_phase.result few (made_keeps 0 s v keeps c.requires.made) c.end_phase.ensures.ends
