@@ -196,8 +196,3 @@ read_one (Some d) a b p n q m = file_one d a b p q
 pub text_one : (text : List ℕ) (a b : Result Filed FileFault) → SaysText text a → SaysText text b
     → kind_in a ≡ kind_in b
 text_one text a b p q = read_one (read text) a b p.json p.no_json q.json q.no_json
-
--- the meaning of the JSON value in a text is the only meaning of the text
-pub read_text_one : (text : List ℕ) (d : Data) (a b : Result Filed FileFault) → read text ≡ Some d → SaysFile d b
-    → SaysText text a → kind_in a ≡ kind_in b
-read_text_one text d a b e f h = text_one text a b h (record { json = rw e f; no_json = rw e tt })

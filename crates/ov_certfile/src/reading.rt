@@ -1,4 +1,5 @@
-ghost use Rattle.std.specs.Prelude.{◌≡◌, ◌≢◌, ℕ, [], ◌∷◌, codes, None, Some, Result, Err, IfOk, MatchResult};
+ghost use Rattle.std.specs.Prelude.{◌≡◌, ◌≢◌, ℕ, [], ◌∷◌, codes, None, Some, Result, Ok, Err, IfOk, IfErr};
+ghost use Rattle.std.specs.Prelude.{MatchOption, MatchResult};
 ghost use Rattle.serde_json.specs.View.{view};
 ghost use Rattle.serde_json.specs.Read.{read};
 ghost use Rattle.ov_graph.specs.Links.{LinkGraph};
@@ -62,27 +63,56 @@ pub fn from_text(alloc: Global, text: &str) -> Result<Filed, FileFault>
     ensures only { (answer : Result Filed FileFault) → result ≢ Err FileFault.OutOfMemory
         → SaysText text.now answer → kind_in answer ≡ kind_in result }
 {
-    match in_form(alloc, text) {
-        Ok(Some(filed)) => Ok(filed),
-        Ok(None) => from_json(alloc, text),
-        Err(_) => Err(FileFault::OutOfMemory),
+    match filed_or_refusal(alloc, text) {
+        Ok(filed) => Ok(filed),
+        Err(refusal) => Err(refusal.fault),
     }
 }
 
-/// Does what `from_text` does, by the JSON value of the text.
-fn from_json(alloc: Global, text: &str) -> Result<Filed, FileFault>
-    ensures says { result ≢ Err FileFault.OutOfMemory → SaysText text.now result }
-    ensures only { (answer : Result Filed FileFault) → result ≢ Err FileFault.OutOfMemory
-        → SaysText text.now answer → kind_in answer ≡ kind_in result }
+/// Why a text is no certificate file.
+#[derive(Drop)]
+pub struct Refusal {
+    /// The first fault.
+    pub fault: FileFault,
+    /// The JSON value in the text, if there is one.
+    pub value: Option<Value>,
+}
+
+/// Does what `from_text` does, and keeps the JSON value of a text that is refused. A text without a fault that is
+/// written as `to_text` writes it is read token by token, any other by its JSON value.
+pub fn filed_or_refusal(alloc: Global, text: &str) -> Result<Filed, Refusal>
+    ensures filed { IfOk result (λ filed. SaysText text.now (Ok filed)) }
+    ensures fault { IfErr result (λ refusal. refusal.fault ≢ FileFault.OutOfMemory
+        → SaysText text.now (Err refusal.fault)) }
+    ensures value { IfErr result (λ refusal. refusal.fault ≢ FileFault.OutOfMemory
+        → MatchOption refusal.value (read text.now ≡ None) (λ value. read text.now ≡ Some (view value))) }
+{
+    match in_form(alloc, text) {
+        Ok(Some(filed)) => Ok(filed),
+        Ok(None) => by_json(alloc, text),
+        Err(_) => Err(Refusal {
+            fault: FileFault::OutOfMemory,
+            value: None,
+        }),
+    }
+}
+
+/// Does what `filed_or_refusal` does, by the JSON value of the text.
+fn by_json(alloc: Global, text: &str) -> Result<Filed, Refusal>
+    ensures filed { IfOk result (λ filed. SaysText text.now (Ok filed)) }
+    ensures fault { IfErr result (λ refusal. refusal.fault ≢ FileFault.OutOfMemory
+        → SaysText text.now (Err refusal.fault)) }
+    ensures value { IfErr result (λ refusal. refusal.fault ≢ FileFault.OutOfMemory
+        → MatchOption refusal.value (read text.now ≡ None) (λ value. read text.now ≡ Some (view value))) }
 {
     match json_in(alloc, text) {
-        Ok(value) => from_value(alloc, &value),
-        Err(fault) => Err(fault),
+        Ok(value) => by_value(alloc, value),
+        Err(fault) => Err(Refusal { fault, value: None }),
     }
 }
 
 /// The JSON value in a text. NotJson (60): there is none. OutOfMemory (99): an allocation was refused.
-pub fn json_in(alloc: Global, text: &str) -> Result<Value, FileFault>
+fn json_in(alloc: Global, text: &str) -> Result<Value, FileFault>
     ensures { MatchResult result (λ value. read text.now ≡ Some (view value))
         (λ fault. fault ≢ FileFault.OutOfMemory → (read text.now ≡ None) × (kind_of fault ≡ NotJson)) }
 {
@@ -93,8 +123,24 @@ pub fn json_in(alloc: Global, text: &str) -> Result<Value, FileFault>
     }
 }
 
+/// Reads a file from its JSON value, which is kept if it is refused.
+fn by_value(alloc: Global, value: Value) -> Result<Filed, Refusal>
+    ensures filed { IfOk result (λ filed. SaysFile (view value) (Ok filed)) }
+    ensures fault { IfErr result (λ refusal. refusal.fault ≢ FileFault.OutOfMemory
+        → SaysFile (view value) (Err refusal.fault)) }
+    ensures value { IfErr result (λ refusal. refusal.value ≡ Some value) }
+{
+    match from_value(alloc, &value) {
+        Ok(filed) => Ok(filed),
+        Err(fault) => Err(Refusal {
+            fault,
+            value: Some(value),
+        }),
+    }
+}
+
 /// Reads a certificate file from its JSON value. The faults are those of `from_text`, except NotJson.
-pub fn from_value(alloc: Global, value: &Value) -> Result<Filed, FileFault>
+fn from_value(alloc: Global, value: &Value) -> Result<Filed, FileFault>
     ensures { result ≢ Err FileFault.OutOfMemory → SaysFile (view value.now) result }
 {
     let (version, verdict) = heading_of(value)?;

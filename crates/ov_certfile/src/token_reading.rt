@@ -1,5 +1,5 @@
 //! Certificate files that are read token by token, without the JSON value of the whole text. This takes less time and
-//! memory than `from_value`, and makes nothing of a file with any fault.
+//! memory, and makes nothing of a file with any fault.
 ghost use Rattle.std.specs.Prelude.{◌≡◌, ◌≤◌, ◌++◌, Some, Ok, IfOk, IfSome, OnOk};
 ghost use Rattle.json.specs.Tree.{members_tokens};
 ghost use Rattle.serde_json.specs.Data.{Members, string, no_members, member};
@@ -25,8 +25,8 @@ use ov_ids::{NodeId, OutOfMemory, Seq};
 use std::alloc::Global;
 
 /// Reads a certificate file that is written as `to_text` writes it, with its keys in the order of their bytes, but for
-/// white space. None: the text is not such a file, or has a fault; `from_text` tells which. It is much faster than
-/// `from_value`, and takes a fraction of the memory.
+/// white space. None: the text is not such a file, or has a fault; `from_text` tells which. It is much faster than to
+/// read the JSON value of the text, and takes a fraction of the memory.
 ///
 /// `OutOfMemory` (99): an allocation was refused.
 pub fn in_form(alloc: Global, text: &str) -> Result<Option<Filed>, OutOfMemory>

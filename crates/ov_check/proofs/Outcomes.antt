@@ -10,6 +10,7 @@ use Rattle.ov_cert.specs.declared.fault.CheckFault.{CheckFault}
 use Rattle.ov_cert.specs.Verdict.{JudgedForGroup}
 use Rattle.ov_cert.proofs.Validity.Exact.{one_verdict}
 use Rattle.ov_certfile.specs.declared.reading.Filed.{Filed}
+use Rattle.ov_certfile.specs.declared.reading.Refusal.{Refusal}
 use Rattle.ov_certfile.specs.declared.fault.FileFault.{FileFault}
 use Rattle.ov_certfile.specs.declared.fault.FileFault.TheVariants.{OutOfMemory}
 use Rattle.ov_certfile.specs.FaultKinds.{Kind, NotJson, kind_of, kind_in}
@@ -18,7 +19,6 @@ use Rattle.ov_certfile.specs.Says as file
 use Rattle.ov_certfile.specs.Says.{SaysFile, SaysText}
 use Rattle.ov_certfile.proofs.OneAnswer.{text_one}
 use Rattle.ov_check.specs.Outcome.{BytesSay, IsRefused, IsOutcome, AreAlike}
-use Rattle.ov_check.specs.declared.outcome_of_file_bytes.Refusal.{Refusal}
 use Rattle.ov_check.specs.declared.outcome_of_file_bytes.Outcome.{Outcome}
 use Rattle.ov_check.specs.declared.outcome_of_file_bytes.Outcome.TheVariants.{Holds, Fails, Refused}
 

@@ -6,11 +6,11 @@ use Rattle.ov_graph.specs.Joined.{FewestForGroup}
 use Rattle.ov_cert.specs.Valid.{IsValidForGroup, k_of}
 use Rattle.ov_cert.specs.Verdict.{JudgedForGroup}
 use Rattle.ov_certfile.specs.declared.reading.Filed.{Filed}
+use Rattle.ov_certfile.specs.declared.reading.Refusal.{Refusal}
 use Rattle.ov_certfile.specs.declared.fault.FileFault.{FileFault}
 use Rattle.ov_certfile.specs.FaultKinds.{NotJson, kind_of, kind_in}
 use Rattle.ov_certfile.specs.Says.{SaysText}
 use Rattle.ov_check.specs.declared.outcome_of_file_bytes.Outcome.{Outcome}
-use Rattle.ov_check.specs.declared.outcome_of_file_bytes.Refusal.{Refusal}
 use Rattle.ov_check.specs.declared.outcome_of_file_bytes.Outcome.TheVariants.{Holds, Fails, Refused}
 
 -- what the bytes say as a certificate file, or their first fault; bytes that are not text are not JSON

@@ -1,16 +1,12 @@
-ghost use Rattle.std.specs.Prelude.{◌≡◌, ◌≢◌, List, ℕ, Some, None, Ok, Err, IfOk, MatchOption, MatchResult};
-ghost use Rattle.serde_json.specs.Read.{read};
-ghost use Rattle.serde_json.specs.View.{view};
-ghost use Rattle.ov_certfile.specs.Says.{SaysFile, SaysText};
+ghost use Rattle.std.specs.Prelude.{◌≡◌, ◌≢◌, List, ℕ, Ok, IfOk, MatchResult};
 ghost use Rattle.ov_check.specs.declared.outcome_of_file_bytes.Outcome.TheVariants.{Refused};
 ghost use Rattle.ov_check.specs.Outcome.{BytesSay, IsRefused, IsOutcome, AreAlike, SaysExactNumber, status_of};
 
 use crate::check_or_memory_fault::ParallelFault;
 use crate::parallel::check_group_parallel;
 use ov_cert::{CheckFault, check_group};
-use ov_certfile::{FileFault, Filed, NoJson, from_value, in_form, json_in};
+use ov_certfile::{FileFault, Filed, NoJson, Refusal, filed_or_refusal};
 use ov_ids::OutOfMemory;
-use serde_json::Value;
 use std::alloc::Global;
 use std::thread::Threads;
 
@@ -25,26 +21,6 @@ pub enum Outcome {
     Refused(Refusal),
 }
 
-/// The first fault of bytes that are not a certificate file.
-#[derive(Drop)]
-pub struct Refusal {
-    pub fault: FileFault,
-    /// The JSON value in the bytes, if there is one.
-    pub value: Option<Value>,
-}
-
-impl Refusal {
-    /// The outcome of the bytes. OutOfMemory (99): that is the fault, and nothing is said of the bytes.
-    fn into_outcome(self) -> Result<Outcome, OutOfMemory>
-        ensures { IfOk result (λ o. (o ≡ Refused self) × (self.fault ≢ FileFault.OutOfMemory)) }
-    {
-        match self.fault {
-            FileFault::OutOfMemory => Err(OutOfMemory),
-            _ => Ok(Outcome::Refused(self)),
-        }
-    }
-}
-
 /// The outcome of the bytes of a file. If the certificate holds, its number is exact for its group. Bytes that are not
 /// text are refused as `NotJson` (60).
 ///
@@ -57,7 +33,7 @@ pub fn outcome_of(alloc: Global, bytes: &[u8]) -> Result<Outcome, OutOfMemory>
 {
     match filed_in(alloc, bytes) {
         Ok(filed) => Ok(judge_file(filed)),
-        Err(refusal) => refusal.into_outcome(),
+        Err(refusal) => of_refusal(refusal),
     }
 }
 
@@ -72,7 +48,7 @@ pub(crate) fn outcome_parallel(
 {
     match filed_in(rt.alloc(), bytes) {
         Ok(filed) => judge_file_parallel(rt, filed),
-        Err(refusal) => refusal.into_outcome(),
+        Err(refusal) => of_refusal(refusal),
     }
 }
 
@@ -83,7 +59,7 @@ pub fn filed_in(alloc: Global, bytes: &[u8]) -> Result<Filed, Refusal>
         (λ refusal. refusal.fault ≢ FileFault.OutOfMemory → IsRefused bytes.now refusal) }
 {
     match str::from_utf8(bytes) {
-        Ok(text) => filed_in_text(alloc, text),
+        Ok(text) => filed_or_refusal(alloc, text),
         Err(error) => {
             let no_json = NoJson::no_text(error.valid_up_to());
             let fault = FileFault::NotJson(no_json);
@@ -92,46 +68,13 @@ pub fn filed_in(alloc: Global, bytes: &[u8]) -> Result<Filed, Refusal>
     }
 }
 
-/// The certificate file in this text.
-fn filed_in_text(alloc: Global, text: &str) -> Result<Filed, Refusal>
-    ensures { MatchResult result (λ filed. SaysText text.now (Ok filed))
-        (λ refusal. refusal.fault ≢ FileFault.OutOfMemory → SaysText text.now (Err refusal.fault)
-        × MatchOption refusal.value (read text.now ≡ None) (λ value. read text.now ≡ Some (view value))) }
+/// The outcome of bytes that are refused so. OutOfMemory (99): that is the fault, and nothing is said of the bytes.
+fn of_refusal(refusal: Refusal) -> Result<Outcome, OutOfMemory>
+    ensures { IfOk result (λ o. (o ≡ Refused refusal) × (refusal.fault ≢ FileFault.OutOfMemory)) }
 {
-    match in_form(alloc, text) {
-        Ok(Some(filed)) => Ok(filed),
-        Ok(None) => filed_by_json(alloc, text),
-        Err(_) => Err(Refusal {
-            fault: FileFault::OutOfMemory,
-            value: None,
-        }),
-    }
-}
-
-/// The certificate file in this text, by the JSON value in it, which is kept if the file is refused.
-fn filed_by_json(alloc: Global, text: &str) -> Result<Filed, Refusal>
-    ensures { MatchResult result (λ filed. SaysText text.now (Ok filed))
-        (λ refusal. refusal.fault ≢ FileFault.OutOfMemory → SaysText text.now (Err refusal.fault)
-        × MatchOption refusal.value (read text.now ≡ None) (λ value. read text.now ≡ Some (view value))) }
-{
-    match json_in(alloc, text) {
-        Ok(value) => filed_in_value(alloc, value),
-        Err(fault) => Err(Refusal { fault, value: None }),
-    }
-}
-
-/// The certificate file in this JSON value.
-fn filed_in_value(alloc: Global, value: Value) -> Result<Filed, Refusal>
-    ensures { MatchResult result (λ filed. SaysFile (view value) (Ok filed))
-        (λ refusal. refusal.fault ≢ FileFault.OutOfMemory → SaysFile (view value) (Err refusal.fault)
-        × (refusal.value ≡ Some value)) }
-{
-    match from_value(alloc, &value) {
-        Ok(filed) => Ok(filed),
-        Err(fault) => Err(Refusal {
-            fault,
-            value: Some(value),
-        }),
+    match refusal.fault {
+        FileFault::OutOfMemory => Err(OutOfMemory),
+        _ => Ok(Outcome::Refused(refusal)),
     }
 }
 

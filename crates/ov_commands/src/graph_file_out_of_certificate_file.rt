@@ -8,8 +8,8 @@ ghost use Rattle.ov_commands.specs.declared.conversion_fault.FileCommandFault.Th
 ghost use Rattle.ov_commands.specs.declared.conversion_fault.FileCommandFault.TheVariants.{Refused};
 
 use crate::conversion_fault::FileCommandFault;
-use ov_certfile::FileFault;
-use ov_check::{Outcome, Refusal, filed_in};
+use ov_certfile::{FileFault, Refusal};
+use ov_check::{Outcome, filed_in};
 use ov_check_reasons::reasons;
 use ov_graphfile::graph_text;
 use ov_io::Sink;

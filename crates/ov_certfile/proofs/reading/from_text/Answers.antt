@@ -1,10 +1,12 @@
 -- A text has one meaning only.
-use Rattle.std.proofs.Common.{Ok, rules}
-use Rattle.ov_certfile.specs.Says.{SaysText}
+use Rattle.std.proofs.Common.{Ok, Err}
 use Rattle.ov_certfile.proofs.OneAnswer.{text_one}
 use Rattle.ov_certfile.proofs.reading.from_text.Goals as goal
 
-pub returns-in-Ok-Some-clause-only : goal.returns-in-Ok-Some-clause-only
-returns-in-Ok-Some-clause-only c = λ answer told h.
-    let says : SaysText c.args.text.now (Ok c.in-Ok-Some.filed) = search rules in
-    text_one c.args.text.now answer (Ok c.in-Ok-Some.filed) h says
+pub returns-in-Ok-clause-only : goal.returns-in-Ok-clause-only
+returns-in-Ok-clause-only c = λ answer told h.
+    text_one c.args.text.now answer (Ok c.in-Ok.filed) h c.in-Ok.ensures.filed
+
+pub returns-in-Err-clause-only : goal.returns-in-Err-clause-only
+returns-in-Err-clause-only c = λ answer told h.
+    text_one c.args.text.now answer (Err c.in-Err.refusal.fault) h (c.in-Err.ensures.fault (λ e. told (cc)))
