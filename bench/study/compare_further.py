@@ -85,7 +85,7 @@ def by_overlay(overlay, growing, words, scenario):
         "sweep --runs 1": swept_rows(growing),
         "sweep --runs 1 --costs --shape": "\n".join([further_header(), further_row(*told), ""]),
     }
-    if growing.options.sequential:
+    if growing.options.sequential and growing.options.broadcasts:
         asked["sweep --runs 1 --messages"] = "\n".join([*message_rows(*told), ""])
     for command, text in asked.items():
         yield f"overlay {command}", first_difference(text, run(overlay, [*command.split(), *words])[1])

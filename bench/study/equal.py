@@ -33,7 +33,7 @@ def asked_for(given, options):
         yield ["sweep", "--runs", "1"], ["--csv"]
     if given.costs:
         yield ["sweep", "--runs", "1", "--costs"], ["--csv", "--costs"]
-    if given.costs and options.sequential:
+    if given.costs and options.sequential and options.broadcasts:
         yield ["sweep", "--runs", "1", "--messages"], ["--messages"]
 
 
