@@ -2,6 +2,7 @@
 use crate::GrowArgumentsFault;
 use crate::argument_tips::HELP_BELOW;
 use crate::arguments::has_flag;
+use crate::option_values::values;
 use clap::ArgMatches;
 use clap::parser::ValueSource;
 use std::alloc::{AllocError, Global};
@@ -10,6 +11,11 @@ use std::alloc::{AllocError, Global};
 const ALONE: &str =
     "error: '--messages' needs '--sequential': PRUNE does not say for which broadcast it is sent, so \
                      what a broadcast cost is known if it is made alone";
+
+/// Why it needs `--broadcasts`.
+const SOME: &str =
+    "error: '--messages' needs '--broadcasts B' with B from 1 to 1000: it prints a row for each broadcast, and \
+                    without that there is none";
 
 /// Why it excludes what measures runs.
 const OF_PHASES: &str =
@@ -34,7 +40,7 @@ const EXCLUDED: [(&str, &str); 6] = [
     ("read", OF_ROWS),
 ];
 
-/// Refuses `--messages` without `--sequential`, and beside an option that it excludes.
+/// Refuses `--messages` beside an option that it excludes, without `--sequential`, and if no setting has a broadcast.
 pub(crate) fn judge_messages(
     alloc: Global,
     found: &ArgMatches<'_>,
@@ -48,7 +54,13 @@ pub(crate) fn judge_messages(
         }
     }
     if !has_flag(found, "sequential") {
-        return Err(needs_one_by_one(alloc)?);
+        return Err(needs(alloc, ALONE)?);
+    }
+    if !values(alloc, found, "broadcasts")?
+        .iter()
+        .any(|count| *count > 0)
+    {
+        return Err(needs(alloc, SOME)?);
     }
     Ok(())
 }
@@ -67,9 +79,9 @@ fn excluded(alloc: Global, name: &str, reason: &str) -> Result<GrowArgumentsFaul
     })
 }
 
-/// Why it does not stand without `--sequential`.
-fn needs_one_by_one(alloc: Global) -> Result<GrowArgumentsFault, AllocError> {
+/// Why it does not stand without what it needs.
+fn needs(alloc: Global, reason: &str) -> Result<GrowArgumentsFault, AllocError> {
     Ok(GrowArgumentsFault::BadArguments {
-        reason: format!(in alloc; "{ALONE}{HELP_BELOW}")?,
+        reason: format!(in alloc; "{reason}{HELP_BELOW}")?,
     })
 }

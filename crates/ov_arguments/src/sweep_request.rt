@@ -128,9 +128,9 @@ impl SweepRequest {
 ///
 /// BadArguments (73): a word is no option or not what its option takes, an option is given twice, two options exclude
 /// each other (--list and --summary, --at-most-split, --svg or --messages, --read and what grows, --costs, --shape or
-/// --progress, --messages and what is told of runs), --messages stands without --sequential, a value stands in its list
-/// twice, some --prwl is above some --arwl, some --sender is above some --nodes, there are more than 1,000,000 runs, or
-/// help is asked for. OutOfMemory (99): an allocation was refused.
+/// --progress, --messages and what is told of runs), --messages stands without --sequential or without broadcasts, a
+/// value stands in its list twice, some --prwl is above some --arwl, some --sender is above some --nodes, there are more
+/// than 1,000,000 runs, or help is asked for. OutOfMemory (99): an allocation was refused.
 pub fn read_sweep_arguments(
     alloc: Global,
     words: &[String],

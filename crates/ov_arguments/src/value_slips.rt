@@ -16,11 +16,18 @@ pub(crate) fn slip_tip(alloc: Global, name: &str, text: &str) -> Result<String, 
             "tip: a range is written `{low}{RANGE}{high}`, with both ends in it\n"
         );
     }
-    match percent_meant(text) {
-        Some(percent) if is_of_hundred(name) => {
-            format!(in alloc; "tip: it counts in 100: `--{name} {percent}`\n")
-        }
-        _ => Ok(String::new(alloc)),
+    if !is_of_hundred(name) {
+        return Ok(String::new(alloc));
+    }
+    if let Some(percent) = whole_percent(text) {
+        return format!(in alloc; "tip: it counts in 100: `--{name} {percent}`\n");
+    }
+    match share_of_hundred(text) {
+        Some(percent) => format!(in alloc;
+            "tip: it takes whole numbers of 100: `--{name} {percent}` if a share of {text} is meant; {text} % can't be \
+             asked for\n"
+        ),
+        None => Ok(String::new(alloc)),
     }
 }
 
@@ -46,11 +53,13 @@ fn range_meant(text: &str) -> Option<(u64, u64)> {
     None
 }
 
-/// How many of 100 a text may mean: a number with `%` behind it, or a fraction, as 0.03 or .5.
-fn percent_meant(text: &str) -> Option<u64> {
-    if let Some(number) = text.strip_suffix("%") {
-        return number.parse::<u64>().ok();
-    }
+/// How many of 100 a text may mean that is a number with `%` behind it.
+fn whole_percent(text: &str) -> Option<u64> {
+    text.strip_suffix("%")?.parse::<u64>().ok()
+}
+
+/// How many of 100 a fraction may mean, as 0.03 or .5, if it is a share of all.
+fn share_of_hundred(text: &str) -> Option<u64> {
     let (whole, digits) = text.split_once(".")?;
     if !matches!(whole, "" | "0") {
         return None;

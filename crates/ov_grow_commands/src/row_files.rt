@@ -6,20 +6,29 @@ use ov_sweep_rows::{Row, RowFault, read_rows};
 use std::fs::File;
 use std::io::{IsTerminal, Read};
 
-/// The rows of files, one file after the other. Prints why, if a file can't be read or has a line that is no row.
+/// The rows of files, one file after the other. Prints why, if a file can't be read or has a line that is no row, or if
+/// memory runs out.
 pub(crate) fn rows_of_files(rt: &HostRuntime, files: &[String]) -> Result<Vec<Row>, GrowthFault> {
     let mut rows = Vec::new(rt.alloc());
     for file in files {
-        let bytes = bytes_of_file(rt, file.as_str())?;
-        match read_rows(rt.alloc(), &bytes) {
-            Ok(more) => rows.extend_from_slice(&more)?,
-            Err(fault) => return Err(no_rows(rt, file.as_str(), fault)),
+        let more = rows_of_file(rt, file.as_str())?;
+        if rows.extend_from_slice(&more).is_err() {
+            return Err(told(rt, GrowthFault::OutOfMemory));
         }
     }
     Ok(rows)
 }
 
-/// The options of a row that is named as FILE:N. Prints why, if there is no such row.
+/// The rows of a file. Prints why, if it can't be read or has a line that is no row, or if memory runs out.
+fn rows_of_file(rt: &HostRuntime, file: &str) -> Result<Vec<Row>, GrowthFault> {
+    let bytes = bytes_of_file(rt, file)?;
+    match read_rows(rt.alloc(), &bytes) {
+        Ok(rows) => Ok(rows),
+        Err(fault) => Err(no_rows(rt, file, fault)),
+    }
+}
+
+/// The options of a row that is named as FILE:N. Prints why, if there is no such row, or if memory runs out.
 pub(crate) fn options_of_row(rt: &HostRuntime, row: &str) -> Result<GrowOptions, GrowthFault> {
     let Some((file, number)) = row.rsplit_once(":") else {
         return Err(no_row(rt, row, "a row is named FILE:N, as rows.csv:12"));
@@ -27,9 +36,7 @@ pub(crate) fn options_of_row(rt: &HostRuntime, row: &str) -> Result<GrowOptions,
     let Ok(number) = number.parse::<usize>() else {
         return Err(no_row(rt, row, "a row is named FILE:N, as rows.csv:12"));
     };
-    let mut files = Vec::new(rt.alloc());
-    files.push(String::from_str(rt.alloc(), file)?)?;
-    let rows = rows_of_files(rt, &files)?;
+    let rows = rows_of_file(rt, file)?;
     match rows.get(number.wrapping_sub(1)) {
         Some(found) if has_its_sender(&found.options) => Ok(found.options),
         Some(_) => Err(no_row(rt, row, "its sender is none of its nodes")),

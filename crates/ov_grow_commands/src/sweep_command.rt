@@ -8,7 +8,7 @@ use crate::picture_file::opened_picture;
 use crate::row_files::rows_of_files;
 use crate::row_printing::{RowPrinter, measures_asked, write_rows};
 use crate::sweep_report::{print_report, tell_repeated, tell_too_few};
-use ov_arguments::{Printed, SweepRequest};
+use ov_arguments::{Printed, SweepBlock, SweepRequest};
 use ov_grow::{RefusedRun, SweepFault, sweep};
 use ov_io::Sink;
 use ov_sweep_rows::{Row, RowForm, header_text};
@@ -28,17 +28,21 @@ pub(crate) fn sweep_asked<T: Threads + Sync>(
     }
 }
 
-/// Prints the commands of all blocks of runs.
+/// Prints the commands of all blocks of runs. Prints why it ended before its end.
 fn print_list(rt: &HostRuntime, request: &SweepRequest, most: u32) -> Result<(), GrowthFault> {
     for block in request.blocks(most) {
-        let mut line = block.command(rt.alloc())?;
-        line.push('\n')?;
-        let written = Sink::new(rt.stdout()).write_all(line.as_bytes());
-        if written.is_err() {
-            return Err(told(rt, GrowthFault::Write));
+        if let Err(fault) = print_block(rt, &block) {
+            return Err(told(rt, fault));
         }
     }
     Ok(())
+}
+
+/// Prints the command of a block of runs.
+fn print_block(rt: &HostRuntime, block: &SweepBlock) -> Result<(), GrowthFault> {
+    let mut line = block.command(rt.alloc())?;
+    line.push('\n')?;
+    Ok(Sink::new(rt.stdout()).write_all(line.as_bytes())?)
 }
 
 /// Prints the rows of a sweep, or what is told of them, and writes the picture if one is asked for, whose file is

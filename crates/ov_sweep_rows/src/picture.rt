@@ -14,9 +14,9 @@ const TITLE: &str = "How few crashes split the overlay, run by run";
 
 /// The picture of a sweep, as SVG: a column for each setting, and in it a dot for each run at its k, after settling,
 /// after the crash and after healing beside one another, each with the share of runs that are split above it, with its
-/// interval as a bar. It is
-/// 1,200 pixels wide, has no scripts and no fonts of its own, and is light, or dark where the reader prefers it.
-/// OutOfMemory (99) if an allocation is refused.
+/// interval as a bar. If rows have costs, strips below show what broadcasts came to: the means of the summary, each with
+/// a bar from the least run to the most. It is 1,200 pixels wide, has no scripts and no fonts of its own, and is light,
+/// or dark where the reader prefers it. OutOfMemory (99) if an allocation is refused.
 pub fn svg_text(alloc: Global, settings: &[Setting<'_>]) -> Result<String, OutOfMemory> {
     let differing = differing(alloc, settings)?;
     let layout = layout_of(alloc, settings, differing.len())?;

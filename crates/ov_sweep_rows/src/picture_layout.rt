@@ -1,4 +1,5 @@
 use crate::phase_summary::ascending_ks;
+use crate::plot_means::{MEASURES, axis_ends};
 use crate::runs_by_setting::number;
 use crate::split_answer::runs_of;
 use crate::{Phase, Setting};
@@ -16,18 +17,22 @@ const RIGHT: f64 = 20.0;
 /// How high the heading is.
 pub(crate) const HEADING: f64 = 108.0;
 
-/// How much of a panel is above its shares, how high these are, and how much stands between them and what it plots.
+/// How much of a strip, such as that of the shares at the top of a panel, is above what it plots, how high that is, and
+/// how much stands between it and what follows.
 pub(crate) const TOP: f64 = 26.0;
 
 pub(crate) const SHARES: f64 = 60.0;
 
 const GAP: f64 = 14.0;
 
-/// How much of a panel is above what it plots.
-pub(crate) const ABOVE: f64 = TOP + SHARES + GAP;
+/// How high a strip is.
+pub(crate) const STRIP: f64 = TOP + SHARES + GAP;
 
-/// How high the plotted part of a panel is.
+/// How high the room of k is.
 pub(crate) const PLOT: f64 = 300.0;
+
+/// How much is between the room of k and the strips below it.
+pub(crate) const CAPTION: f64 = 32.0;
 
 /// How much of a panel is below what it plots, besides a line for each option in which settings differ.
 const BELOW: f64 = 58.0;
@@ -57,7 +62,7 @@ const STEPS: u32 = 99;
 const ROUND_SHARES: [f64; 5] = [2.0, 5.0, 10.0, 20.0, 50.0];
 
 /// Where everything stands.
-#[derive(Clone, Copy, Debug, PartialEq)]
+#[derive(Clone, Copy)]
 pub(crate) struct Layout {
     /// How many settings a panel shows.
     pub(crate) columns: usize,
@@ -71,6 +76,8 @@ pub(crate) struct Layout {
     pub(crate) step: f64,
     /// How many lines of labels there are.
     pub(crate) labels: usize,
+    /// Where the axes of the strips of broadcasts end, if they are drawn.
+    pub(crate) ends: Option<[f64; MEASURES]>,
 }
 
 impl Layout {
@@ -79,9 +86,17 @@ impl Layout {
         PLOT / (f64::from(self.most_k) + 1.0)
     }
 
+    /// How high all strips of broadcasts are.
+    pub(crate) fn strips(&self) -> f64 {
+        match self.ends {
+            Some(_) => CAPTION + number(MEASURES) * STRIP,
+            None => 0.0,
+        }
+    }
+
     /// How high a panel is.
     pub(crate) fn panel(&self) -> f64 {
-        ABOVE + PLOT + BELOW + number(self.labels) * LABEL
+        STRIP + PLOT + self.strips() + BELOW + number(self.labels) * LABEL
     }
 
     /// How many dots stand beside one another in the room of one phase.
@@ -108,6 +123,7 @@ pub(crate) fn layout_of(
         most_share: most_share(settings),
         step: step_for(most_dots, column, height),
         labels,
+        ends: axis_ends(settings),
     })
 }
 

@@ -1,7 +1,9 @@
 use crate::phase_summary::ascending_ks;
-use crate::picture_layout::{ABOVE, LABEL, LEFT, Layout, PHASE, PLOT};
+use crate::picture_layout::{CAPTION, LABEL, LEFT, Layout, PHASE, PLOT, STRIP};
 use crate::plot_dots::push_dots;
-use crate::plot_shares::{push_share, push_share_axis};
+use crate::plot_means::push_strips;
+use crate::plot_shares::push_share;
+use crate::plot_strip::{Strip, push_strip_axis};
 use crate::runs_by_setting::{cell_at, number, shown_cell};
 use crate::setting_names::SETTING_NAMES;
 use crate::split_answer::runs_of;
@@ -28,14 +30,47 @@ impl Panel<'_> {
         self.bottom() - self.layout.k_height() / 2.0
     }
 
-    /// The lower edge of what is plotted.
+    /// The lower edge of the room of k.
     fn bottom(&self) -> f64 {
-        self.top + ABOVE + PLOT
+        self.top + STRIP + PLOT
+    }
+
+    /// The lower edge of all that is plotted.
+    fn foot(&self) -> f64 {
+        self.bottom() + self.layout.strips()
+    }
+
+    /// The upper edge of the strip at a place below the room of k.
+    pub(crate) fn strip_top(&self, place: usize) -> f64 {
+        self.bottom() + CAPTION + number(place) * STRIP
+    }
+
+    /// The strip of the shares of split runs, above the room of k.
+    fn shares(&self) -> Strip {
+        Strip {
+            top: self.top,
+            most: self.layout.most_share,
+        }
     }
 
     /// The middle of the column at a place.
-    fn middle(&self, place: usize) -> f64 {
+    pub(crate) fn middle(&self, place: usize) -> f64 {
         LEFT + (number(place) + 0.5) * self.layout.column
+    }
+
+    /// The right edge of so many columns.
+    pub(crate) fn right(&self, columns: usize) -> f64 {
+        LEFT + number(columns) * self.layout.column
+    }
+
+    /// The middle of the room of each phase, in the column with this middle.
+    pub(crate) fn rooms(&self, middle: f64) -> [(Phase, f64); 3] {
+        let apart = self.layout.column * PHASE;
+        [
+            (Phase::Settle, middle - apart),
+            (Phase::Crash, middle),
+            (Phase::Heal, middle + apart),
+        ]
     }
 }
 
@@ -47,20 +82,20 @@ pub(crate) fn push_panel(
     settings: &[Setting<'_>],
     differing: &[usize],
 ) -> Result<(), AllocError> {
-    push_axes(text, panel, number(settings.len()))?;
+    push_axes(text, panel, panel.right(settings.len()))?;
     for (place, setting) in settings.iter().enumerate() {
         push_edge(text, panel, panel.middle(place) + panel.layout.column / 2.0)?;
         push_column(alloc, text, panel, panel.middle(place), setting)?;
     }
+    push_strips(text, panel, settings)?;
     for (line, option) in differing.iter().enumerate() {
         push_labels(alloc, text, panel, line, *option, settings)?;
     }
     Ok(())
 }
 
-/// Appends the axes of a panel with so many columns, and a line for each k that is written.
-fn push_axes(text: &mut String, panel: Panel<'_>, columns: f64) -> Result<(), AllocError> {
-    let right = LEFT + columns * panel.layout.column;
+/// Appends the axes of a panel that ends at `right`, and a line for each k that is written.
+fn push_axes(text: &mut String, panel: Panel<'_>, right: f64) -> Result<(), AllocError> {
     let width = right - LEFT;
     let height = panel.layout.k_height();
     let band = panel.bottom() - height;
@@ -75,7 +110,7 @@ fn push_axes(text: &mut String, panel: Panel<'_>, columns: f64) -> Result<(), Al
         text,
         "<text class=\"middle\" transform=\"translate(20 {middle:.1}) rotate(-90)\">{AXIS}</text>\n"
     )?;
-    push_share_axis(text, panel, right)
+    push_strip_axis(text, panel.shares(), right, "runs split, %")
 }
 
 /// Appends the two axes.
@@ -91,10 +126,10 @@ fn push_axis_lines(text: &mut String, panel: Panel<'_>, right: f64) -> Result<()
 /// Appends the line where a column ends.
 fn push_edge(text: &mut String, panel: Panel<'_>, x: f64) -> Result<(), AllocError> {
     let top = panel.top;
-    let bottom = panel.bottom();
+    let foot = panel.foot();
     write!(
         text,
-        "<path class=\"line\" d=\"M{x:.1} {top:.1}V{bottom:.1}\"/>\n"
+        "<path class=\"line\" d=\"M{x:.1} {top:.1}V{foot:.1}\"/>\n"
     )
 }
 
@@ -144,15 +179,10 @@ fn push_column(
     middle: f64,
     setting: &Setting<'_>,
 ) -> Result<(), AllocError> {
-    let apart = panel.layout.column * PHASE;
-    for (phase, x) in [
-        (Phase::Settle, middle - apart),
-        (Phase::Crash, middle),
-        (Phase::Heal, middle + apart),
-    ] {
+    for (phase, x) in panel.rooms(middle) {
         let ks = ascending_ks(alloc, &setting.runs, phase)?;
         push_dots(text, panel.layout, phase, &ks, x, panel.zero())?;
-        push_share(text, panel, phase, runs_of(setting, phase), x)?;
+        push_share(text, panel.shares(), phase, runs_of(setting, phase), x)?;
     }
     Ok(())
 }
@@ -166,7 +196,7 @@ fn push_labels(
     option: usize,
     settings: &[Setting<'_>],
 ) -> Result<(), AllocError> {
-    let y = panel.bottom() + 18.0 + number(line) * LABEL;
+    let y = panel.foot() + 18.0 + number(line) * LABEL;
     let name = SETTING_NAMES.get(option).map_or("", |option| option.name);
     push_name(text, y, name)?;
     for (place, setting) in settings.iter().enumerate() {

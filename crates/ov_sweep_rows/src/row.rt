@@ -37,6 +37,11 @@ impl Row {
         options.sequential || options.sender.is_some() || options.detect
     }
 
+    /// Whether a phase has a delivered share.
+    pub(crate) fn has_delivered(&self) -> bool {
+        self.phases.iter().any(|phase| phase.delivered.is_some())
+    }
+
     /// Whether it is known of each phase what its broadcasts cost.
     pub(crate) fn has_costs(&self) -> bool {
         self.phases.iter().all(|phase| phase.costs.is_some())

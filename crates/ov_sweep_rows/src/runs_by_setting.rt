@@ -20,6 +20,11 @@ pub struct Setting<'a> {
 }
 
 impl Setting<'_> {
+    /// Whether a run has delivered shares.
+    pub(crate) fn has_delivered(&self) -> bool {
+        self.runs.iter().any(|run| run.has_delivered())
+    }
+
     /// Whether it is known of a run what its broadcasts cost.
     pub(crate) fn has_costs(&self) -> bool {
         self.runs.iter().any(|run| run.has_costs())

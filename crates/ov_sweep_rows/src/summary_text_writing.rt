@@ -1,4 +1,5 @@
-use crate::means_of_costs_and_shape::{mean_text, measure_head, measured_places};
+use crate::means_of_measures::{Known, mean_text};
+use crate::measure::Measure;
 use crate::phase_summary::{PhaseSummary, count, phase_summary};
 use crate::runs_by_setting::{cell_at, common_command, differing, run_counts, shown_cell};
 use crate::setting_names::SETTING_NAMES;
@@ -37,10 +38,23 @@ least degree: the fewest links of a node, the least of all runs and their mean.
 
 /// What the means are.
 const MEANS: &str = "
-Means of all runs that have the number, rounded down. gossip, ihave, graft, prune: messages sent for the broadcasts.
-hops: links to the last node that a broadcast reached. redundancy: GOSSIP beyond one for each node that it reached.
+Means of all runs that have the number, rounded down; none if no run has it.
+";
+
+const DELIVERED: &str = "\
+delivered: how often a node delivered a broadcast of the phase, over broadcasts times live nodes.
+";
+
+const COSTS: &str = "\
+gossip, ihave, graft, prune: how many messages of these kinds were sent for the broadcasts of the phase.
+hops: the mean over the broadcasts of the most links by which a node got the message.
+redundancy: the mean over the broadcasts that n nodes got, n being 2 or more, of GOSSIP / (n - 1) - 1: 0 if each got
+the message once.
+";
+
+const SHAPE: &str = "\
 largest: nodes of the largest component; path, diameter: the mean and the longest shortest path in it.
-clustering: the share of pairs of a node's neighbours that are linked.
+clustering: the share of pairs of a node's neighbours that are linked, the mean over all nodes.
 degree 25 %: a quarter of the nodes have so many links at most.
 ";
 
@@ -48,7 +62,7 @@ degree 25 %: a quarter of the nodes have so many links at most.
 /// options in which settings differ are columns; the others stand in the first line. Behind them stand how many runs
 /// there are; how many of them are split, their share, and its interval with a confidence of 95 % (Wilson); the
 /// quartiles of k; the least and the mean least degree; and how many crashes an overlay with the median k survives.
-/// If rows have costs or shapes, their means follow, in a table for each phase.
+/// If rows have delivered shares, costs or shapes, their means follow, in a table for each phase.
 /// OutOfMemory (99) if an allocation is refused.
 pub fn summary_text(alloc: Global, settings: &[Setting<'_>]) -> Result<String, OutOfMemory> {
     let differing = differing(alloc, settings)?;
@@ -57,41 +71,58 @@ pub fn summary_text(alloc: Global, settings: &[Setting<'_>]) -> Result<String, O
         push_phase(alloc, &mut text, settings, &differing, phase)?;
     }
     text.push_str(MEANING)?;
-    let measured = measured_places(alloc, settings)?;
-    if !measured.is_empty() {
-        push_means(alloc, &mut text, settings, &differing, &measured)?;
+    let known = Known::of(settings);
+    let measures = known.measures(alloc)?;
+    if !measures.is_empty() {
+        push_means(alloc, &mut text, settings, &differing, &measures)?;
+        push_meaning(&mut text, known)?;
     }
     Ok(text)
 }
 
-/// Appends a table of means for each phase, and what they are.
+/// Appends what the means are that are known.
+fn push_meaning(text: &mut String, known: Known) -> Result<(), AllocError> {
+    text.push_str(MEANS)?;
+    if known.delivered {
+        text.push_str(DELIVERED)?;
+    }
+    if known.costs {
+        text.push_str(COSTS)?;
+    }
+    if known.shape {
+        text.push_str(SHAPE)?;
+    }
+    Ok(())
+}
+
+/// Appends a table of means for each phase.
 fn push_means(
     alloc: Global,
     text: &mut String,
     settings: &[Setting<'_>],
     differing: &[usize],
-    measured: &[usize],
+    measures: &[Measure],
 ) -> Result<(), AllocError> {
     for phase in Phase::ALL {
         let name = phase_name(phase);
         write!(text, "\nMeans after {name}\n")?;
         let mut table = TextTable::new(alloc);
-        table.push(mean_heads(alloc, differing, measured)?)?;
-        push_mean_lines(alloc, &mut table, settings, differing, measured, phase)?;
+        table.push(mean_heads(alloc, differing, measures)?)?;
+        push_mean_lines(alloc, &mut table, settings, differing, measures, phase)?;
         table.push_to(alloc, text)?;
     }
-    text.push_str(MEANS)
+    Ok(())
 }
 
 /// The heads of a table of means.
 fn mean_heads(
     alloc: Global,
     differing: &[usize],
-    measured: &[usize],
+    measures: &[Measure],
 ) -> Result<Vec<String>, AllocError> {
     let mut line = option_heads(alloc, differing)?;
-    for place in measured {
-        line.push(String::from_str(alloc, measure_head(*place))?)?;
+    for measure in measures {
+        line.push(String::from_str(alloc, measure.head())?)?;
     }
     Ok(line)
 }
@@ -102,11 +133,11 @@ fn push_mean_lines(
     table: &mut TextTable,
     settings: &[Setting<'_>],
     differing: &[usize],
-    measured: &[usize],
+    measures: &[Measure],
     phase: Phase,
 ) -> Result<(), AllocError> {
     for setting in settings {
-        table.push(mean_line(alloc, setting, differing, measured, phase)?)?;
+        table.push(mean_line(alloc, setting, differing, measures, phase)?)?;
     }
     Ok(())
 }
@@ -116,12 +147,12 @@ fn mean_line(
     alloc: Global,
     setting: &Setting<'_>,
     differing: &[usize],
-    measured: &[usize],
+    measures: &[Measure],
     phase: Phase,
 ) -> Result<Vec<String>, AllocError> {
     let mut line = option_cells(alloc, setting, differing)?;
-    for place in measured {
-        line.push(mean_text(alloc, &setting.runs, phase, *place)?)?;
+    for measure in measures {
+        line.push(mean_text(alloc, &setting.runs, phase, *measure)?)?;
     }
     Ok(line)
 }
