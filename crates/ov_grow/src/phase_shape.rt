@@ -2,9 +2,8 @@ ghost use Rattle.std.specs.Prelude.{◌≡◌, IfOk, option_map};
 ghost use Rattle.ov_graph.specs.Links.{HasNode};
 ghost use Rattle.ov_grow.specs.Rows.{IsShapeOf};
 
-use ov_graph::Graph;
+use ov_graph::{Graph, shape_of};
 use ov_ids::OutOfMemory;
-use ov_graph::shape_of;
 use ov_sweep_rows::{FourDecimals, PhaseShape};
 
 /// The shape of a graph, which must have a node. OutOfMemory (99) is returned if a number is past 32 bits.
