@@ -88,9 +88,10 @@ def by_overlay(overlay, growing, words, scenario):
     """What a program is asked to grow, and how it differs, in words."""
     told = growing.options, growing.phases
     asked = {"grow": scenario, "sweep --runs 1": swept_rows(growing)}
+    none = "" if growing.options.broadcasts else "--broadcasts 0 "
     for named, columns in COLUMNS.items():
         rows = [further_header(*columns), further_row(*told, *columns), ""]
-        asked[f"sweep --runs 1 {named}"] = "\n".join(rows)
+        asked[f"sweep --runs 1 {none}{named}"] = "\n".join(rows)
     if growing.options.sequential and growing.options.broadcasts:
         asked["sweep --runs 1 --messages"] = "\n".join([*message_rows(*told), ""])
     for command, text in asked.items():

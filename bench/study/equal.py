@@ -32,7 +32,8 @@ def asked_for(given, options):
     if not given.further:
         yield ["sweep", "--runs", "1"], ["--csv"]
     if given.costs:
-        yield ["sweep", "--runs", "1", "--costs"], ["--csv", "--costs"]
+        none = [] if options.broadcasts else ["--broadcasts", "0"]
+        yield ["sweep", "--runs", "1", *none, "--costs"], ["--csv", "--costs"]
     if given.costs and options.sequential and options.broadcasts:
         yield ["sweep", "--runs", "1", "--messages"], ["--messages"]
 

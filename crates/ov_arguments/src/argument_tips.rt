@@ -7,9 +7,9 @@ use std::alloc::{AllocError, Global};
 use std::fmt::Write;
 
 /// What `clap` says before and behind a word that it does not expect, and one that is no command.
-const UNEXPECTED: &str = "error: unexpected argument '";
+pub(crate) const UNEXPECTED: &str = "error: unexpected argument '";
 
-const FOUND: &str = "' found\n";
+pub(crate) const FOUND: &str = "' found\n";
 
 const NO_COMMAND: &str = "error: unrecognized subcommand '";
 
@@ -19,7 +19,7 @@ const END: &str = "'\n";
 const VALUE_TIP: &str = "\n\n  tip: to pass '";
 
 /// What stands between two parts of what it says.
-const GAP: &str = "\n\n";
+pub(crate) const GAP: &str = "\n\n";
 
 /// How any other tip of `clap` begins: it is better than those from here.
 const TIP: &str = "\n\n  tip: ";
@@ -129,7 +129,7 @@ fn without_value_tip(alloc: Global, said: &str) -> Result<String, AllocError> {
 }
 
 /// The word that stands in what is said right behind a text with which that begins, and before another text.
-fn quoted<'a>(said: &'a str, before: &str, behind: &str) -> Option<&'a str> {
+pub(crate) fn quoted<'a>(said: &'a str, before: &str, behind: &str) -> Option<&'a str> {
     let (word, _) = said.strip_prefix(before)?.split_once(behind)?;
     Some(word)
 }

@@ -2,6 +2,7 @@ use crate::GrowArgumentsFault;
 use crate::argument_tips::{HELP_BELOW, with_tip};
 use crate::grow_and_sweep_clap_commands::{CommandName, command};
 use crate::growing_option_table::takes_text;
+use crate::refused_word_slips::reason_meant;
 use crate::value_slips::slip_tip;
 use clap::error::ErrorKind;
 use clap::{ArgMatches, Error as ClapError};
@@ -40,7 +41,10 @@ fn told(
         Ok(_) => format!(in alloc; "{error}")?,
         Err(error) => format!(in alloc; "{error}")?,
     };
-    let reason = with_tip(alloc, &said, name.text(), &shown)?;
+    let mut reason = reason_meant(alloc, name, &said, &shown)?;
+    if reason.is_empty() {
+        reason = with_tip(alloc, &said, name.text(), &shown)?;
+    }
     Ok(GrowArgumentsFault::BadArguments { reason })
 }
 

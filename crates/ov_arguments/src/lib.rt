@@ -16,6 +16,7 @@ mod import_and_picture_requests;
 mod messages_option_slips;
 mod option_values;
 mod refused_argument_texts;
+mod refused_word_slips;
 mod setting_lists;
 mod setting_values;
 mod sweep_blocks;

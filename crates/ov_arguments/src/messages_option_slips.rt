@@ -1,4 +1,4 @@
-//! What `--messages` of `overlay sweep` does not stand beside, and why.
+//! What `--messages` of `overlay sweep` does not stand beside, what it and `--costs` need, and why.
 use crate::GrowArgumentsFault;
 use crate::argument_tips::HELP_BELOW;
 use crate::arguments::has_flag;
@@ -16,6 +16,10 @@ const ALONE: &str =
 const SOME: &str =
     "error: '--messages' needs '--broadcasts B' with B from 1 to 1000: it prints a row for each broadcast, and \
                     without that there is none";
+
+/// Why `--costs` needs `--broadcasts`.
+const COSTS: &str =
+    "error: '--costs' needs '--broadcasts B': it tells what broadcasts cost, and without that there is none";
 
 /// Why it excludes what measures runs.
 const OF_PHASES: &str =
@@ -61,6 +65,15 @@ pub(crate) fn judge_messages(
         .any(|count| *count > 0)
     {
         return Err(needs(alloc, SOME)?);
+    }
+    Ok(())
+}
+
+/// Refuses `--costs` if nobody says how many broadcasts there are. Where they are said to be none, its columns stand
+/// beside those of other settings.
+pub(crate) fn judge_costs(alloc: Global, found: &ArgMatches<'_>) -> Result<(), GrowArgumentsFault> {
+    if has_flag(found, "costs") && !is_given(found, "broadcasts") {
+        return Err(needs(alloc, COSTS)?);
     }
     Ok(())
 }

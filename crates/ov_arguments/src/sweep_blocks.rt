@@ -27,9 +27,18 @@ impl SweepBlock {
         let grow = format!(in alloc; "{first}")?;
         let options = grow.as_str().strip_prefix("overlay grow").unwrap_or("");
         let runs = self.runs;
-        let costs = if self.costs { " --costs" } else { "" };
+        let costs = self.costs_words();
         let shape = if self.shape { " --shape" } else { "" };
         Ok(format!(in alloc; "overlay sweep{options} --runs {runs}{costs}{shape}")?)
+    }
+
+    /// The words that ask for what broadcasts cost. That there are none is said, since `--costs` needs it.
+    fn costs_words(&self) -> &'static str {
+        match (self.costs, self.first.broadcasts.count()) {
+            (false, _) => "",
+            (true, 0) => " --broadcasts 0 --costs",
+            (true, _) => " --costs",
+        }
     }
 }
 

@@ -4,7 +4,7 @@ use crate::arguments::has_flag;
 use crate::clap_parsing_and_faults::{bad_value_since, found_in};
 use crate::grow_and_sweep_clap_commands::CommandName;
 use crate::import_and_picture_requests::text_of;
-use crate::messages_option_slips::judge_messages;
+use crate::messages_option_slips::{judge_costs, judge_messages};
 use crate::option_values::value;
 use crate::setting_lists::SettingLists;
 use crate::setting_values::short;
@@ -17,6 +17,9 @@ use std::alloc::{AllocError, Global};
 
 /// The most runs of a sweep. (Chosen here.)
 const MOST_RUNS: u64 = 1_000_000;
+
+/// Why a picture is not written to standard output.
+const STANDARD_OUTPUT: &str = "rows go to standard output; name a file";
 
 /// What the words after `overlay sweep` ask for.
 #[derive(Drop)]
@@ -128,9 +131,10 @@ impl SweepRequest {
 ///
 /// BadArguments (73): a word is no option or not what its option takes, an option is given twice, two options exclude
 /// each other (--list and --summary, --at-most-split, --svg or --messages, --read and what grows, --costs, --shape or
-/// --progress, --messages and what is told of runs), --messages stands without --sequential or without broadcasts, a
-/// value stands in its list twice, some --prwl is above some --arwl, some --sender is above some --nodes, there are more
-/// than 1,000,000 runs, or help is asked for. OutOfMemory (99): an allocation was refused.
+/// --progress, --messages and what is told of runs), --messages stands without --sequential or without broadcasts,
+/// --costs without --broadcasts, the file of --svg is -, a value stands in its list twice, some --prwl is above some
+/// --arwl, some --sender is above some --nodes, there are more than 1,000,000 runs, or help is asked for. OutOfMemory
+/// (99): an allocation was refused.
 pub fn read_sweep_arguments(
     alloc: Global,
     words: &[String],
@@ -145,13 +149,14 @@ pub fn read_sweep_arguments(
 
 fn request_of(alloc: Global, found: &ArgMatches<'_>) -> Result<SweepRequest, GrowArgumentsFault> {
     judge_messages(alloc, found)?;
+    judge_costs(alloc, found)?;
     let runs = short(value(alloc, found, "runs")?);
     let first_seed = value(alloc, found, "seed")?;
     let workers = Workers::new(short(value(alloc, found, "workers")?)).unwrap_or(Workers::ONE);
     let question = question_of(alloc, found)?;
     let printed = printed_of(alloc, found, question.is_some())?;
     let read = files_of(alloc, found)?;
-    let svg = text_of(alloc, found, "svg")?;
+    let svg = picture_of(alloc, found)?;
     let settings = lists_of(alloc, found)?;
     Ok(SweepRequest {
         settings,
@@ -213,6 +218,14 @@ fn printed_of(
         (false, true) => Printed::Answer,
         (false, false) => Printed::Rows,
     })
+}
+
+/// The file for the picture. Standard output is none.
+fn picture_of(alloc: Global, found: &ArgMatches<'_>) -> Result<Option<String>, GrowArgumentsFault> {
+    if found.get_str("svg") == Some("-") {
+        return Err(bad_value_since(alloc, "svg", "-", STANDARD_OUTPUT)?);
+    }
+    Ok(text_of(alloc, found, "svg")?)
 }
 
 fn files_of(alloc: Global, found: &ArgMatches<'_>) -> Result<Option<Vec<String>>, AllocError> {

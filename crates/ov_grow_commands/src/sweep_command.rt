@@ -7,7 +7,7 @@ use crate::message_row_printing::print_messages;
 use crate::picture_file::opened_picture;
 use crate::row_files::rows_of_files;
 use crate::row_printing::{RowPrinter, measures_asked, write_rows};
-use crate::sweep_report::{print_report, tell_repeated, tell_too_few};
+use crate::sweep_report::{print_report, tell_none, tell_repeated, tell_too_few};
 use ov_arguments::{Printed, SweepBlock, SweepRequest};
 use ov_grow::{RefusedRun, SweepFault, sweep};
 use ov_io::Sink;
@@ -72,6 +72,7 @@ fn read_and_print(
     files: &[String],
 ) -> Result<Vec<Row>, GrowthFault> {
     let rows = rows_of_files(rt, files)?;
+    tell_none(rt, &rows);
     tell_repeated(rt, &rows)?;
     if request.printed == Printed::Rows {
         if let Err(fault) = print_rows(rt, &rows) {

@@ -93,6 +93,13 @@ pub(crate) fn tell_too_few(rt: &HostRuntime, request: &SweepRequest) {
     }
 }
 
+/// Says on standard error if there are no rows.
+pub(crate) fn tell_none(rt: &HostRuntime, rows: &[Row]) {
+    if rows.is_empty() {
+        let _ = eprintln!(rt; "there are no rows: what was read has headers alone");
+    }
+}
+
 /// Says on standard error how many rows have the setting and the seed of an earlier one.
 pub(crate) fn tell_repeated(rt: &HostRuntime, rows: &[Row]) -> Result<(), GrowthFault> {
     match repeated_runs(rt.alloc(), rows) {

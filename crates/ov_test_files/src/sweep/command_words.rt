@@ -101,15 +101,20 @@ fn is_measured(alloc: Global, line: &str, measures: (bool, bool), printed: Print
 
 /// What words of a sweep measure, and what it prints.
 const MEASURED: [(&str, bool, bool, Printed); 4] = [
-    ("--costs", true, false, Printed::Rows),
+    ("--costs --broadcasts 1", true, false, Printed::Rows),
     ("--shape --summary", false, true, Printed::Summary),
     (
-        "--shape --costs --list 5",
+        "--shape --costs --broadcasts 0 --list 5",
         true,
         true,
         Printed::List { block: 5 },
     ),
-    ("--sequential --messages", false, false, Printed::Messages),
+    (
+        "--sequential --messages --broadcasts 1",
+        false,
+        false,
+        Printed::Messages,
+    ),
 ];
 
 #[test]
