@@ -14,6 +14,7 @@ It ends with status 1 at the first difference. The same seeds give the same opti
 """
 
 import argparse
+import math
 import random
 import sys
 from fractions import Fraction
@@ -21,7 +22,7 @@ from fractions import Fraction
 from compare import add_counts, drawn, first_difference, found_of_all, refusals, run, seeds, status_of, words_of
 from grow import Growing
 from rows import asks_further, further_header, further_row, header, message_rows, row_of, swept_header, swept_row
-from shapes import clustering, coefficient, largest, paths
+from shapes import clustering, coefficient, largest, paths, quartiles
 from world import Refusal
 
 # The further columns of a sweep: whether they tell what broadcasts cost, and the shape of the overlay.
@@ -56,7 +57,8 @@ def by_simulate(simulate, growing, words, scenario):
 
 
 def by_networkx(neighbours):
-    """The largest component, the clustering coefficient, the mean path and the diameter that networkx finds."""
+    """The largest component, the clustering coefficient, the mean path, the diameter and the quartiles of degrees that
+    networkx finds."""
     import networkx
 
     graph = networkx.Graph(neighbours)
@@ -68,13 +70,16 @@ def by_networkx(neighbours):
     steps = sum(sum(found.values()) for _, found in networkx.all_pairs_shortest_path_length(part))
     pairs = len(part) * (len(part) - 1)
     path = Fraction(steps, pairs) if pairs else None
-    return sorted(component), total / len(graph), path, networkx.diameter(part)
+    degrees = sorted(degree for _, degree in graph.degree)
+    quarters = [degrees[math.ceil(part * len(degrees) / 4) - 1] for part in (1, 2, 3)]
+    return sorted(component), total / len(graph), path, networkx.diameter(part), quarters
 
 
 def shape_difference(neighbours):
     """How the shape differs from that which networkx finds, in words."""
     component = largest(neighbours)
-    here, there = (component, clustering(neighbours), *paths(neighbours, component)), by_networkx(neighbours)
+    here = (component, clustering(neighbours), *paths(neighbours, component), quartiles(neighbours))
+    there = by_networkx(neighbours)
     return None if here == there else f"{here} and {there}"
 
 
