@@ -143,7 +143,7 @@ def healing():
     def points(at, crash):
         return [(heal, over_seeds(found[rules[at], crash, str(heal)], in_largest)) for heal in ROUNDS]
 
-    return panels_of_crashes([f"% of live nodes in the largest part: {rule}" for rule in rules], across, points)
+    return panels_of_crashes([f"% of live nodes in the largest component: {rule}" for rule in rules], across, points)
 
 
 def tree():
