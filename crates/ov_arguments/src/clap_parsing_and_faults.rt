@@ -3,7 +3,7 @@ use crate::argument_tips::{HELP_BELOW, with_tip};
 use crate::grow_and_sweep_clap_commands::{CommandName, command};
 use crate::growing_option_table::takes_text;
 use crate::refused_word_slips::reason_meant;
-use crate::value_slips::slip_tip;
+use crate::value_slips::{list_tip, slip_tip};
 use clap::error::ErrorKind;
 use clap::{ArgMatches, Error as ClapError};
 use ov_io::shown_name;
@@ -67,6 +67,30 @@ pub(crate) fn bad_value_since(
 ) -> Result<GrowArgumentsFault, AllocError> {
     let shown = shown_name(alloc, text)?;
     let tip = slip_tip(alloc, name, shown.as_str())?;
+    bad_value_told(alloc, name, shown.as_str(), reason, tip.as_str())
+}
+
+/// The option of this name takes no such part of the list that was given in these parts.
+pub(crate) fn bad_part(
+    alloc: Global,
+    name: &str,
+    part: &str,
+    parts: &[&str],
+) -> Result<GrowArgumentsFault, AllocError> {
+    let takes = takes_text(alloc, name)?;
+    let shown = shown_name(alloc, part)?;
+    let tip = list_tip(alloc, parts)?;
+    bad_value_told(alloc, name, shown.as_str(), takes.as_str(), tip.as_str())
+}
+
+/// The option of this name can't have what is shown, for a reason, with a tip below.
+fn bad_value_told(
+    alloc: Global,
+    name: &str,
+    shown: &str,
+    reason: &str,
+    tip: &str,
+) -> Result<GrowArgumentsFault, AllocError> {
     Ok(GrowArgumentsFault::BadArguments {
         reason: format!(in alloc;
             "error: invalid value '{shown}' for '--{name}': {reason}{HELP_BELOW}{tip}"

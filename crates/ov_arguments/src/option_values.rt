@@ -1,10 +1,10 @@
 use crate::GrowArgumentsFault;
 use crate::arguments::has_flag;
-use crate::clap_parsing_and_faults::{bad_value, bad_value_since};
+use crate::clap_parsing_and_faults::{bad_part, bad_value, bad_value_since};
 use crate::growing_option_table::{
     MOST_CRASHED, MOST_PACE, MOST_SENDER, OptionForm, Takes, taken_by, words_of,
 };
-use crate::value_slips::{RANGE, one_value};
+use crate::value_slips::{RANGE, is_gapped, one_value};
 use clap::ArgMatches;
 use std::alloc::{AllocError, Global};
 use std::fmt::Write;
@@ -86,8 +86,10 @@ pub(crate) fn values(
     name: &str,
 ) -> Result<Vec<u64>, GrowArgumentsFault> {
     let mut values = Vec::new(alloc);
-    for text in found.get_strs(name).unwrap_or(&[]) {
+    let texts = found.get_strs(name).unwrap_or(&[]);
+    for text in texts {
         match ends_of(text) {
+            None if is_gapped(text) => return Err(bad_part(alloc, name, text, texts)?),
             None => push_value(alloc, &mut values, name, text)?,
             Some((low, high)) if low <= high => push_range(alloc, &mut values, name, low, high)?,
             Some(_) => return Err(bad_value_since(alloc, name, text, NO_RANGE)?),

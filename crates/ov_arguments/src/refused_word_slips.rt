@@ -1,8 +1,8 @@
 //! What a person may mean whose words behind `overlay grow` or `overlay sweep` are refused by `clap`.
-use crate::argument_tips::{FOUND, GAP, HELP_BELOW, UNEXPECTED, quoted};
+use crate::argument_tips::{FOUND, GAP, HELP_BELOW, UNEXPECTED, push_list, quoted};
 use crate::grow_and_sweep_clap_commands::CommandName;
-use crate::growing_option_table::OPTIONS;
-use crate::value_slips::one_value;
+use crate::growing_option_table::{OPTIONS, is_of_hundred};
+use crate::value_slips::{is_of_numbers, list_line, one_value, takes_list};
 use std::alloc::{AllocError, Global};
 use std::fmt::Write;
 
@@ -51,7 +51,7 @@ pub(crate) fn reason_meant(
         return list_reason(alloc, command, said, words, value);
     }
     match quoted(said, UNEXPECTED, FOUND) {
-        Some(word) => unexpected_reason(alloc, said, words, word),
+        Some(word) => unexpected_reason(alloc, command, said, words, word),
         None => Ok(String::new(alloc)),
     }
 }
@@ -104,9 +104,7 @@ fn list_reason(
         return Ok(String::new(alloc));
     }
     let list = list_meant(alloc, words, value)?;
-    let line = format!(in alloc;
-        "tip: a list has one comma between two values, and no spaces: `{list}`\n"
-    )?;
+    let line = list_line(alloc, list.as_str())?;
     with_line(alloc, said, line.as_str())
 }
 
@@ -125,7 +123,7 @@ fn list_meant(alloc: Global, words: &[String], value: &str) -> Result<String, Al
 }
 
 /// A list with one comma wherever commas, semicolons and spaces stand between two values.
-fn with_commas(alloc: Global, list: &str) -> Result<String, AllocError> {
+pub(crate) fn with_commas(alloc: Global, list: &str) -> Result<String, AllocError> {
     let mut text = String::new(alloc);
     let mut is_next = false;
     for letter in list.chars() {
@@ -142,9 +140,11 @@ fn with_commas(alloc: Global, list: &str) -> Result<String, AllocError> {
     Ok(text)
 }
 
-/// Why a word is not expected that stands behind an option which takes nothing, or behind the file of a row.
+/// Why a word is not expected that stands behind an option which takes nothing, behind the file of a row, or behind the
+/// numbers of an option.
 fn unexpected_reason(
     alloc: Global,
+    command: CommandName,
     said: &str,
     words: &[String],
     word: &str,
@@ -152,7 +152,10 @@ fn unexpected_reason(
     if let Some(name) = flag_before(words, word) {
         return no_value(alloc, name, word);
     }
-    let tip = row_tip(alloc, words, word)?;
+    let mut tip = row_tip(alloc, words, word)?;
+    if tip.is_empty() {
+        tip = number_tip(alloc, command, words, word)?;
+    }
     if tip.is_empty() {
         return Ok(tip);
     }
@@ -217,6 +220,55 @@ fn row_tip(alloc: Global, words: &[String], word: &str) -> Result<String, AllocE
         }
     }
     Ok(String::new(alloc))
+}
+
+/// What to write where a word that is not expected stands behind the numbers of an option. It is empty if nothing is
+/// known.
+fn number_tip(
+    alloc: Global,
+    command: CommandName,
+    words: &[String],
+    word: &str,
+) -> Result<String, AllocError> {
+    for (place, next) in words.iter().enumerate() {
+        if next.as_str() == word {
+            if let Some((name, list)) = numbers_before(words, place) {
+                return tip_behind(alloc, command, name, list, word);
+            }
+        }
+    }
+    Ok(String::new(alloc))
+}
+
+/// The name of the option before this place, and the numbers that are its value.
+fn numbers_before(words: &[String], place: usize) -> Option<(&str, &str)> {
+    let before = word_before(words, place, 1);
+    let (option, list) = match before.split_once("=") {
+        Some(parts) => parts,
+        None => (word_before(words, place, 2), before),
+    };
+    let name = option.strip_prefix("--")?;
+    is_of_numbers(list).then_some((name, list))
+}
+
+/// What to write where a word stands behind these numbers of the option of this name: it is a part of a list, or the
+/// sign of hundredths.
+fn tip_behind(
+    alloc: Global,
+    command: CommandName,
+    name: &str,
+    list: &str,
+    word: &str,
+) -> Result<String, AllocError> {
+    let mut tip = String::new(alloc);
+    if word == "%" && is_of_hundred(name) {
+        write!(tip, "tip: it counts in 100, without %: `--{name} {list}`\n")?;
+    }
+    if matches!(command, CommandName::Sweep) && takes_list(name) && is_of_numbers(word) {
+        let joined = format!(in alloc; "{list},{word}")?;
+        push_list(&mut tip, joined.as_str())?;
+    }
+    Ok(tip)
 }
 
 /// Whether a word names a row, and begins with what was taken for an option.
