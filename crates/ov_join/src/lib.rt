@@ -8,7 +8,8 @@
 //! beside it.
 #![tactic(auto)]
 
-ghost use Rattle.std.specs.Prelude.{◌≡◌, ◌==◌, ◌≤◌, ◌<◌, ◌+◌, ◌++◌, ℕ, length, vec_len, IfOk, OnErr};
+ghost use Rattle.std.specs.Prelude.{◌≡◌, ◌==◌, ◌||◌, ◌≤◌, ◌<◌, ◌+◌, ◌++◌, ℕ, false, length, nat_le, vec_len, IfOk};
+ghost use Rattle.std.specs.Prelude.{OnErr};
 ghost use Rattle.ov_wire.specs.Messages.{AreSendsInRange, most_ttl};
 ghost use Rattle.ov_words.specs.Pick.{Drawn};
 ghost use Rattle.ov_views.specs.Room.{HasRoom};
@@ -147,6 +148,14 @@ fn is_remembered(views: &Views, ttl: u8) -> bool
     ensures { result ≡ (ttl == views.now.params.prwl) }
 {
     ttl == views.params().prwl()
+}
+
+/// Whether the walk of FORWARDJOIN ends here, wherever it came from: no step is left, or at most one member is active.
+fn ends_anyway(views: &Views, ttl: u8) -> bool
+    ensures value { result ≡ ((ttl == 0) || nat_le (length views.now.active) 1) }
+    ensures steps { result ≡ false → 0 < ttl }
+{
+    ttl == 0 || views.active().len() <= 1
 }
 
 /// Whether the walk of FORWARDJOIN ends here. Otherwise it goes on to one of the others.

@@ -4,9 +4,9 @@ ghost use Rattle.ov_views.specs.Allowed.{hears};
 ghost use Rattle.ov_views.specs.Handling.{ViewsStep, step_words};
 ghost use Rattle.ov_wire.specs.declared.message.Body.TheVariants.{ForwardJoin};
 
-use crate::{ends_here, is_remembered};
+use crate::{ends_anyway, is_remembered};
 use ov_ids::{NodeId, OutOfMemory};
-use ov_views::{Moves, View, Views};
+use ov_views::{Moves, Views};
 use ov_wire::{Body, Message};
 use ov_words::Draws;
 use std::alloc::Global;
@@ -39,20 +39,18 @@ pub fn walk(
     if is_remembered(views, ttl) {
         return Ok(None);
     }
-    let others = views.all_but(View::Active, &[from, node]);
-    if ends_here(views, &others, ttl) {
+    if ends_anyway(views, ttl) {
         return Ok(None);
     }
-    let mut moves = Moves::with_room(alloc, 1)?;
-    match draws.pick(others.as_slice()) {
-        Some(to) => {
-            let message = Message {
-                from: me,
-                body: Body::ForwardJoin { node, ttl: ttl - 1 },
-            };
-            moves.send(to, message);
-        }
-        None => unreachable!(),
-    }
+    let mut moves = Moves::to_send(alloc, 1)?;
+    let to = match views.pick_but(from, node, draws) {
+        Some(to) => to,
+        None => return Ok(None),
+    };
+    let message = Message {
+        from: me,
+        body: Body::ForwardJoin { node, ttl: ttl - 1 },
+    };
+    moves.send(to, message);
     Ok(Some(moves))
 }

@@ -45,7 +45,7 @@ pub fn start(
     ensures ranges { IfOk result (λ m. AreSendsInRange m.sends.items) }
     ensures err { OnErr result ((sent.new ≡ sent.old) × (draws.new ≡ draws.old)) }
 {
-    let mut moves = Moves::with_room(alloc, 1)?;
+    let mut moves = Moves::to_send(alloc, 1)?;
     let mut kept = Vec::with_capacity(alloc, MOST_IDS as usize)?;
     let mut list = Vec::with_capacity(alloc, MOST_IDS as usize)?;
     let to = match draws.pick(views.active()) {
@@ -120,7 +120,7 @@ pub fn on_shuffle(
     ensures ranges { IfOk result (λ m. AreSendsInRange m.sends.items) }
     ensures err { OnErr result ((views.new ≡ views.old) × (draws.new ≡ draws.old)) }
 {
-    let mut moves = Moves::with_room(alloc, 1)?;
+    let mut moves = Moves::to_send(alloc, 1)?;
     let mut list = Vec::with_capacity(alloc, ids.len())?;
     let me = views.me();
     if from == me {
@@ -180,7 +180,7 @@ pub fn on_reply(
     ensures none { IfOk result (λ m. vec_len m.sends ≡ 0) }
     ensures err { OnErr result ((views.new ≡ views.old) × (draws.new ≡ draws.old)) }
 {
-    let moves = Moves::with_room(alloc, 0)?;
+    let moves = Moves::to_send(alloc, 0)?;
     if from == views.me() {
         return Ok(moves);
     }

@@ -6,7 +6,7 @@ ghost use Rattle.ov_wire.specs.declared.message.Body.TheVariants.{Shuffle};
 
 use crate::{append, walks_on};
 use ov_ids::{NodeId, OutOfMemory, Seq};
-use ov_views::{Moves, View, Views};
+use ov_views::{Moves, Views};
 use ov_wire::{Body, Message};
 use ov_words::Draws;
 use std::alloc::Global;
@@ -39,18 +39,19 @@ pub fn walk(
         return Ok(None);
     }
     if walks_on(views, ttl) {
-        let mut moves = Moves::with_room(alloc, 1)?;
+        let mut moves = Moves::to_send(alloc, 1)?;
         let mut list = Vec::with_capacity(alloc, ids.len())?;
+        let to = match views.pick_but(from, from, draws) {
+            Some(to) => to,
+            None => return Ok(None),
+        };
         append(&mut list, ids);
         let body = Body::Shuffle {
             origin,
             ttl: ttl - 1,
             ids: Seq::new(list),
         };
-        match draws.pick(views.all_but(View::Active, &[from]).as_slice()) {
-            Some(to) => moves.send(to, Message { from: me, body }),
-            None => unreachable!(),
-        }
+        moves.send(to, Message { from: me, body });
         return Ok(Some(moves));
     }
     Ok(None)

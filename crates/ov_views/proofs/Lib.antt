@@ -4,3 +4,4 @@ pub mod Sampling
 pub mod Integrating
 pub mod Tracking
 pub mod Sufficing
+pub mod Leaving

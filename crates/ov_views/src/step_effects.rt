@@ -29,6 +29,19 @@ impl Moves {
         })
     }
 
+    /// No moves, with room for this many sends and for no change. OutOfMemory (99) if an allocation is refused.
+    pub fn to_send(alloc: Global, sends: usize) -> Result<Moves, OutOfMemory>
+        ensures sends { IfOk result (λ m. m.sends.items ≡ []) }
+        ensures changes { IfOk result (λ m. m.changes.items ≡ []) }
+        ensures room { IfOk result (λ m. HasRoom m sends 0) }
+    {
+        let sends = Vec::with_capacity(alloc, sends)?;
+        Ok(Moves {
+            sends,
+            changes: Vec::new(alloc),
+        })
+    }
+
     /// Sends a message. Room for it must be there, and nothing is allocated.
     pub fn send(&mut self, to: NodeId, message: Message)
         requires { HasRoom self.old 1 0 }

@@ -1,8 +1,8 @@
 ghost use Rattle.std.specs.Prelude.{◌≡◌, ◌≤◌, ◌<◌, ◌+◌, ◌↔◌, ℕ, List, [], ◌∷◌, ◌++◌, Some, None, length, min};
-ghost use Rattle.std.specs.Prelude.{IsTrue, MatchBool};
+ghost use Rattle.std.specs.Prelude.{◌==◌, ◌&&◌, not, IsTrue, IfSome, IfNone, MatchBool};
 ghost use Rattle.ov_ids.specs.Members.{Has};
 ghost use Rattle.ov_ids.specs.Sets.{IsSet, IsIn, has, without, without_all};
-ghost use Rattle.ov_words.specs.Pick.{Drawn, Suffice, Choice};
+ghost use Rattle.ov_words.specs.Pick.{AreDrawn, Drawn, Suffice, Choice};
 ghost use Rattle.ov_views.specs.ViewsState.{ViewsState, AreViews, has_place, is_close, is_known, members};
 ghost use Rattle.ov_views.specs.Changes.{AddsPassive, DropsRandom, AddsActive, RemovesActive, Forgets};
 ghost use Rattle.ov_views.specs.Code.ChangeOrder.{in_order};
@@ -10,7 +10,7 @@ ghost use Rattle.ov_views.specs.Sampling.{Samples, GivesUp, TakesIn, Integrates}
 ghost use Rattle.ov_views.specs.declared.change.ViewChange.{ViewChange};
 
 use crate::{Changes, Sample};
-use ov_ids::{IdSet, NodeId, Params};
+use ov_ids::{IdSet, MOST_ACTIVE, NodeId, Params};
 use ov_words::Draws;
 use std::marker::Model;
 
@@ -123,14 +123,45 @@ impl Views {
         ensures fits { length result ≤ length (members view self.now) }
         ensures most { length (members view self.now) ≤ length result + length ids.now }
     {
-        let mut rest = match view {
-            View::Active => self.active.copy(),
-            View::Passive => self.passive.copy(),
-        };
+        let mut rest = self.set_of(view).copy();
         for id in ids {
             rest.remove(*id);
         }
         rest
+    }
+
+    /// The members of a view.
+    #[inline(always)]
+    fn set_of(&self, view: View) -> &IdSet
+        ensures { result.now ≡ members view self.now }
+    {
+        match view {
+            View::Active => &self.active,
+            View::Passive => &self.passive,
+        }
+    }
+
+    /// Picks a random active member that is neither of these two nodes, by one random word, as a walk does that goes
+    /// on. None if there is no such member, and then no word is used. Nothing is allocated.
+    pub fn pick_but(&self, one: NodeId, other: NodeId, draws: &mut Draws<'_>) -> Option<NodeId>
+        requires { 0 < length draws.old }
+        ensures drawn { IfSome result (λ d. AreDrawn (record {
+          from = without other (without one self.now.active);
+          member = d;
+        } ∷ []) draws.old draws.new) }
+        ensures empty { result ≡ None ↔ without other (without one self.now.active) ≡ [] }
+        ensures no_word { IfNone result (draws.new ≡ draws.old) }
+    {
+        let members = self.active.as_slice();
+        let mut others = [NodeId(0); MOST_ACTIVE as usize];
+        let mut count = 0;
+        for member in members {
+            others[count] = *member;
+            if is_neither(*member, one, other) {
+                count += 1;
+            }
+        }
+        draws.pick(&others[..count])
     }
 
     /// Whether the id is the node itself or active.
@@ -276,7 +307,7 @@ impl Views {
         ensures drawn { Drawn draws.old draws.new (λ choices. Samples (members view self.now) count choices result) }
         ensures words { length draws.old ≡ length draws.new + length result }
     {
-        let mut rest = self.all_but(view, &[]);
+        let mut rest = self.set_of(view).copy();
         let mut picked = Sample::new();
         for _ in 0..count.min(rest.len()) {
             match draws.pick(rest.as_slice()) {
@@ -289,6 +320,14 @@ impl Views {
         }
         picked
     }
+}
+
+/// Whether a node is neither of these two.
+#[inline(always)]
+fn is_neither(node: NodeId, one: NodeId, other: NodeId) -> bool
+    ensures { result ≡ (not (node == one) && not (node == other)) }
+{
+    node != one && node != other
 }
 
 /// The passive member to give up for a new one, and what is then left of `sent`.
