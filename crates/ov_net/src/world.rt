@@ -192,9 +192,13 @@ impl World {
     {
         // not by `judged_effects`: effects are large, and each call that hands them on copies them
         self.judge(&event)?;
-        let effects = self.effects_of(&event, words)?;
-        self.apply(event, words, effects)?;
-        Ok(())
+        match self.effects_of(&event, words) {
+            Ok(effects) => {
+                self.apply(event, words, effects)?;
+                Ok(())
+            }
+            Err(fault) => Err(NetFault::from(fault)),
+        }
     }
 
     /// The effects of an event, if no refusal applies; else the first applicable one. Nothing changes.

@@ -181,7 +181,8 @@ impl Peer {
         ensures refused { IfErr result (IsRefusedBy out_of_memory (IsFaultOf self.now input)) }
     {
         let mut draws = Draws::new(words);
-        Ok(self.plan_by(input, &mut draws)?)
+        // handed on as it is: `?` would copy the plan twice
+        self.plan_by(input, &mut draws)
     }
 
     /// Plans one step, with random choices by the next words.

@@ -111,11 +111,18 @@ pub(crate) fn follow(
 {
     match views_change {
         HyParViewChange::Nothing => {}
-        HyParViewChange::ViewsAndAttempt(next) => {
-            let next = Box::into_inner(next);
-            *views = next.views;
-            *attempt = next.attempt;
-        }
+        HyParViewChange::ViewsAndAttempt(next) => take_over(views, attempt, next),
         HyParViewChange::Shuffle(list) => *sent = list,
     }
+}
+
+/// Puts the next views and the next attempt in the place of a node's own. It is a call of its own since its room on
+/// the stack is cleared, which a plan without next views is spared so.
+fn take_over(views: &mut Views, attempt: &mut Attempt, next: Box<NextViews>)
+    ensures views { views.new ≡ next.value.views }
+    ensures attempt { attempt.new ≡ next.value.attempt }
+{
+    let next = Box::into_inner(next);
+    *views = next.views;
+    *attempt = next.attempt;
 }
