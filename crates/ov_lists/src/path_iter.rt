@@ -10,7 +10,7 @@ use std::marker::Model;
 #[derive(Drop)]
 pub struct PathIter<'a> {
     ids: &'a [NodeId],
-    ends: &'a [usize],
+    ends: &'a [u32],
     start: usize,
 }
 
@@ -27,7 +27,7 @@ impl<'a> Model for PathIter<'a> {
 
 impl<'a> PathIter<'a> {
     /// The paths that are written in `ids`, each up to one of the ends.
-    pub(crate) fn new(ids: &'a [NodeId], ends: &'a [usize]) -> PathIter<'a>
+    pub(crate) fn new(ids: &'a [NodeId], ends: &'a [u32]) -> PathIter<'a>
         requires { AreEnds 0 ends.now (length ids.now) }
         ensures { result ≡ paths_from 0 ends.now ids.now }
     {
@@ -48,8 +48,9 @@ impl<'a> Iterator for PathIter<'a> {
 
     fn next(&mut self) -> Option<&'a [NodeId]> {
         let (end, rest) = self.ends.split_first()?;
-        let path = id_range(self.ids, self.start, *end);
-        self.start = *end;
+        let end = *end as usize;
+        let path = id_range(self.ids, self.start, end);
+        self.start = end;
         self.ends = rest;
         Some(path)
     }

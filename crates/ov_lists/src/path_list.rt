@@ -2,7 +2,7 @@ ghost use Rattle.std.specs.Prelude.{◌≡◌, ◌==◌, ◌<◌, ◌^◌, [], �
 ghost use Rattle.std.specs.Prelude.{OnErr, OnOk};
 ghost use Rattle.ov_lists.specs.Code.Cut.{paths_from, AreEnds};
 
-use crate::ids_of_one_path::{id_range, start_of};
+use crate::ids_of_one_path::{end_after, id_range, start_of};
 use crate::path_iter::PathIter;
 use ov_ids::{NodeId, OutOfMemory};
 use std::alloc::Global;
@@ -15,7 +15,7 @@ use std::marker::Model;
 pub struct Paths {
     ids: Vec<NodeId>,
     /// How many ids there are up to the end of each path.
-    ends: Vec<usize>,
+    ends: Vec<u32>,
 }
 
 impl Model for Paths {
@@ -41,21 +41,23 @@ impl Paths {
     }
 
     /// The paths that are written in `ids`, each up to one of the ends. Nothing is allocated.
-    pub(crate) fn of_parts(ids: Vec<NodeId>, ends: Vec<usize>) -> Paths
+    pub(crate) fn of_parts(ids: Vec<NodeId>, ends: Vec<u32>) -> Paths
         requires { AreEnds 0 ends.items (length ids.items) }
         ensures { result ≡ paths_from 0 ends.items ids.items }
     {
         Paths { ids, ends }
     }
 
-    /// Appends a path. OutOfMemory (99) if an allocation is refused; the list is unchanged then.
+    /// Appends a path. OutOfMemory (99) if an allocation is refused, or if all paths would have more ids than 32 bits
+    /// count; the list is unchanged then.
     pub fn push(&mut self, path: &[NodeId]) -> Result<(), OutOfMemory>
         ensures pushed { OnOk result (self.new ≡ self.old ++ path.now ∷ []) }
         ensures unchanged { OnErr result (self.new ≡ self.old) }
     {
+        let end = end_after(self.ids.len(), path.len())?;
         self.ends.reserve(1)?;
         self.ids.extend_from_slice(path)?;
-        self.ends.push_reserved(self.ids.len());
+        self.ends.push_reserved(end);
         Ok(())
     }
 
@@ -83,7 +85,7 @@ impl Paths {
             return None;
         }
         let start = start_of(&self.ends, place);
-        Some(id_range(&self.ids, start, self.ends[place]))
+        Some(id_range(&self.ids, start, self.ends[place] as usize))
     }
 
     /// The paths in order.

@@ -1,6 +1,7 @@
 ghost use Rattle.std.specs.Prelude.{◌≡◌, [], ◌∷◌, ◌++◌, IfOk, OnOk, OnErr};
 ghost use Rattle.ov_lists.specs.Building.{Building};
 
+use crate::ids_of_one_path::end_after;
 use crate::path_list::Paths;
 use ov_ids::{NodeId, OutOfMemory};
 use std::alloc::{AllocError, Global};
@@ -10,7 +11,7 @@ use std::marker::Model;
 #[derive(Drop)]
 pub struct PathsBuilder {
     ids: Vec<NodeId>,
-    ends: Vec<usize>,
+    ends: Vec<u32>,
     /// How many ids there are up to the end of the last path.
     last_end: usize,
 }
@@ -56,16 +57,16 @@ impl PathsBuilder {
         Ok(())
     }
 
-    /// Ends the path that is begun. The next one is empty at first. OutOfMemory (99) if an allocation is refused;
-    /// nothing has changed then.
+    /// Ends the path that is begun. The next one is empty at first. OutOfMemory (99) if an allocation is refused, or if
+    /// there are more ids than 32 bits count; nothing has changed then.
     pub fn end_path(&mut self) -> Result<(), OutOfMemory>
         ensures ended { OnOk result (self.new
             ≡ record { paths = self.old.paths ++ self.old.begun ∷ []; begun = [] }) }
         ensures unchanged { OnErr result (self.new ≡ self.old) }
     {
-        let end = self.ids.len();
+        let end = end_after(self.ids.len(), 0)?;
         self.ends.push(end)?;
-        self.last_end = end;
+        self.last_end = end as usize;
         Ok(())
     }
 

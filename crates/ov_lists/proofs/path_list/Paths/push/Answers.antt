@@ -1,25 +1,25 @@
 -- The new path ends at the end of all ids.
-use Rattle.std.proofs.Common.{◌≡◌, ◌∙◌, List, ℕ, ◌+◌, [], ◌∷◌, ◌++◌, length, length-append, ap, subst, arith}
+use Rattle.std.proofs.Common.{◌≡◌, ◌∙◌, List, ℕ, ◌+◌, [], ◌∷◌, ◌++◌, length, ap, subst, arith}
 use Rattle.ov_lists.specs.Code.Cut.{paths_from}
 use Rattle.ov_lists.proofs.Cutting.{pushed_ends, pushed_paths}
 use Rattle.ov_lists.proofs.path_list.Paths.push.Goals as goal
 
 -- one more end is kept
-to : (c : goal.After-push_reserved) → c.push_reserved.new.self.items ≡ c.self.inside.ends.items ++ c.len.result ∷ []
-to c = c.push_reserved.ensures.items ∙ ap (λ (es : List ℕ). es ++ c.len.result ∷ []) c.in_ok-reserve.ensures.items
+to : (c : goal.After-push_reserved) → c.push_reserved.new.self.items ≡ c.self.inside.ends.items ++ c.in_ok-end.end ∷ []
+to c = c.push_reserved.ensures.items ∙ ap (λ (es : List ℕ). es ++ c.in_ok-end.end ∷ []) c.in_ok-reserve.ensures.items
 
 -- the end is the number of ids, those of the path among them
-all : (c : goal.After-push_reserved) → c.len.result ≡ length c.self.inside.ids.items + length c.args.path.now
+all : (c : goal.After-push_reserved) → c.in_ok-end.end ≡ length c.self.inside.ids.items + length c.args.path.now
 all c =
     let n = c.len.ensures in
-    let l = ap length c.in_ok-extend_from_slice.ensures.items in
-    omega (arith, n, l, length-append c.self.inside.ids.items c.args.path.now)
+    let e = c.in_ok-end.ensures in
+    omega (arith, n, e)
 
 pub invariant_of-self-2 : goal.invariant_of-self-2
 invariant_of-self-2 c =
     let p = c.self.inside in
     pushed_ends p.ends.items p.ids.items c.args.path.now c.push_reserved.new.self.items
-    c.extend_from_slice.new.self.items c.len.result c.self.invariant (to c) c.in_ok-extend_from_slice.ensures.items
+    c.extend_from_slice.new.self.items c.in_ok-end.end c.self.invariant (to c) c.in_ok-extend_from_slice.ensures.items
     (all c)
 
 pub returns-clause-pushed : goal.returns-clause-pushed
@@ -28,5 +28,5 @@ returns-clause-pushed c =
     subst (λ (ps : List (List ℕ)). paths_from 0 c.push_reserved.new.self.items c.extend_from_slice.new.self.items
     ≡ ps ++ c.args.path.now ∷ []) c.self.view_is
     (pushed_paths p.ends.items p.ids.items c.args.path.now c.push_reserved.new.self.items
-    c.extend_from_slice.new.self.items c.len.result c.self.invariant (to c) c.in_ok-extend_from_slice.ensures.items
+    c.extend_from_slice.new.self.items c.in_ok-end.end c.self.invariant (to c) c.in_ok-extend_from_slice.ensures.items
     (all c))
