@@ -5,6 +5,7 @@ mod analysis_by_threads;
 mod ascending_piece_lookup;
 mod cut_worker;
 mod hook_after_claim;
+mod memory_set_aside;
 mod parallel_paths_by_ids;
 mod pathless_analysis_by_threads;
 mod threads_by_amount_of_work;

@@ -4,6 +4,7 @@ ghost use Rattle.ov_even.specs.Naming.{AreFound, named_of};
 ghost use Rattle.ov_even.specs.declared.paths_by_ids.NamedPaths.{NamedPaths as named_paths};
 ghost use Rattle.ov_crew.specs.Code.Parts.{AreParts};
 
+use crate::memory_set_aside::set_memory_aside;
 use crate::threads_by_amount_of_work::Hiring;
 use ov_even::{FoundPaths, NamedPaths, name_paths};
 use ov_graph::Graph;
@@ -51,7 +52,10 @@ fn name_parts<R: Threads + Sync>(
     let name = |_start: usize, part: &[FoundPaths<'_>]| -> Result<Vec<NamedPaths>, OutOfMemory>
         requires { AreFound graph.now group.now part.now }
         ensures { IfOk result (λ named. named.items ≡ map (named_of graph.entry.now group.entry.now) part.entry.now) }
-    { name_paths(alloc, graph, group, part) };
+    {
+        set_memory_aside(alloc, part.len() as u64);
+        name_paths(alloc, graph, group, part)
+    };
     Ok(thread::map_chunks(rt, alloc, found, size, &name)?)
 }
 

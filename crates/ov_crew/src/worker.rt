@@ -13,6 +13,7 @@ ghost use Rattle.ov_crew.specs.Code.Turns.{HasTaken, HasStopped, HasSettled};
 
 use crate::ascending_piece_lookup::AscendingPieces;
 use crate::hook_after_claim::Gate;
+use crate::memory_set_aside::set_memory_aside;
 use ov_board::{Board, Seat};
 use ov_even::Haul;
 use ov_fans::{Piece, Settled, Settler};
@@ -43,6 +44,7 @@ pub fn work_range<G: Gate>(
     ensures ended { OnOk result.0 (result.1.worker.ended ≡ true) }
     ensures haul { IfOk result.0 (λ h. IsHaulOf graph.now group.now first result.1.worker h.pieces.items) }
 {
+    set_memory_aside(alloc, board.total());
     let mut settler = match Settler::new(alloc, graph, group) {
         Ok(settler) => settler,
         Err(fault) => return (Err(fault), seat),
