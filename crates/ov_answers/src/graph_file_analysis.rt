@@ -79,8 +79,8 @@ pub fn analyse_bytes<T: Threads + Sync, W: Write, P: Watcher>(
         explain: false,
     };
     let answer = plain_answer(rt, alloc, bytes, &request, watcher)?;
-    match write_answer(rt, alloc, workers, &answer, sink) {
-        Ok(()) => Ok(answer.told.answered),
+    match write_answer(rt, alloc, workers, answer, sink) {
+        Ok(told) => Ok(told.answered),
         Err(fault) => Err(fault),
     }
 }

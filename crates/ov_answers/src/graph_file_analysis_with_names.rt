@@ -56,10 +56,7 @@ fn tell<T: Threads + Sync, W: Write, P: Watcher>(
         (option_map (λ ids. ids.now) request.now.group) request.now.certificate request.now.names sink.new result }
 {
     let answer = answer_for_file(rt, alloc, bytes, request, watcher)?;
-    match write_answer(rt, alloc, request.workers, &answer, sink) {
-        Ok(()) => Ok(answer.told),
-        Err(fault) => Err(fault),
-    }
+    write_answer(rt, alloc, request.workers, answer, sink)
 }
 
 /// What is told of a graph file.
