@@ -10,8 +10,13 @@ use ov_sweep_rows::{Measures, Row};
 use std::alloc::Global;
 use std::thread::Threads;
 
-/// How many runs a batch has for each worker. (Chosen here.)
-const RUNS_OF_A_WORKER: usize = 8;
+/// How many runs the first batch has for each worker. Each later batch has twice as many as the one before, up to
+/// `MOST_RUNS`: so the first rows come soon, and workers seldom wait for the last run of a batch. (Chosen here.)
+const FIRST_RUNS: usize = 16;
+
+/// How many runs a batch has for each worker, at most: an end by a signal loses the batch that is being grown. (Chosen
+/// here.)
+const MOST_RUNS: usize = 32;
 
 /// Takes the rows of a sweep. `taken` are the rows that it has taken so far, if its value says them.
 pub trait RowTaker {
@@ -44,13 +49,15 @@ pub fn sweep<R: Threads + Sync, I: Iterator<Item = GrowOptions> + Drop, T: RowTa
     requires ends { IsFinite (I.remaining runs) }
     ensures { IsSweepOf measures I.next_gives runs (T.taken taker.old) (T.taken taker.new) result }
 {
-    let size = workers.count() as usize * RUNS_OF_A_WORKER;
+    let most = workers.count() as usize * MOST_RUNS;
+    let mut size = workers.count() as usize * FIRST_RUNS;
     let mut batch = Vec::new(alloc);
     for options in runs {
         batch.push(options)?;
         if batch.len() >= size {
             sweep_batch(rt, alloc, &batch, workers, measures, taker)?;
             batch.clear();
+            size = size.saturating_mul(2).min(most);
         }
     }
     if batch.is_empty() {
