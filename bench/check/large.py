@@ -43,7 +43,8 @@ def certificate(overlay, name):
         graph, part = OUT / f"{name}.graph", OUT / f"{name}.part"
         large_graphs.write(OUT / name, GRAPHS[name]())
         with open(part, "wb") as last_line:
-            made = subprocess.Popen([overlay, "analyse", graph, "--certificate"], stdout=subprocess.PIPE)
+            group = ["--group", f"@{graph.with_suffix('.list')}"] if name in large_graphs.GROUPS else []
+            made = subprocess.Popen([overlay, "analyse", graph, "--certificate", *group], stdout=subprocess.PIPE)
             subprocess.run(["tail", "-n", "1"], stdin=made.stdout, stdout=last_line, check=True)
             if made.wait() != 0:
                 sys.exit(f"{name}: no certificate was made")
