@@ -27,7 +27,7 @@ use std::io::ErrorKind as IoErrorKind;
 const LARGEST_K: u64 = 1023;
 
 /// What the arguments of a command line ask for. Without a file, standard input is read.
-#[derive(Debug, PartialEq, Eq, Drop)]
+#[derive(Drop)]
 pub enum Request {
     /// To run a scenario file.
     Run {
@@ -56,7 +56,7 @@ pub enum Request {
 }
 
 /// What is asked of a run, besides its file.
-#[derive(Clone, Copy, Debug, PartialEq, Eq)]
+#[derive(Clone, Copy)]
 pub struct RunRequest {
     /// Whether to print why lines are refused.
     pub explain: bool,
@@ -67,7 +67,7 @@ pub struct RunRequest {
 }
 
 /// What is asked of an analysis, besides its file.
-#[derive(Debug, PartialEq, Eq, Drop)]
+#[derive(Drop)]
 pub struct AnalysisRequest {
     /// The members of the group. Without it, all nodes are the group, unless a list of members is given.
     pub group: Option<Vec<NodeId>>,

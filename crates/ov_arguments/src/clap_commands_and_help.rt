@@ -1,8 +1,7 @@
 ghost use Rattle.std.specs.Prelude.{◌≡◌, codes, false, IfOk, IsOkAnd};
 ghost use Rattle.clap.specs.Words.{AddsSubcommand, app_of, new_app, new_rule, rule_of, with_rule};
-ghost use Rattle.ov_arguments.specs.Arguments.{analyse_command, flag, graph_command, import_command, option};
-ghost use Rattle.ov_arguments.specs.Arguments.{overlay_app, overlay_command, picture_command, run_command};
-ghost use Rattle.ov_arguments.specs.Code.Options.{rule_of_option, with_options};
+ghost use Rattle.ov_arguments.specs.Arguments.{overlay_command};
+ghost use Rattle.ov_arguments.specs.Code.Options.{app_alone, rule_of_option, with_commands, with_options};
 
 use clap::{Arg, ArgAction, Command};
 use std::alloc::{AllocError, Global};
@@ -139,40 +138,248 @@ Example:
 
 const ABOUT_GRAPH: &str = "Prints the graph of a certificate file as a graph file";
 
+/// What help of a command says.
+#[derive(Clone, Copy)]
+struct CommandHelp<'a> {
+    /// What it begins with.
+    examples: &'a str,
+    /// What it says of the command.
+    about: &'a str,
+    /// What it says of the file.
+    file: &'a str,
+    /// What it says below the options.
+    below: Option<&'a str>,
+}
+
+const RUN_HELP: CommandHelp<'static> = CommandHelp {
+    examples: RUN_EXAMPLES,
+    about: ABOUT_RUN,
+    file: SCENARIO_FILE,
+    below: Some(BELOW_RUN),
+};
+
+const ANALYSE_HELP: CommandHelp<'static> = CommandHelp {
+    examples: ANALYSE_EXAMPLES,
+    about: ABOUT_ANALYSE,
+    file: GRAPH_FILE,
+    below: None,
+};
+
+const IMPORT_HELP: CommandHelp<'static> = CommandHelp {
+    examples: IMPORT_EXAMPLES,
+    about: ABOUT_IMPORT,
+    file: DUMP_FILE,
+    below: Some(BELOW_IMPORT),
+};
+
+const PICTURE_HELP: CommandHelp<'static> = CommandHelp {
+    examples: PICTURE_EXAMPLES,
+    about: ABOUT_PICTURE,
+    file: CERTIFICATE_FILE,
+    below: None,
+};
+
+const GRAPH_HELP: CommandHelp<'static> = CommandHelp {
+    examples: GRAPH_EXAMPLES,
+    about: ABOUT_GRAPH,
+    file: CERTIFICATE_FILE,
+    below: None,
+};
+
 /// An option of a command.
 #[derive(Clone, Copy)]
 struct OptionRow<'a> {
     /// Its name, without the two hyphens before it.
     name: &'a str,
-    /// Whether a text follows it.
-    takes_text: bool,
+    /// What it does: with a text behind it, or without one.
+    action: ArgAction,
     /// What help says of it.
     help: &'a str,
 }
+
+/// A command that reads a file.
+#[derive(Clone, Copy)]
+struct CommandRow<'a> {
+    name: &'a str,
+    help: CommandHelp<'a>,
+    options: &'a [OptionRow<'a>],
+}
+
+/// The commands that read files, in the order of help.
+const COMMANDS: [CommandRow<'static>; 5] = [
+    CommandRow {
+        name: "run",
+        help: RUN_HELP,
+        options: &[
+            OptionRow {
+                name: "explain",
+                action: ArgAction::SetTrue,
+                help: EXPLAIN,
+            },
+            OptionRow {
+                name: "strict",
+                action: ArgAction::SetTrue,
+                help: STRICT,
+            },
+            OptionRow {
+                name: "progress",
+                action: ArgAction::SetTrue,
+                help: PROGRESS,
+            },
+        ],
+    },
+    CommandRow {
+        name: "analyse",
+        help: ANALYSE_HELP,
+        options: &[
+            OptionRow {
+                name: "group",
+                action: ArgAction::Set,
+                help: GROUP,
+            },
+            OptionRow {
+                name: "without",
+                action: ArgAction::Set,
+                help: WITHOUT,
+            },
+            OptionRow {
+                name: "at-least",
+                action: ArgAction::Set,
+                help: AT_LEAST,
+            },
+            OptionRow {
+                name: "workers",
+                action: ArgAction::Set,
+                help: WORKERS,
+            },
+            OptionRow {
+                name: "certificate",
+                action: ArgAction::SetTrue,
+                help: CERTIFICATE,
+            },
+            OptionRow {
+                name: "names",
+                action: ArgAction::SetTrue,
+                help: NAMES,
+            },
+            OptionRow {
+                name: "explain",
+                action: ArgAction::SetTrue,
+                help: EXPLAIN_ANSWER,
+            },
+            OptionRow {
+                name: "progress",
+                action: ArgAction::SetTrue,
+                help: PROGRESS,
+            },
+        ],
+    },
+    CommandRow {
+        name: "import",
+        help: IMPORT_HELP,
+        options: &[
+            OptionRow {
+                name: "views",
+                action: ArgAction::SetTrue,
+                help: VIEWS,
+            },
+            OptionRow {
+                name: "edges",
+                action: ArgAction::SetTrue,
+                help: EDGES,
+            },
+            OptionRow {
+                name: "dot",
+                action: ArgAction::SetTrue,
+                help: DOT,
+            },
+            OptionRow {
+                name: "either",
+                action: ArgAction::SetTrue,
+                help: EITHER,
+            },
+            OptionRow {
+                name: "entries",
+                action: ArgAction::SetTrue,
+                help: ENTRIES,
+            },
+        ],
+    },
+    CommandRow {
+        name: "picture",
+        help: PICTURE_HELP,
+        options: &[
+            OptionRow {
+                name: "names",
+                action: ArgAction::Set,
+                help: NAMES_FILE,
+            },
+            OptionRow {
+                name: "pair",
+                action: ArgAction::Set,
+                help: PAIR,
+            },
+            OptionRow {
+                name: "fan",
+                action: ArgAction::Set,
+                help: FAN,
+            },
+            OptionRow {
+                name: "dot",
+                action: ArgAction::SetTrue,
+                help: DOT_PICTURE,
+            },
+        ],
+    },
+    CommandRow {
+        name: "graph",
+        help: GRAPH_HELP,
+        options: &[],
+    },
+];
 
 /// The arguments that `overlay` takes.
 pub(crate) fn command<'a>(alloc: Global) -> Result<Command<'a>, AllocError>
     ensures { IfOk result (λ c. app_of c ≡ overlay_command) }
 {
-    let none = overlay_alone(alloc)?;
-    let run = with_command(none, run_command(alloc))?;
-    let analyse = with_command(run, analyse_command(alloc))?;
-    let import = with_command(analyse, import_command(alloc))?;
-    let picture = with_command(import, picture_command(alloc))?;
-    with_command(picture, graph_command(alloc))
+    let none = alone(alloc, NAME, NAME, [EXAMPLES, ABOUT, BELOW])?;
+    with_commands(alloc, none, &COMMANDS)
 }
 
-/// `overlay`, without its commands.
-fn overlay_alone<'a>(alloc: Global) -> Result<Command<'a>, AllocError>
-    ensures { IfOk result (λ c. app_of c ≡ overlay_app) }
+/// The command with these commands below it.
+fn with_commands<'a>(
+    alloc: Global,
+    command: Command<'a>,
+    rows: &[CommandRow<'a>],
+) -> Result<Command<'a>, AllocError>
+    ensures { IfOk result (λ c. app_of c ≡ with_commands (app_of command.entry) rows.now) }
 {
+    let mut command = command;
+    for row in rows {
+        let more = with_arguments(alloc, row.name, &row.help, row.options);
+        command = with_command(command, more)?;
+    }
+    Ok(command)
+}
+
+/// A command of this name without options or commands, which is no word of its own. Usage begins with its whole name.
+/// Help says this of it: above, of the command, and below the options.
+pub(crate) fn alone<'a>(
+    alloc: Global,
+    name: &'a str,
+    whole_name: &'a str,
+    help: [&'a str; 3],
+) -> Result<Command<'a>, AllocError>
+    ensures { IfOk result (λ c. app_of c ≡ app_alone name.entry.now) }
+{
+    let [examples, about, below] = help;
     Ok(
-        Command::new(alloc, NAME)
-            .bin_name(NAME)?
+        Command::new(alloc, name)
+            .bin_name(whole_name)?
             .no_binary_name(true)
-            .before_help(EXAMPLES)
-            .about(ABOUT)
-            .after_help(BELOW),
+            .before_help(examples)
+            .about(about)
+            .after_help(below),
     )
 }
 
@@ -186,96 +393,34 @@ pub(crate) fn with_command<'a>(
     command.subcommand(more?)
 }
 
-/// The arguments after `run`.
-fn run_command<'a>(alloc: Global) -> Result<Command<'a>, AllocError>
-    ensures { IfOk result (λ c. app_of c ≡ run_command) }
-{
-    let options = [
-        flag("explain", EXPLAIN),
-        flag("strict", STRICT),
-        flag("progress", PROGRESS),
-    ];
-    let command = named(alloc, "run", RUN_EXAMPLES, ABOUT_RUN).after_help(BELOW_RUN);
-    with_arguments(alloc, command, SCENARIO_FILE, &options)
-}
-
-/// The arguments after `analyse`.
-fn analyse_command<'a>(alloc: Global) -> Result<Command<'a>, AllocError>
-    ensures { IfOk result (λ c. app_of c ≡ analyse_command) }
-{
-    let options = [
-        option("group", GROUP),
-        option("without", WITHOUT),
-        option("at-least", AT_LEAST),
-        option("workers", WORKERS),
-        flag("certificate", CERTIFICATE),
-        flag("names", NAMES),
-        flag("explain", EXPLAIN_ANSWER),
-        flag("progress", PROGRESS),
-    ];
-    let command = named(alloc, "analyse", ANALYSE_EXAMPLES, ABOUT_ANALYSE);
-    with_arguments(alloc, command, GRAPH_FILE, &options)
-}
-
-/// The arguments after `import`.
-fn import_command<'a>(alloc: Global) -> Result<Command<'a>, AllocError>
-    ensures { IfOk result (λ c. app_of c ≡ import_command) }
-{
-    let options = [
-        flag("views", VIEWS),
-        flag("edges", EDGES),
-        flag("dot", DOT),
-        flag("either", EITHER),
-        flag("entries", ENTRIES),
-    ];
-    let command = named(alloc, "import", IMPORT_EXAMPLES, ABOUT_IMPORT).after_help(BELOW_IMPORT);
-    with_arguments(alloc, command, DUMP_FILE, &options)
-}
-
-/// The arguments after `picture`.
-fn picture_command<'a>(alloc: Global) -> Result<Command<'a>, AllocError>
-    ensures { IfOk result (λ c. app_of c ≡ picture_command) }
-{
-    let options = [
-        option("names", NAMES_FILE),
-        option("pair", PAIR),
-        option("fan", FAN),
-        flag("dot", DOT_PICTURE),
-    ];
-    let command = named(alloc, "picture", PICTURE_EXAMPLES, ABOUT_PICTURE);
-    with_arguments(alloc, command, CERTIFICATE_FILE, &options)
-}
-
-/// The arguments after `graph`.
-fn graph_command<'a>(alloc: Global) -> Result<Command<'a>, AllocError>
-    ensures { IfOk result (λ c. app_of c ≡ graph_command) }
-{
-    let command = named(alloc, "graph", GRAPH_EXAMPLES, ABOUT_GRAPH);
-    with_arguments(alloc, command, CERTIFICATE_FILE, &[])
-}
-
-/// A command of this name, with its help.
-fn named<'a>(alloc: Global, name: &'a str, examples: &'a str, about: &'a str) -> Command<'a>
-    ensures { app_of result ≡ new_app name.entry.now }
-{
-    Command::new(alloc, name).before_help(examples).about(about)
-}
-
-/// The command with a file, of which help says this, and with these options.
+/// A command of this name with a file and these options, of which help says this.
 fn with_arguments<'a>(
     alloc: Global,
-    command: Command<'a>,
-    file: &'a str,
+    name: &'a str,
+    help: &CommandHelp<'a>,
     options: &[OptionRow<'a>],
 ) -> Result<Command<'a>, AllocError>
     ensures { IfOk result
-        (λ c. app_of c ≡ with_options (with_rule (app_of command.entry) (new_rule (codes "file"))) options.now) }
+        (λ c. app_of c ≡ with_options (with_rule (new_app name.entry.now) (new_rule (codes "file"))) options.now) }
 {
-    let mut command = command.arg(file_argument(alloc, file))?;
+    let mut command = named(alloc, name, help).arg(file_argument(alloc, help.file))?;
     for row in options {
         command = command.arg(row.argument(alloc))?;
     }
     Ok(command)
+}
+
+/// A command of this name without options, of which help says this.
+fn named<'a>(alloc: Global, name: &'a str, help: &CommandHelp<'a>) -> Command<'a>
+    ensures { app_of result ≡ new_app name.entry.now }
+{
+    let command = Command::new(alloc, name)
+        .before_help(help.examples)
+        .about(help.about);
+    match help.below {
+        Some(below) => command.after_help(below),
+        None => command,
+    }
 }
 
 /// A file, of which help says this.
@@ -292,53 +437,9 @@ impl<'a> OptionRow<'a> {
         ensures rule { rule_of result ≡ rule_of_option self.now }
         ensures local { result.global ≡ false }
     {
-        if self.takes_text {
-            return text_argument(alloc, self.name, self.help);
-        }
-        flag_argument(alloc, self.name, self.help)
-    }
-}
-
-/// An option of this name, with a text. Help says this of it.
-fn text_argument<'a>(alloc: Global, name: &'a str, help: &'a str) -> Arg<'a>
-    ensures rule { rule_of result ≡ option name.entry.now }
-    ensures local { result.global ≡ false }
-{
-    Arg::new(alloc, name)
-        .long(name)
-        .action(ArgAction::Set)
-        .help(help)
-}
-
-/// An option of this name, without a text. Help says this of it.
-pub(crate) fn flag_argument<'a>(alloc: Global, name: &'a str, help: &'a str) -> Arg<'a>
-    ensures rule { rule_of result ≡ flag name.entry.now }
-    ensures local { result.global ≡ false }
-{
-    Arg::new(alloc, name)
-        .long(name)
-        .action(ArgAction::SetTrue)
-        .help(help)
-}
-
-/// The row of an option with a text.
-fn option<'a>(name: &'a str, help: &'a str) -> OptionRow<'a>
-    ensures { rule_of_option result ≡ option name.entry.now }
-{
-    OptionRow {
-        name,
-        takes_text: true,
-        help,
-    }
-}
-
-/// The row of an option without a text.
-fn flag<'a>(name: &'a str, help: &'a str) -> OptionRow<'a>
-    ensures { rule_of_option result ≡ flag name.entry.now }
-{
-    OptionRow {
-        name,
-        takes_text: false,
-        help,
+        Arg::new(alloc, self.name)
+            .long(self.name)
+            .action(self.action)
+            .help(self.help)
     }
 }

@@ -2,6 +2,7 @@ use crate::GrowArgumentsFault;
 use crate::argument_tips::{HELP_BELOW, with_tip};
 use crate::grow_and_sweep_clap_commands::{CommandName, command};
 use crate::growing_option_table::takes_text;
+use crate::refused_argument_texts::shown;
 use crate::refused_word_slips::reason_meant;
 use crate::value_slips::{list_tip, slip_tip};
 use clap::error::ErrorKind;
@@ -33,10 +34,7 @@ fn told(
     if error.kind() == ErrorKind::OutOfMemory {
         return Ok(GrowArgumentsFault::OutOfMemory);
     }
-    let mut shown = Vec::new(alloc);
-    for word in words {
-        shown.push(shown_name(alloc, word.as_str())?)?;
-    }
+    let shown = shown(alloc, words)?;
     let said = match command(alloc, name)?.try_get_matches_from(&shown) {
         Ok(_) => format!(in alloc; "{error}")?,
         Err(error) => format!(in alloc; "{error}")?,

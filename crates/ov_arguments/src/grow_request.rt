@@ -11,7 +11,7 @@ use ov_grow_options::GrowOptions;
 use std::alloc::Global;
 
 /// What the words after `overlay grow` ask for.
-#[derive(Debug, PartialEq, Eq, Drop)]
+#[derive(Drop)]
 pub struct GrowRequest {
     /// The options of the overlay, unless those of a row are asked for.
     pub options: GrowOptions,

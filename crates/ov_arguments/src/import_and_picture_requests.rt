@@ -11,7 +11,7 @@ use ov_lines::read_ids;
 use std::alloc::{AllocError, Global};
 
 /// The form of a dump.
-#[derive(Clone, Copy, Debug, PartialEq, Eq)]
+#[derive(Clone, Copy)]
 pub enum DumpFormat {
     /// A JSON object: a name, and the names that it lists.
     Views,
@@ -22,7 +22,7 @@ pub enum DumpFormat {
 }
 
 /// What is asked of an import, besides its file.
-#[derive(Clone, Copy, Debug, PartialEq, Eq)]
+#[derive(Clone, Copy)]
 pub struct ImportRequest {
     /// The form of the dump. Without it, the form is the one that the dump looks like.
     pub format: Option<DumpFormat>,
@@ -33,7 +33,7 @@ pub struct ImportRequest {
 }
 
 /// An entry of a certificate, by the ids of its members.
-#[derive(Clone, Copy, Debug, PartialEq, Eq)]
+#[derive(Clone, Copy)]
 pub enum AskedEntry {
     /// The paths between two members.
     Pair { i: NodeId, j: NodeId },
@@ -42,7 +42,7 @@ pub enum AskedEntry {
 }
 
 /// What is asked of a picture, besides its certificate file.
-#[derive(Debug, PartialEq, Eq, Drop)]
+#[derive(Drop)]
 pub struct PictureRequest {
     /// The graph file that names the nodes.
     pub names: Option<String>,

@@ -45,14 +45,11 @@ const ENTRIES: &str = "error: only one of '--pair' and '--fan' can be given\n\n\
 pub fn argument_reasons(alloc: Global, arguments: &[String]) -> Result<String, OutOfMemory> {
     match arguments.first() {
         None => Ok(String::from_str(alloc, NO_TEXT)?),
-        Some(first) if asks_for_version(first.as_str()) => Ok(String::from_str(alloc, VERSION)?),
+        Some(first) if matches!(first.as_str(), "--version" | "-V") => {
+            Ok(String::from_str(alloc, VERSION)?)
+        }
         Some(_) => reasons(alloc, arguments),
     }
-}
-
-/// Whether the first argument asks for the version.
-fn asks_for_version(first: &str) -> bool {
-    first == "--version" || first == "-V"
 }
 
 /// What `clap` says of these arguments, or what is wrong with the texts that it finds in them.
@@ -121,7 +118,7 @@ fn is_word(text: &str) -> bool {
 
 /// The arguments as a person can read them, each on one line: control characters are shown as their codes. None of
 /// them is part of the name of an option, of ids or of a number, so that nothing else is wrong with what is shown.
-fn shown(alloc: Global, arguments: &[String]) -> Result<Vec<String>, AllocError> {
+pub(crate) fn shown(alloc: Global, arguments: &[String]) -> Result<Vec<String>, AllocError> {
     let mut shown = Vec::new(alloc);
     for argument in arguments {
         shown.push(shown_name(alloc, argument.as_str())?)?;

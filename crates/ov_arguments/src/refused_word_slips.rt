@@ -1,7 +1,7 @@
 //! What a person may mean whose words behind `overlay grow` or `overlay sweep` are refused by `clap`.
 use crate::argument_tips::{FOUND, GAP, HELP_BELOW, UNEXPECTED, push_list, quoted};
 use crate::grow_and_sweep_clap_commands::CommandName;
-use crate::growing_option_table::{OPTIONS, is_of_hundred};
+use crate::growing_option_table::{GROW_OPTIONS, OPTIONS, SWEEP_OPTIONS, is_of_hundred};
 use crate::value_slips::{is_of_numbers, list_line, one_value, takes_list};
 use std::alloc::{AllocError, Global};
 use std::fmt::Write;
@@ -13,16 +13,6 @@ const INVALID: &str = "error: invalid value '";
 
 /// What stands between such a value and the name of its option.
 const OPTION: &str = "' for '--";
-
-/// The options of one of the commands alone that take nothing.
-const FLAGS: [&str; 6] = [
-    "certificates",
-    "summary",
-    "progress",
-    "costs",
-    "shape",
-    "messages",
-];
 
 /// The option that names a row.
 const ROW: &str = "--row";
@@ -180,18 +170,10 @@ fn flag_before<'a>(words: &'a [String], word: &str) -> Option<&'a str> {
 /// The name of an option that takes nothing, if a word is one.
 fn flag_name(word: &str) -> Option<&str> {
     let name = word.strip_prefix("--")?;
-    let is_flag = FLAGS.iter().any(|flag| *flag == name);
-    if is_flag || is_growing_flag(name) {
-        return Some(name);
-    }
-    None
-}
-
-/// Whether an option of growing has this name, and takes nothing.
-fn is_growing_flag(name: &str) -> bool {
-    OPTIONS
-        .iter()
+    let mut options = OPTIONS.iter().chain(&GROW_OPTIONS).chain(&SWEEP_OPTIONS);
+    options
         .any(|option| option.name == name && option.takes_nothing())
+        .then_some(name)
 }
 
 /// The word so many places before this one, or an empty text.

@@ -8,7 +8,7 @@ use std::alloc::Global;
 use std::fmt::Write;
 
 /// A part of a sweep: some runs of one setting, whose seeds follow one another.
-#[derive(Clone, Copy, Debug, PartialEq, Eq)]
+#[derive(Clone, Copy)]
 pub struct SweepBlock {
     /// The options of the first run.
     pub first: GrowOptions,

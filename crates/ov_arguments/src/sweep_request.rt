@@ -50,7 +50,7 @@ pub struct SweepRequest {
 }
 
 /// What a sweep prints.
-#[derive(Clone, Copy, Debug, PartialEq, Eq)]
+#[derive(Clone, Copy, PartialEq, Eq)]
 pub enum Printed {
     /// The rows.
     Rows,
@@ -65,7 +65,7 @@ pub enum Printed {
 }
 
 /// What is asked of the settings: which is the smallest of which fewer runs than so many of 100 are split.
-#[derive(Clone, Copy, Debug, PartialEq, Eq)]
+#[derive(Clone, Copy)]
 pub struct SplitAsked {
     /// Fewer than so many of 100, 1 or more.
     pub bound: Share,
@@ -74,7 +74,7 @@ pub struct SplitAsked {
 }
 
 /// The phase after which overlays are looked at.
-#[derive(Clone, Copy, Debug, PartialEq, Eq)]
+#[derive(Clone, Copy)]
 pub enum AskedPhase {
     /// All have joined, and the overlay has settled.
     Settle,

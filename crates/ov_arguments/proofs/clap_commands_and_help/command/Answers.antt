@@ -1,18 +1,19 @@
--- The five commands below it.
-use Rattle.std.proofs.Common.{◌≡◌, IsOkAnd, refl}
+-- The commands of the table.
+use Rattle.std.proofs.Common.{◌≡◌, List}
 use Rattle.std.proofs.lemmas.Result.{IfOk-weaker}
-use Rattle.clap.specs.Words.{AddsSubcommand, app_of}
+use Rattle.clap.specs.Words.{app_of}
 use Rattle.ov_arguments.specs.Arguments.{overlay_command}
-use Rattle.ov_arguments.proofs.Asked.{with_command_more}
+use Rattle.ov_arguments.specs.Code.Options.{with_commands, with_options}
+use Rattle.ov_arguments.specs.declared.clap_commands_and_help.CommandRow.{CommandRow}
+use Rattle.ov_arguments.proofs.Asked.{below_equal, rows_below}
 use Rattle.ov_arguments.proofs.clap_commands_and_help.command.Goals as goal
 
+-- the table. It is read off the call before its words are opened
+abbrev table : goal.After-with_commands → List CommandRow
+table c = rows_below c.with_commands.result _ _ c.with_commands.ensures
+
 pub returns : goal.returns
+unfolding with_commands with_options
 returns c =
-    let one = with_command_more _ _ _ _ _ c.in_ok-run.ensures c.run_command.ensures c.in_ok-none.ensures refl in
-    let two = with_command_more _ _ _ _ _ c.in_ok-analyse.ensures c.analyse_command.ensures one refl in
-    let three = with_command_more _ _ _ _ _ c.in_ok-import.ensures c.import_command.ensures two refl in
-    let four = with_command_more _ _ _ _ _ c.in_ok-picture.ensures c.picture_command.ensures three refl in
-    IfOk-weaker c.with_command-5.result
-    (λ r. IsOkAnd c.graph_command.result (λ m. AddsSubcommand c.in_ok-picture.picture m r))
-    (λ r. app_of r ≡ overlay_command)
-    (λ r adds. with_command_more _ _ _ _ _ adds c.graph_command.ensures four refl) c.with_command-5.ensures
+    IfOk-weaker c.with_commands.result _ (λ r. app_of r ≡ overlay_command)
+    (λ r is. below_equal _ _ _ (table c) is c.in_ok-none.ensures) c.with_commands.ensures

@@ -9,7 +9,8 @@ use Rattle.ov_arguments.proofs.clap_commands_and_help.with_arguments.Goals as go
 pub loop-row-init : goal.loop-row-init
 loop-row-init c =
     ap (λ app. with_options app c.args.options.now)
-    (with_one_more _ _ _ _ _ c.in_ok-command.ensures c.file_argument.ensures.local refl c.file_argument.ensures.rule)
+    (with_one_more _ _ _ _ _ c.in_ok-command.ensures c.file_argument.ensures.local c.named.ensures
+    c.file_argument.ensures.rule)
 
 pub loop-row-preserved : goal.loop-row-preserved
 loop-row-preserved c =
