@@ -71,7 +71,8 @@ pub struct RunRequest {
 pub struct AnalysisRequest {
     /// The members of the group. Without it, all nodes are the group, unless a list of members is given.
     pub group: Option<Vec<NodeId>>,
-    /// The list of the members of the group, if it is read later: beside `names` alone, or `@` and the file that has it.
+    /// The list of the members of the group, if it is read later: beside `names` alone, or `@` and the file that has
+    /// it.
     pub group_list: Option<String>,
     /// The list of the nodes that are gone, or `@` and the file that has it.
     pub gone: Option<String>,

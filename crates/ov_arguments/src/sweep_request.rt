@@ -95,7 +95,8 @@ impl SweepRequest {
         self.len() == 0
     }
 
-    /// Whether one of the further options is asked for: --sequential, --sender or --detect. Rows have their columns then.
+    /// Whether one of the further options is asked for: --sequential, --sender or --detect. Rows have their columns
+    /// then.
     pub fn asks_further(&self) -> bool {
         self.settings.asks_further()
     }
@@ -126,8 +127,8 @@ impl SweepRequest {
 }
 
 /// Reads the words after `overlay sweep`: each option at most once, `--NAME VALUE` or `--NAME=VALUE`. Every option of
-/// growing but --seed, --crash-cut, --sequential and --detect takes a list, with one comma between two values. An option
-/// that is not given has its default alone.
+/// growing but --seed, --crash-cut, --sequential and --detect takes a list, with one comma between two values. An
+/// option that is not given has its default alone.
 ///
 /// BadArguments (73): a word is no option or not what its option takes, an option is given twice, two options exclude
 /// each other (--list and --summary, --at-most-split, --svg or --messages, --read and what grows, --costs, --shape or

@@ -46,8 +46,8 @@ fn hundred_tip(alloc: Global, name: &str, text: &str) -> Result<String, AllocErr
     }
 }
 
-/// A line `tip: ..` with a list of numbers that was given in these parts, where it has spaces, semicolons or a comma too
-/// many. It is empty if no such list may be meant.
+/// A line `tip: ..` with a list of numbers that was given in these parts, where it has spaces, semicolons or a comma
+/// too many. It is empty if no such list may be meant.
 pub(crate) fn list_tip(alloc: Global, parts: &[&str]) -> Result<String, AllocError> {
     let mut given = String::new(alloc);
     for part in parts {
@@ -118,7 +118,8 @@ fn whole_percent(text: &str) -> Option<u64> {
     text.strip_suffix("%")?.parse::<u64>().ok()
 }
 
-/// The whole numbers below and above a fraction that is more than 1, as 1.5, if an option that counts in 100 takes both.
+/// The whole numbers below and above a fraction that is more than 1, as 1.5, if an option that counts in 100 takes
+/// both.
 fn whole_beside(text: &str) -> Option<(u64, u64)> {
     let (whole, digits) = text.split_once(".")?;
     let below = whole.parse::<u64>().ok()?;
