@@ -6,15 +6,15 @@ ghost use Rattle.ov_net.specs.declared.planned_effects.NodeChange.TheVariants.{F
 
 use crate::boxed_plan::BoxedPlan;
 use crate::member::Member;
+use indexmap::IndexMap;
 use ov_ids::{NodeId, OutOfMemory};
 use std::alloc::Global;
-use std::collections::BTreeMap;
 use std::marker::Model;
 
 /// The nodes that were born. Contracts see them as a finite map from ids.
 #[derive(Drop)]
 pub(crate) struct Nodes {
-    members: BTreeMap<NodeId, Member>,
+    members: IndexMap<NodeId, Member>,
 }
 
 impl Model for Nodes {
@@ -37,7 +37,7 @@ impl Nodes {
         ensures { result ≡ map.empty }
     {
         Nodes {
-            members: BTreeMap::new(alloc),
+            members: IndexMap::new(alloc),
         }
     }
 
@@ -48,10 +48,17 @@ impl Nodes {
         self.members.len()
     }
 
-    /// The node with this id, if it was born.
+    /// The node with this id, if it was born. Ids often count births, from 1 on, so the node at that place is looked at
+    /// first.
     pub(crate) fn get(&self, id: NodeId) -> Option<&Member>
         ensures { option_copied result ≡ map.get self.now id }
     {
+        let guess = id.number().saturating_sub(1) as usize;
+        if let Some((born, member)) = self.members.get_index(guess) {
+            if *born == id {
+                return Some(member);
+            }
+        }
         self.members.get(&id)
     }
 
