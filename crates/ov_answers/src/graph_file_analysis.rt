@@ -25,6 +25,8 @@ use std::thread::Threads;
 /// no graph, and Read (71) if the reader failed in this call. Write (72) is returned if the writer failed in this call,
 /// and then a prefix of the text was written. With any other fault nothing was written. OutOfMemory (99) is returned if
 /// an allocation was refused. The numbers and the form of what is printed are chosen here.
+///
+/// Each certificate that was written keeps its memory until the process ends.
 pub fn analyse_file<T: Threads + Sync, R: Read, W: Write, P: Watcher>(
     rt: &T,
     alloc: Global,
