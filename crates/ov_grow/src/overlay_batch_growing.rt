@@ -1,7 +1,8 @@
-ghost use Rattle.std.specs.Prelude.{◌≡◌, ◌<◌, length, IfOk};
-ghost use Rattle.ov_ids.specs.Workers.{MayWork};
+ghost use Rattle.std.specs.Prelude.{◌<◌, length, List, IfOk};
+ghost use Rattle.ov_grow_options.specs.declared.options.GrowOptions.{GrowOptions as grow_options};
 ghost use Rattle.ov_grow.specs.Sweeps.{AreRowsOf, IsOutcomeAt};
-ghost use Rattle.ov_grow.specs.Code.Shares.{AreSharesOf, IsShareOf};
+ghost use Rattle.ov_grow.specs.Code.Shares.{AreDone, AreShares};
+ghost use Rattle.ov_sweep_rows.specs.declared.costs_and_shape.Measures.{Measures as measured};
 
 use crate::fault::GrowFault;
 use crate::sweep_row_making::row_of;
@@ -9,6 +10,7 @@ use ov_grow_options::GrowOptions;
 use ov_ids::{OutOfMemory, Workers};
 use ov_sweep_rows::{Measures, Row};
 use std::alloc::Global;
+use std::sync::atomic::{AtomicUsize, Ordering};
 use std::thread::{self, Threads};
 
 /// A run that was refused.
@@ -32,9 +34,12 @@ pub struct GrownBatch {
 /// The row of a run, or why growing was refused.
 type Outcome = Result<Row, GrowFault>;
 
-/// Grows an overlay with each of these options, and measures what is asked for. The workers share the runs out, and
-/// each does one after the other. The rows are in the order of the options, by any number of workers. They end before
-/// the first run that was refused. OutOfMemory (99) if an allocation was refused that is no run's.
+/// A run that was done: its place in the batch, and what came of it.
+type Done = (usize, Outcome);
+
+/// Grows an overlay with each of these options, and measures what is asked for. Each worker does the next run that no
+/// other has begun, until there is none. The rows are in the order of the options, by any number of workers. They end
+/// before the first run that was refused. OutOfMemory (99) if an allocation was refused that is no run's.
 pub fn grow_batch<R: Threads + Sync>(
     rt: &R,
     alloc: Global,
@@ -44,33 +49,32 @@ pub fn grow_batch<R: Threads + Sync>(
 ) -> Result<GrownBatch, OutOfMemory>
     ensures { IfOk result (λ grown. AreRowsOf measures batch.now grown.rows.items grown.refused) }
 {
-    let apart = workers.count() as usize;
-    let work = |first: usize| -> Result<Vec<Outcome>, OutOfMemory>
-        requires { MayWork apart }
-        ensures { IfOk result (λ share. IsShareOf measures batch.entry.now first apart share.items) }
-    { share_of(alloc, batch, measures, first, apart) };
-    let shares = thread::map_indices(rt, alloc, apart, &work)?;
-    put_together(alloc, batch, measures, &shares)
+    let next = AtomicUsize::new(0);
+    let work = |_worker: usize| -> Result<Vec<Done>, OutOfMemory>
+        ensures { IfOk result (λ done. AreDone measures batch.entry.now done.items) }
+    { do_runs(alloc, batch, measures, &next) };
+    let shares = thread::map_indices(rt, alloc, workers.count() as usize, &work)?;
+    put_together(alloc, batch, measures, shares)
 }
 
-/// What comes of the runs that lie so many places apart, from this one on.
-fn share_of(
+/// Does runs of the batch: always the next one that nobody has begun.
+fn do_runs(
     alloc: Global,
     batch: &[GrowOptions],
     measures: Measures,
-    first: usize,
-    apart: usize,
-) -> Result<Vec<Outcome>, OutOfMemory>
-    requires { MayWork apart }
-    ensures { IfOk result (λ share. IsShareOf measures batch.now first apart share.items) }
+    next: &AtomicUsize,
+) -> Result<Vec<Done>, OutOfMemory>
+    ensures { IfOk result (λ done. AreDone measures batch.now done.items) }
 {
-    let mut share = Vec::new(alloc);
-    let mut place = first;
-    while place < batch.len() {
-        share.push(row_of(alloc, &batch[place], measures))?;
-        place += apart;
+    let mut done = Vec::new(alloc);
+    for _ in 0..batch.len() {
+        let place = next.fetch_add(1, Ordering::Relaxed);
+        if place >= batch.len() {
+            return Ok(done);
+        }
+        done.push((place, row_of(alloc, &batch[place], measures)))?;
     }
-    Ok(share)
+    Ok(done)
 }
 
 /// The rows of all shares, in the order of the batch.
@@ -78,15 +82,16 @@ fn put_together(
     alloc: Global,
     batch: &[GrowOptions],
     measures: Measures,
-    shares: &[Result<Vec<Outcome>, OutOfMemory>],
+    shares: Vec<Result<Vec<Done>, OutOfMemory>>,
 ) -> Result<GrownBatch, OutOfMemory>
-    requires some { 0 < length shares.now }
-    requires shares { AreSharesOf measures batch.now shares.now }
+    requires { AreShares measures batch.now shares.items }
     ensures { IfOk result (λ grown. AreRowsOf measures batch.now grown.rows.items grown.refused) }
 {
+    let mut done = gathered(alloc, shares)?;
+    done.sort_unstable_by_key(|run: &Done| run.0);
     let mut rows = Vec::with_capacity(alloc, batch.len())?;
     for place in 0..batch.len() {
-        match outcome_at(batch, measures, shares, place)? {
+        match outcome_at(alloc, batch, measures, &done, place) {
             Ok(row) => rows.push(row)?,
             Err(fault) => {
                 let options = batch[place];
@@ -101,21 +106,40 @@ fn put_together(
     })
 }
 
-/// What came of the run at a place of the batch, or out of memory if its worker was.
+/// The runs of all shares. Faults: out of memory, if a worker is out of memory.
+fn gathered(
+    alloc: Global,
+    shares: Vec<Result<Vec<Done>, OutOfMemory>>,
+) -> Result<Vec<Done>, OutOfMemory>
+    ensures { (m : measured) (batch : List grow_options) → AreShares m batch shares.items
+        → IfOk result (λ all. AreDone m batch all.items) }
+{
+    let mut all = Vec::new(alloc);
+    for share in shares {
+        let mut share = share?;
+        all.append(&mut share)?;
+    }
+    Ok(all)
+}
+
+/// What came of the run at a place of the batch. It is that of the run at this place of those that were done, which are
+/// in the order of the batch. No contract says that a counter gives each number, so a run that was not done is done
+/// here.
 fn outcome_at(
+    alloc: Global,
     batch: &[GrowOptions],
     measures: Measures,
-    shares: &[Result<Vec<Outcome>, OutOfMemory>],
+    done: &[Done],
     place: usize,
-) -> Result<Outcome, OutOfMemory>
-    requires some { 0 < length shares.now }
-    requires shares { AreSharesOf measures batch.now shares.now }
+) -> Outcome
+    requires done { AreDone measures batch.now done.now }
     requires place { place < length batch.now }
-    ensures { IfOk result (λ outcome. IsOutcomeAt measures batch.now place outcome) }
+    ensures { IsOutcomeAt measures batch.now place result }
 {
-    let _batch = batch;
-    match &shares[place % shares.len()] {
-        Ok(share) => Ok(share[place / shares.len()]),
-        Err(_) => Err(OutOfMemory),
+    if let Some((at, outcome)) = done.get(place) {
+        if *at == place {
+            return *outcome;
+        }
     }
+    row_of(alloc, &batch[place], measures)
 }

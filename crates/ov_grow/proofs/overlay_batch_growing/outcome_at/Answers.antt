@@ -1,27 +1,25 @@
--- The outcome at a place is in the share of one worker.
-use Rattle.std.proofs.Common.{◌/◌, length, refl, arith, rules}
+-- What came of the run that was done, or comes of it here.
+use Rattle.std.proofs.Common.{ℕ, length, refl, subst}
 use Rattle.std.proofs.lemmas.Option.{slice_get_read}
-use Rattle.ov_grow.proofs.Sharing.{has_outcome, outcome_there, outcome_is}
+use Rattle.ov_grow.specs.Sweeps.{IsOutcomeAt}
+use Rattle.ov_grow.specs.Code.Shares.{IsDone}
+use Rattle.ov_grow.proofs.Sharing.{all_at}
 use Rattle.ov_grow.proofs.overlay_batch_growing.outcome_at.Goals as goal
 
-pub index-requires : goal.index-requires
-index-requires c =
-    let shares = c.args.shares.now in
-    let is = has_outcome c.args.measures c.args.batch.now shares c.args.place c.in-Ok.share c.requires.shares
-    c.requires.some
-    c.requires.place (search rules) in
-    let there = outcome_there c.args.measures c.args.batch.now (length shares) c.args.place c.in-Ok.share.items is
-    c.requires.place in
-    let len = c.in-Ok.share.ok.0 in
-    omega (arith, there, len)
+pub returns-then-at-place : goal.returns-then-at-place
+returns-then-at-place c =
+    let m = c.args.measures in
+    let batch = c.args.batch.now in
+    let run = c.in-Some.field-0.now in
+    let done = c.args.done.now in
+    let look = c.in-Some.ensures.lookup in
+    let at = slice_get_read done (length done) c.args.place run refl look.3.0 look.1 in
+    subst (λ (n : ℕ). IsOutcomeAt m batch n run.1) c.if-at-place.true
+    (all_at (IsDone m batch) done c.args.place run c.requires.done at)
 
-pub returns-in-Ok : goal.returns-in-Ok
-returns-in-Ok c =
-    let shares = c.args.shares.now in
-    let is = has_outcome c.args.measures c.args.batch.now shares c.args.place c.in-Ok.share c.requires.shares
-    c.requires.some
-    c.requires.place (search rules) in
-    let items = c.in-Ok.share.items in
-    let there = outcome_there c.args.measures c.args.batch.now (length shares) c.args.place items is c.requires.place in
-    outcome_is c.args.measures c.args.batch.now (length shares) c.args.place items c.index.result.now is
-    (slice_get_read items (length items) (c.args.place / length shares) c.index.result.now refl there c.index.ensures)
+pub returns : goal.returns
+returns c =
+    let batch = c.args.batch.now in
+    let read = slice_get_read batch (length batch) c.args.place c.index-batch-place.result refl c.requires.place
+    c.index-batch-place.is in
+    (c.index-batch-place.result, read, c.row_of.ensures.row, c.row_of.ensures.refused)

@@ -1,10 +1,21 @@
 -- One row more, or the run that was refused.
-use Rattle.std.proofs.Common.{◌≡◌, ◌∷◌, [], ℕ, Some, arith, length, length-append, refl, rules, slice_get, subst, sym}
+use Rattle.std.proofs.Common.{◌≡◌, ◌∷◌, [], ℕ, List, Some, arith, length, length-append, refl, rules, slice_get, subst, sym}
 use Rattle.std.proofs.lemmas.Option.{slice_get_read}
 use Rattle.ov_grow.specs.Sweeps.{IsOutcomeAt}
-use Rattle.ov_grow.specs.Code.Shares.{Outcome}
+use Rattle.std.specs.Prelude.{IfOk}
+use Rattle.std.proofs.lemmas.List.Sorted.{All-permutation}
+use Rattle.ov_grow.specs.Code.Shares.{AreDone, Done, IsDone, Outcome, Share}
 use Rattle.ov_grow.proofs.Sharing.{refused_here, row_more}
 use Rattle.ov_grow.proofs.overlay_batch_growing.put_together.Goals as goal
+
+pub outcome_at-requires-clause-done : goal.outcome_at-requires-clause-done
+outcome_at-requires-clause-done c =
+    let m = c.args.measures in
+    let batch = c.args.batch.now in
+    let all = subst (λ (r : Share). IfOk r (λ v. AreDone m batch v.items)) c.in_ok-done.was
+    (c.gathered.ensures m batch c.requires) in
+    subst (λ (l : List Done). AreDone m batch l) (sym c.deref.ensures.value)
+    (All-permutation (IsDone m batch) _ _ c.sort_unstable_by_key.ensures.permutation all)
 
 pub loop-place-preserved : goal.loop-place-preserved
 loop-place-preserved c =
@@ -31,6 +42,6 @@ returns-in-Err c =
         subst (λ (n : ℕ). slice_get batch n ≡ Some c.index-batch-place.result) (sym i.count) read,
         refused_here c.args.measures batch c.loop-place.place c.index-batch-place.result c.in-Err.fault read
             (subst (λ (x : Outcome). IsOutcomeAt c.args.measures batch c.loop-place.place x) c.in-Err.is
-            c.in_ok-row.ensures),
+            c.outcome_at.ensures),
       );
     }
