@@ -44,7 +44,7 @@ def run(words, output):
 
 
 def lines_before(file):
-    """The lines of a file before its certificate, which is left to be read."""
+    """The lines of a file before its certificate, which is left to be read; long ones in pieces."""
     file.seek(0)
     before = []
     while not (line := file.readline(1 << 10)).startswith(b"{"):
@@ -89,11 +89,11 @@ def least(runs):
 
 def copy_certificate(file, to):
     """Copies the certificate in a file. The first line before it, which is the report."""
-    report, *_ = lines_before(file)
+    report, end, _ = b"".join(lines_before(file)).partition(b"\n")
     while block := file.read(BLOCK):
         to.write(block)
     to.flush()
-    return report.decode()
+    return (report + end).decode()
 
 
 def judged(command, certificate, asked, times):

@@ -5,9 +5,10 @@ long `overlay sweep` takes by 1, 2 and 4 workers.
 With --before an earlier build of overlay grows the same overlays by as many workers, and with --simulate the simulator
 of bench/study does, by one process. All take turns in each round. It prints a line for each program and each number of
 workers: the median seconds that passed, the least and the most, the median seconds of the processors, and the peak of
-memory; then what is to be compared. It ends with status 1 where two builds of overlay print different rows, by however
-many workers; the columns of an earlier build may be fewer, and what it prints must be as long. The programs should be
-the proved ones; the machine should do nothing else.
+memory; then what is to be compared, by the medians, by the least, and round by round: neighbours on a shared machine
+slow a program down by up to a half, and not all programs alike. It ends with status 1 where two builds of overlay print
+different rows, by however many workers; the columns of an earlier build may be fewer, and what it prints must be as
+long. The programs should be the proved ones; the machine should do nothing else.
 """
 
 import argparse
@@ -44,8 +45,10 @@ def commands(given):
 def print_ratio(taken, what, one, other, of):
     """Prints what one took of what another took: of the seconds, or of those of the processors."""
     if one in taken and other in taken:
-        a, b = (statistics.median(run[of] for run in taken[it]) for it in (one, other))
-        print(f"{what}: {a / b:.2f}")
+        a, b = ([run[of] for run in taken[it]] for it in (one, other))
+        rounds = statistics.median(x / y for x, y in zip(a, b))
+        medians = statistics.median(a) / statistics.median(b)
+        print(f"{what}: of the medians {medians:.2f}, of the least {min(a) / min(b):.2f}, median of the rounds {rounds:.2f}")
 
 
 def main():
