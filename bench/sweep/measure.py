@@ -47,8 +47,8 @@ def print_ratio(taken, what, one, other, of):
     if one in taken and other in taken:
         a, b = ([run[of] for run in taken[it]] for it in (one, other))
         rounds = statistics.median(x / y for x, y in zip(a, b))
-        medians = statistics.median(a) / statistics.median(b)
-        print(f"{what}: of the medians {medians:.2f}, of the least {min(a) / min(b):.2f}, median of the rounds {rounds:.2f}")
+        medians, leasts = statistics.median(a) / statistics.median(b), min(a) / min(b)
+        print(f"{what}: of the medians {medians:.2f}, of the least {leasts:.2f}, median of the rounds {rounds:.2f}")
 
 
 def main():
