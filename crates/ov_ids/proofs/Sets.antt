@@ -1,6 +1,7 @@
 -- The members of a set after a change, and their places.
 use Rattle.std.proofs.Common.{subst, ap, zero, ◌≡◌, ◌≢◌, ◌↔◌, ℕ, suc, ◌<◌, ◌≤◌, ◌+◌, Bool, true, false, cond, not}
 use Rattle.std.proofs.Common.{IsTrue, ◌||◌, ◌&&◌, eqb, ltb, List, [], ◌∷◌, length, get_or, refl, inl, inr, sym, ◌∙◌}
+use Rattle.std.proofs.Common.{◌-◌}
 use Rattle.std.proofs.Common.{◌⊎◌, arith}
 use Rattle.std.specs.Prelude.{insert, remove, slice_index, if◌then◌else◌}
 use Rattle.std.specs.List.{AllByRecursion}
@@ -274,3 +275,129 @@ all_below_first x (y ∷ t) s =
           (none_below x t (All-map (λ z. y < z) (λ z. x ≤ z) (λ z r. omega arith) t s.0))
       | inr (inr more) ↦ rw (lt-ltb y x more) (ap suc (all_below_first x t s.1))
     ]
+
+-- more ids are below a greater one
+pub count_below_more : (x o : ℕ) (t : List ℕ) → x ≤ o → count_below x t ≤ count_below o t
+count_below_more x o [] le = omega arith
+count_below_more x o (y ∷ t) le =
+    count_below_cases x y t (λ i. i ≤ count_below o (y ∷ t))
+    (λ below. rw (lt-ltb y o (omega arith)) (omega (arith, count_below_more x o t le)))
+    (λ above. omega arith)
+
+-- no member of a set is below its first
+not_before : (o y : ℕ) (t : List ℕ) → IsSet (y ∷ t) → o < y → has (y ∷ t) o ≡ false
+not_before o y t s less =
+    has_below_all o (y ∷ t) (less, All-map (λ z. y < z) (λ z. o < z) (λ z r. omega arith) t s.0)
+
+-- a member has its place before that of a greater id
+pub count_below_less : (x o : ℕ) (t : List ℕ) → IsSet t → has t o ≡ true → o < x → count_below o t < count_below x t
+count_below_less x o [] s h l = absurd (both_ways false refl h)
+count_below_less x o (y ∷ t) s h l =
+    elim (cases_order o y) [
+      | inl same ↦ rw (le-ltb y o (omega arith), lt-ltb y x (omega arith)) (omega arith)
+      | inr (inl less) ↦ absurd (both_ways _ (not_before o y t s less) h)
+      | inr (inr more) ↦ rw (lt-ltb y o more, lt-ltb y x (omega arith))
+          (omega (arith, count_below_less x o t s.1 (rw (ne_eqb y o (omega arith)) at h) l))
+    ]
+
+-- a member is below an id if its place is, and not if it is not
+pub less_by_place : (x o : ℕ) (t : List ℕ) → count_below o t < count_below x t → o < x
+less_by_place x o t l =
+    elim (cases_order o x) [
+      | inl same ↦ absurd (omega (arith, l, count_below_more x o t (omega arith)))
+      | inr (inl less) ↦ less
+      | inr (inr more) ↦ absurd (omega (arith, l, count_below_more x o t (omega arith)))
+    ]
+
+pub more_by_place : (x o : ℕ) (t : List ℕ) → IsSet t → has t o ≡ true → count_below x t ≤ count_below o t → x ≤ o
+more_by_place x o t s h l =
+    elim (cases_order o x) [
+      | inl same ↦ omega arith
+      | inr (inl less) ↦ absurd (omega (arith, l, count_below_less x o t s h less))
+      | inr (inr more) ↦ omega arith
+    ]
+
+-- a set without a member has its other members, each after it one place lower
+without_first : (o y : ℕ) (t : List ℕ) → IsSet (y ∷ t) → o ≡ y → without o t ≡ t
+without_first o y t s same = without_absent o t (rw same (has_below_all y t s.0))
+
+pub count_below-without_less : (x o : ℕ) (t : List ℕ) → IsSet t → has t o ≡ true → o < x
+    → count_below x (without o t) + 1 ≡ count_below x t
+count_below-without_less x o [] s h l = absurd (both_ways false refl h)
+count_below-without_less x o (y ∷ t) s h l =
+    elim (cases_order o y) [
+      | inl same ↦ rw (eq-eqb y o (omega arith), lt-ltb y x (omega arith))
+          (omega (arith, ap (count_below x) (without_first o y t s same)))
+      | inr (inl less) ↦ absurd (both_ways _ (not_before o y t s less) h)
+      | inr (inr more) ↦ rw (ne_eqb y o (omega arith), lt-ltb y x (omega arith))
+          (omega (arith, count_below-without_less x o t s.1 (rw (ne_eqb y o (omega arith)) at h) l))
+    ]
+
+pub count_below-without_more : (x o : ℕ) (t : List ℕ) → IsSet t → has t o ≡ true → x ≤ o
+    → count_below x (without o t) ≡ count_below x t
+count_below-without_more x o [] s h l = refl
+count_below-without_more x o (y ∷ t) s h l =
+    elim (cases_order o y) [
+      | inl same ↦ rw (eq-eqb y o (omega arith), le-ltb y x (omega arith))
+          (ap (count_below x) (without_first o y t s same) ∙ sym (all_below_first x t s.1)
+          ∙ none_below x t (All-map (λ z. y < z) (λ z. x ≤ z) (λ z r. omega arith) t s.0))
+      | inr (inl less) ↦ absurd (both_ways _ (not_before o y t s less) h)
+      | inr (inr more) ↦ rw (ne_eqb y o (omega arith))
+          (ap (λ n. cond (ltb y x) (suc n) 0)
+          (count_below-without_more x o t s.1 (rw (ne_eqb y o (omega arith)) at h) l))
+    ]
+
+-- a member goes out for an id that is none
+replaced_at : (x o : ℕ) (t : List ℕ) → IsSet t → has t x ≡ false → has t o ≡ true
+    → adding x (without o t) ≡ insert (remove t (count_below o t)) (count_below x (without o t)) x
+replaced_at x o t s e h =
+    adding_absent x (without o t) (has_without o t x ∙ ap (λ b. b && not (eqb o x)) e)
+    ∙ ap (λ l. insert l (count_below x (without o t)) x) (without_present o t s h)
+
+pub replaced_less : (x o : ℕ) (t : List ℕ) → IsSet t → has t x ≡ false → has t o ≡ true
+    → count_below o t < count_below x t
+    → adding x (without o t) ≡ insert (remove t (count_below o t)) (count_below x t - 1) x
+replaced_less x o t s e h p =
+    let l : o < x = less_by_place x o t p in
+    let place : count_below x (without o t) ≡ count_below x t - 1 =
+    omega (arith, count_below-without_less x o t s h l) in
+    replaced_at x o t s e h ∙ ap (λ i. insert (remove t (count_below o t)) i x) place
+
+pub replaced_more : (x o : ℕ) (t : List ℕ) → IsSet t → has t x ≡ false → has t o ≡ true
+    → count_below x t ≤ count_below o t
+    → adding x (without o t) ≡ insert (remove t (count_below o t)) (count_below x t) x
+replaced_more x o t s e h p =
+    let l : x ≤ o = more_by_place x o t s h p in
+    replaced_at x o t s e h
+    ∙ ap (λ i. insert (remove t (count_below o t)) i x) (count_below-without_more x o t s h l)
+
+pub IsSet-replacing : (x o : ℕ) (t : List ℕ) → IsSet t → IsSet (adding x (without o t))
+IsSet-replacing x o t s = IsSet-adding x (without o t) (IsSet-without o t s)
+
+pub members_replacing : (x o : ℕ) (t u : List ℕ) → u ≡ adding x (without o t)
+    → (z : ℕ) → IsIn u z ↔ ((z ≡ x) ⊎ ((z ≢ o) × IsIn t z))
+members_replacing x o t u e z =
+    let out = members_without o t (without o t) refl z in
+    let into = members_adding x (without o t) u e z in (
+      (λ h. elim (into.0 h) [ inl same ↦ inl same | inr k ↦ inr (out.0 k) ]),
+      (λ h. into.1 (elim h [ inl same ↦ inl same | inr k ↦ inr (out.1 k) ])),
+    )
+
+-- what holds of all items holds of the one at a place
+at_place : (P : ℕ → Type 0) (t : List ℕ) (i d : ℕ) → AllByRecursion P t → i < length t → P (get_or t i d)
+at_place P [] i d a l = absurd (omega (arith, l))
+at_place P (y ∷ t) zero d a l = a.0
+at_place P (y ∷ t) (suc i) d a l = at_place P t i d a.1 (omega (arith, l))
+
+-- as many members are below a member as its place says
+pub count_below_at : (t : List ℕ) (i d : ℕ) → IsSet t → i < length t → count_below (get_or t i d) t ≡ i
+count_below_at [] i d s l = absurd (omega (arith, l))
+count_below_at (y ∷ t) zero d s l = rw (le-ltb y y (omega arith))
+count_below_at (y ∷ t) (suc i) d s l =
+    let after : y < get_or t i d = at_place (λ z. y < z) t i d s.0 (omega (arith, l)) in
+    rw (lt-ltb y (get_or t i d) after) (ap suc (count_below_at t i d s.1 (omega (arith, l))))
+
+-- the set without the member at a place
+pub without_at : (t : List ℕ) (i d : ℕ) → IsSet t → i < length t → without (get_or t i d) t ≡ remove t i
+without_at t i d s l =
+    without_present (get_or t i d) t s (IsIn-get_or t i d l) ∙ ap (remove t) (count_below_at t i d s l)

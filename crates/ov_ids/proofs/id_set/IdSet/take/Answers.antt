@@ -1,7 +1,7 @@
 use Rattle.std.proofs.Common.{◌<◌, length, sym, ◌∙◌, subst, rules}
 use Rattle.ov_ids.specs.Sets.{IsSet}
 use Rattle.ov_ids.proofs.Sets.{count_below-lt-length, IsSet-without, without_present, without_absent, members_without}
-use Rattle.ov_ids.proofs.id_set.IdSet.remove.Goals as goal
+use Rattle.ov_ids.proofs.id_set.IdSet.take.Goals as goal
 
 pub remove_at-requires : goal.remove_at-requires
 remove_at-requires c =
