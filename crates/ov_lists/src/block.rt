@@ -7,7 +7,7 @@ use std::alloc::Global;
 use std::marker::Model;
 
 /// How many items a block has room for. (Chosen here.)
-pub const BLOCK: usize = 256;
+pub const BLOCK: usize = 128;
 
 /// Some items of a list, in order, at most `BLOCK`. Contracts see them, and for how many items the block has memory in
 /// all, where memory for more than `BLOCK` does not count.

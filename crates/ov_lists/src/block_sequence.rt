@@ -10,7 +10,7 @@ use std::alloc::Global;
 use std::mem::replace;
 
 /// Neighbours are joined if both together have at most this many items.
-const JOINED: usize = BLOCK / 2;
+const JOINED: usize = BLOCK - 1;
 
 /// The block in which the item at the place is, and its place there.
 pub fn find<T>(blocks: &[Block<T>], place: usize) -> (usize, usize)

@@ -4,7 +4,7 @@ use Rattle.std.specs.List.{flat_map}
 
 -- how many items a block has room for
 abbrev pub block_size : ℕ
-block_size = 256
+block_size = 128
 
 -- the items of a block in order, and for how many items it has memory in all
 pub record Filled (T : Type 0) : Type 0 where

@@ -5,7 +5,7 @@ use Rattle.ov_lists.specs.Code.Blocks.{Filled, block_size}
 
 -- neighbours are joined if both together have at most this many items
 abbrev pub most_joined : ℕ
-most_joined = 128
+most_joined = 127
 
 -- how many items each block has
 abbrev pub sizes : {T : Type 0} → List (Filled T) → List ℕ
