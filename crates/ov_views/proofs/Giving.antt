@@ -1,7 +1,13 @@
 -- The walk through the list of the last shuffle.
 use Rattle.std.proofs.Common.{◌≡◌, ℕ, false, List, [], ◌∷◌, ◌++◌, refl, sym, ap, ◌∙◌, subst, inl, inr, append_assoc}
 use Rattle.std.proofs.Common.{append-nil}
+use Rattle.std.proofs.Common.{true, ◌||◌}
 use Rattle.std.proofs.lemmas.Bool.{both_ways}
+use Rattle.ov_ids.specs.Sets.{IsSet, adding}
+use Rattle.ov_ids.proofs.Sets.{adding_present}
+use Rattle.ov_ids.proofs.Cases.{where_true, where_false}
+use Rattle.ov_views.specs.ViewsState.{ViewsState, has_passive_place, is_close, is_known}
+use Rattle.ov_views.specs.Sampling.{TakesIn}
 use Rattle.ov_ids.specs.Members.{Has, IsApart}
 use Rattle.ov_ids.specs.Sets.{has}
 use Rattle.ov_ids.proofs.Members.{has_tested, has_append_cases}
@@ -32,3 +38,19 @@ pub none_left : (passive sent left : List ℕ) → ((passed : List ℕ) × IsApa
 none_left passive sent left s e =
     let all : sent ≡ s.0 = s.2 ∙ ap (λ l. s.0 ++ l) e ∙ append-nil s.0 in
     subst (IsApart passive) (sym all) s.1
+
+-- an id that is not close is taken in where there is room, and if it is passive already, nothing changes
+pub taken_with_room : (v : ViewsState) (x : ℕ) (sent : List ℕ) → IsSet v.passive → is_close v x ≡ false →
+    has_passive_place v ≡ true → TakesIn v x sent [] (record v { passive = adding x v.passive }) sent
+taken_with_room v x sent up far room =
+    elim (has v.passive x) as (λ b. has v.passive x ≡ b →
+    TakesIn v x sent [] (record v { passive = adding x v.passive }) sent) [
+      | true ↦ λ e. where_true (is_known v x) _ _ (λ i. far i || e i)
+          ((refl, ap (λ p. record v { passive = p }) (adding_present x v.passive up e)), refl)
+      | false ↦ λ e. where_false (is_known v x) _ _ (λ i. far i || e i)
+          (where_true (has_passive_place v) _ _ room ((refl, refl), refl))
+    ] refl
+
+-- an id that is neither close nor passive is not known
+pub unknown : (v : ViewsState) (x : ℕ) → is_close v x ≡ false → has v.passive x ≡ false → is_known v x ≡ false
+unknown v x far out = λ i. far i || out i

@@ -3,7 +3,7 @@ ghost use Rattle.std.specs.Prelude.{◌==◌, ◌&&◌, not, IsTrue, IfSome, IfN
 ghost use Rattle.ov_ids.specs.Members.{Has};
 ghost use Rattle.ov_ids.specs.Sets.{IsSet, IsIn, has, without, without_all};
 ghost use Rattle.ov_words.specs.Pick.{AreDrawn, Drawn, Suffice, Choice};
-ghost use Rattle.ov_views.specs.ViewsState.{ViewsState, AreViews, has_place, is_close, is_known, members};
+ghost use Rattle.ov_views.specs.ViewsState.{ViewsState, AreViews, has_place, is_close, members};
 ghost use Rattle.ov_views.specs.Changes.{AddsPassive, DropsRandom, AddsActive, RemovesActive, Forgets};
 ghost use Rattle.ov_views.specs.Code.ChangeOrder.{in_order};
 ghost use Rattle.ov_views.specs.Sampling.{Samples, GivesUp, TakesIn, Integrates};
@@ -172,14 +172,6 @@ impl Views {
         id == self.me || self.active.contains(id)
     }
 
-    /// Whether the id is the node itself, active or passive.
-    fn is_known(&self, id: NodeId) -> bool
-        ensures known { result ≡ is_known self.now id }
-        ensures views { AreViews self.now }
-    {
-        id == self.me || self.active.contains(id) || self.passive.contains(id)
-    }
-
     /// Adds a node to the active view, unless it is the node itself or active already. The node leaves the passive
     /// view. If the active view is full, a random member is dropped first, as by `drop_random`. Returns which nodes
     /// went down and came up. At most two random words are used, and one must be left for each pick. (HyParView's
@@ -236,8 +228,7 @@ impl Views {
         ensures removed { RemovesActive self.old id self.new result }
         ensures few { length result ≤ 1 }
     {
-        let down = self.active.contains(id).then_some(id);
-        self.active.remove(id);
+        let down = self.active.take(id).then_some(id);
         Changes::new(down, None)
     }
 
@@ -286,16 +277,18 @@ impl Views {
             (λ choices. TakesIn self.old id sent.now choices self.new result.now) }
         ensures words { length draws.old ≤ length draws.new + 1 }
     {
-        if self.is_known(id) {
+        if self.is_close(id) {
             return sent;
         }
         if self.passive.len() < self.params.passive() {
             self.passive.insert(id);
             return sent;
         }
+        if self.passive.contains(id) {
+            return sent;
+        }
         let (out, left) = give_up(&self.passive, sent, draws);
-        self.passive.remove(out);
-        self.passive.insert(id);
+        self.passive.replace(out, id);
         left
     }
 
@@ -310,13 +303,8 @@ impl Views {
         let mut rest = self.set_of(view).copy();
         let mut picked = Sample::new();
         for _ in 0..count.min(rest.len()) {
-            match draws.pick(rest.as_slice()) {
-                Some(id) => {
-                    rest.remove(id);
-                    picked.push(id);
-                }
-                None => unreachable!(),
-            }
+            let place = draws.place(rest.len());
+            picked.push(rest.take_at(place));
         }
         picked
     }

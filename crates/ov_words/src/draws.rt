@@ -1,4 +1,4 @@
-ghost use Rattle.std.specs.Prelude.{◌≡◌, ◌≢◌, ◌<◌, ◌≤◌, ◌+◌, ◌++◌, ◌↔◌, [], ◌∷◌, length, IfNone, IfSome};
+ghost use Rattle.std.specs.Prelude.{◌≡◌, ◌≢◌, ◌<◌, ◌≤◌, ◌+◌, ◌++◌, ◌↔◌, ℕ, List, [], ◌∷◌, length, slice_get, Some, None, IfNone, IfSome};
 ghost use Rattle.rand_core.specs.Steps.{first_words};
 ghost use Rattle.rand_pcg.specs.Pcg.{pcg64};
 ghost use Rattle.ov_words.specs.Pick.{AreDrawn};
@@ -87,6 +87,18 @@ impl<'a> Draws<'a> {
                 self.generator.next_word()
             }
         }
+    }
+
+    /// Picks one of so many places by the next word, which is then used up: place `word % count`, counted from 0.
+    pub fn place(&mut self, count: usize) -> usize
+        requires some { 0 < count }
+        requires word { 0 < length self.old }
+        ensures within { result < count }
+        ensures drawn { (set : List ℕ) (d : ℕ) → length set ≡ count → slice_get set result ≡ Some d
+            → AreDrawn (record { from = set; member = d } ∷ []) self.old self.new }
+    {
+        let word = self.next();
+        (word % count as u64) as usize
     }
 
     /// Picks a member of a set by the next word, which is then used up: member number `word % size`, counted from 0, in
