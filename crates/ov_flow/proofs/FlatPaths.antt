@@ -1,7 +1,7 @@
 -- Paths, read from a flat list.
 use Rattle.std.proofs.Common.{◌≡◌, ◌∙◌, ℕ, ◌+◌, ◌-◌, ◌<◌, ◌≤◌, ◌==◌, inl, inr, List, [], ◌∷◌, ◌++◌, map, length, get_or}
 use Rattle.std.proofs.Common.{take, drop, reverse, cond, Bool, true, false, Some, None, refl, sym, ap, subst, arith}
-use Rattle.std.proofs.Common.{append_assoc, eq-eqb, ne_eqb}
+use Rattle.std.proofs.Common.{append_assoc, eq-eqb, ne_eqb, suc}
 use Rattle.std.proofs.lemmas.Bool.{cases_eq}
 use Rattle.std.proofs.lemmas.Grind.{common_steps}
 use Rattle.std.proofs.lemmas.List.{reverse-append, reverse-reverse, take_more, drop_more, drop_all, take-append-drop}
@@ -10,6 +10,7 @@ use Rattle.std.proofs.lemmas.List.Sums.{fails_before_first}
 use Rattle.std.specs.List.{position, position_or_len}
 use Rattle.ov_ids.specs.Members.{Has}
 use Rattle.ov_ids.proofs.Members.{place_of, place_in_take, has_append_cases}
+use Rattle.ov_flow.specs.Flow.{places_on}
 use Rattle.ov_flow.specs.Code.Flat.{paths_after, paths_in}
 use Rattle.ov_flow.proofs.Writing.{read_one}
 
@@ -135,3 +136,31 @@ has_reversed xs x h = has_reverse (reverse xs) x (subst (λ (l : List ℕ). Has 
 pub all_counted : (s : ℕ) (flat : List ℕ) (i : ℕ) → length flat ≤ i → length (paths_after s [] (drop i flat)) ≡ 0
 unfolding paths_after
 all_counted s flat i l = ap (λ (xs : List ℕ). length (paths_after s [] xs)) (drop_all i flat l)
+
+-- where the source is last, each place is on a path
+places_after : (s : ℕ) (ahead flat : List ℕ) (p : ℕ) → get_or (p ∷ flat) (length flat) 0 ≡ s
+    → places_on (paths_after s ahead (p ∷ flat)) ≡ length ahead + suc (length flat)
+unfolding paths_after
+places_after s ahead [] p e =
+    ap (λ (b : Bool). places_on (cond b ((s ∷ ahead) ∷ []) [])) (eq-eqb p s e) ∙ omega arith
+places_after s ahead (q ∷ flat) p e = elim (cases_eq p s) [
+  | inl same ↦
+      let rest = places_after s [] flat q e in
+      ap (λ (b : Bool). places_on (cond b ((s ∷ ahead) ∷ paths_after s [] (q ∷ flat))
+      (paths_after s (p ∷ ahead) (q ∷ flat)))) (eq-eqb p s same)
+      ∙ omega (arith, rest)
+  | inr ne ↦
+      let rest = places_after s (p ∷ ahead) flat q e in
+      ap (λ (b : Bool). places_on (cond b ((s ∷ ahead) ∷ paths_after s [] (q ∷ flat))
+      (paths_after s (p ∷ ahead) (q ∷ flat)))) (ne_eqb p s ne)
+      ∙ omega (arith, rest)
+]
+
+-- a flat list has the places of its paths, and no others
+pub places_in : (flat : List ℕ) → length flat ≡ places_on (paths_in flat)
+unfolding paths_in paths_after
+places_in [] = refl
+places_in (p ∷ flat) =
+    let all = places_after (get_or (p ∷ flat) (suc (length flat) - 1) 0) [] flat p
+    (ap (λ (i : ℕ). get_or (p ∷ flat) i 0) (omega arith)) in
+    omega (arith, all)

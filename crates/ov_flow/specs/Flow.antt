@@ -46,3 +46,8 @@ ArePlaces g paths = (path : List ℕ) → Has paths path → (p : ℕ) → Has p
 abbrev pub ended_by : Option ℕ → List ℕ → List ℕ
 ended_by None path = path
 ended_by (Some last) path = path ++ last ∷ []
+
+-- how many places all paths have together: the sum of their lengths
+abbrev pub places_on : List (List ℕ) → ℕ
+places_on [] = 0
+places_on (path ∷ paths) = length path + places_on paths

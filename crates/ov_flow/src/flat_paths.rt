@@ -1,13 +1,14 @@
-ghost use Rattle.std.specs.Prelude.{◌≡◌, ◌≢◌, ◌≤◌, ℕ, map, length, OnOk, IfOk};
+ghost use Rattle.std.specs.Prelude.{◌≡◌, ◌≢◌, ◌≤◌, ℕ, map, reverse, length, OnOk, IfOk};
 ghost use Rattle.ov_ids.specs.Members.{Has};
 ghost use Rattle.ov_graph.specs.Paths.{node_at};
 ghost use Rattle.ov_split.specs.SplitNetState.{IsFanOf};
-ghost use Rattle.ov_flow.specs.Flow.{ArePlaces, ended_by};
+ghost use Rattle.ov_flow.specs.Flow.{ArePlaces, ended_by, places_on};
 ghost use Rattle.ov_split.specs.Code.Residual.{AreHeld, IsFlow};
 ghost use Rattle.ov_split.specs.Places.{net_by_place};
 ghost use Rattle.ov_flow.specs.Code.Walked.{table_of, IsWritten};
 ghost use Rattle.ov_flow.specs.Code.Held.{IsReady};
 
+use crate::backward_paths::PathsBackwards;
 use crate::paths_out_of_flat_list::{count_paths, push_by_ids, source_in, split_path};
 use ov_graph::Graph;
 use ov_ids::{NodeId, OutOfMemory};
@@ -38,6 +39,20 @@ impl PlacePaths {
         ensures { result ≡ length self.now }
     {
         count_paths(&self.flat)
+    }
+
+    /// How many places all paths have together.
+    pub fn places(&self) -> usize
+        ensures { result ≡ places_on self.now }
+    {
+        self.flat.len()
+    }
+
+    /// The paths one after another, each as its places from its end back to the source.
+    pub fn backwards(&self) -> PathsBackwards<'_>
+        ensures { result ≡ map reverse self.now }
+    {
+        PathsBackwards::new(&self.flat)
     }
 
     /// The paths by ids, each from the source to its end, and then `last` if one is given. The time is linear in the

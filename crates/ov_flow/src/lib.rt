@@ -2,6 +2,7 @@
 #![tactic(auto)]
 
 mod augmenting_paths;
+mod backward_paths;
 mod flat_paths;
 mod flow;
 mod layered_walks;
@@ -15,6 +16,7 @@ mod search_tree;
 mod two_link_paths;
 mod walk_augmentation;
 
+pub use backward_paths::PathsBackwards;
 pub use flat_paths::PlacePaths;
 pub use flow::Flow;
 pub use search_result::{Augmentation, CutRows};

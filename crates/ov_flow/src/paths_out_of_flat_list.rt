@@ -35,6 +35,7 @@ pub(crate) fn count_paths(flat: &[u16]) -> usize
 }
 
 /// The first place of the source in a flat list.
+#[inline(always)]
 fn place_of(flat: &[u16], source: u16) -> Option<usize>
     ensures place { result ≡ position (λ p. p == source) flat.now }
     ensures within { IfSome result (λ i. i < length flat.now) }
@@ -43,6 +44,7 @@ fn place_of(flat: &[u16], source: u16) -> Option<usize>
 }
 
 /// The first path as it is written, and the rest of the flat list.
+#[inline(always)]
 pub(crate) fn split_path(flat: &[u16], source: u16) -> Option<(&[u16], &[u16])>
     ensures paths { MatchOption result (paths_after source [] flat.now ≡ []) (λ parts. paths_after source [] flat.now
         ≡ reverse parts.0.now ∷ paths_after source [] parts.1.now) }
