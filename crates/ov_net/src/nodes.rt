@@ -1,6 +1,7 @@
-ghost use Rattle.std.specs.Prelude.{◌≡◌, ◌≢◌, IsOk, OnOk, OnErr, None};
+ghost use Rattle.std.specs.Prelude.{◌≡◌, ◌≢◌, IsOk, OnOk, OnErr, None, Some, IfSome, is_some, nat_eq, slice_get};
 ghost use Rattle.std.specs.Option.{option_copied};
 ghost use Rattle.std.specs.FinMap as map;
+ghost use Rattle.indexmap.specs.IndexMap.{get, keys, values};
 ghost use Rattle.ov_net.specs.Code.Effects.{CanChange, NodeChanges};
 ghost use Rattle.ov_net.specs.declared.planned_effects.NodeChange.TheVariants.{Follows};
 
@@ -48,18 +49,31 @@ impl Nodes {
         self.members.len()
     }
 
-    /// The node with this id, if it was born. Ids often count births, from 1 on, so the node at that place is looked at
-    /// first.
+    /// The place of the node with this id, if it was born. Ids often count births, from 1 on, so the place that the id
+    /// then has is looked at first, and only then is the id hashed.
+    #[inline(always)]
+    fn place(members: &IndexMap<NodeId, Member>, id: NodeId) -> Option<usize>
+        ensures key { IfSome result (λ i. slice_get (keys members.now) i ≡ Some id) }
+        ensures value { IfSome result (λ i. slice_get (values members.now) i ≡ get nat_eq members.now id) }
+        ensures found { is_some result ≡ is_some (get nat_eq members.now id) }
+    {
+        let guess = id.number().saturating_sub(1) as usize;
+        if let Some((born, _)) = members.get_index(guess) {
+            if *born == id {
+                return Some(guess);
+            }
+        }
+        members.get_index_of(&id)
+    }
+
+    /// The node with this id, if it was born.
     pub(crate) fn get(&self, id: NodeId) -> Option<&Member>
         ensures { option_copied result ≡ map.get self.now id }
     {
-        let guess = id.number().saturating_sub(1) as usize;
-        if let Some((born, member)) = self.members.get_index(guess) {
-            if *born == id {
-                return Some(member);
-            }
+        match Nodes::place(&self.members, id) {
+            Some(place) => Some(&self.members[place]),
+            None => None,
         }
-        self.members.get(&id)
     }
 
     /// Has the live node with this id follow a plan, which is one for it. Out of memory, nothing changes.
@@ -69,8 +83,11 @@ impl Nodes {
         ensures ok { OnOk result (NodeChanges id (Follows plan) self.old self.new) }
         ensures err { OnErr result (self.new ≡ self.old) }
     {
-        match self.members.get_mut(&id) {
-            Some(member) => member.follow(plan),
+        match Nodes::place(&self.members, id) {
+            Some(place) => {
+                let (_, member) = self.members.pair_mut(place);
+                member.follow(plan)
+            }
             None => unreachable!(),
         }
     }
