@@ -2,7 +2,7 @@
 ghost use Rattle.std.specs.Prelude.{IfOk};
 ghost use Rattle.ov_graph.specs.Links.{IsGroup, AreAllLinked};
 ghost use Rattle.ov_even.specs.Answer.{IsAnalysed};
-ghost use Rattle.ov_even.specs.Hauls.{Suffice};
+ghost use Rattle.ov_even.specs.Hauls.{IsSettledGroup, Suffice};
 
 use crate::assembly::assemble_group;
 use crate::fault::AnalyseFault;
@@ -43,14 +43,28 @@ pub fn analyse_group_watched<W: Watcher>(
 ) -> Result<Checked, AnalyseFault>
     ensures analysed { IsAnalysed graph.now group.now result }
 {
+    let hauls = settle_group_watched(alloc, graph, group, watcher)?;
+    assemble_group(alloc, graph, group, &hauls)
+}
+
+/// Settles pieces of Even's test until they suffice for a certificate of the group: none if every two members are
+/// linked. The watcher sees each piece before it is settled. Faults, in this order: NoNodes (30), the graph has no node;
+/// BadGroup (34), the members are no group. OutOfMemory (99) is returned only if neither applies.
+pub fn settle_group_watched<W: Watcher>(
+    alloc: Global,
+    graph: &Graph,
+    group: &[NodeId],
+    watcher: &mut W,
+) -> Result<Vec<Haul>, AnalyseFault>
+    ensures settled { IsSettledGroup graph.now group.now result }
+{
     if graph.nodes().is_empty() {
         return Err(AnalyseFault::NoNodes);
     }
     if !graph.is_group(group) {
         return Err(AnalyseFault::BadGroup);
     }
-    let hauls = enough(alloc, graph, group, watcher)?;
-    assemble_group(alloc, graph, group, &hauls)
+    Ok(enough(alloc, graph, group, watcher)?)
 }
 
 /// Settles enough pieces for a certificate: none if every two members are linked.

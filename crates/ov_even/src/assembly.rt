@@ -135,7 +135,7 @@ fn split_cert(
 }
 
 /// The parts of a split: its number, the parting of the deciding piece, and the entries.
-fn split_of(
+pub(crate) fn split_of(
     alloc: Global,
     k: u32,
     parting: &Parting,

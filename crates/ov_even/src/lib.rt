@@ -18,6 +18,7 @@ mod level_path_slots;
 mod level_pieces;
 mod level_search;
 mod level_trying;
+mod outline_of_settled_pieces;
 mod paths_by_ids;
 mod paths_wanted_by_certificate;
 mod piece_in_hand;
@@ -27,7 +28,9 @@ mod progress_watcher;
 mod sound_desk_theorems;
 mod worker_haul;
 
-pub use analysis::{analyse_alone, analyse_group_alone, analyse_group_watched};
+pub use analysis::{
+    analyse_alone, analyse_group_alone, analyse_group_watched, settle_group_watched,
+};
 pub use assembly::{assemble, assemble_group, assemble_named};
 pub use certificate_without_paths::{linked_cert, outline_group_watched, outline_of};
 pub use cut_search::{CutSearch, CutSearched, PartedPiece};
@@ -37,6 +40,7 @@ pub use even_test_theorems::{
 pub use fault::AnalyseFault;
 pub use group_desk::GroupDesk;
 pub use level_search::{LevelSearch, Searched};
+pub use outline_of_settled_pieces::outline_of_hauls;
 pub use ov_fans::Piece;
 pub use paths_by_ids::{FoundPaths, NamedPaths, name_paths};
 pub use paths_wanted_by_certificate::wanted_paths;

@@ -1,7 +1,8 @@
 -- The hauls of the workers, and the certificate that is made from them.
 use Rattle.std.proofs.Common.{◌≡◌, ◌⊎◌, inl, inr, ℕ, ◌<◌, ◌+◌, ◌-◌, List, length, slice_get, Option, Some, None}
-use Rattle.std.proofs.Common.{refl, sym, ◌∙◌, subst, ap, arith, Box, Global}
-use Rattle.ov_graph.specs.Links.{LinkGraph, IsGraph, IsGroup, AreAllLinked}
+use Rattle.std.proofs.Common.{refl, sym, ◌∙◌, subst, ap, arith, Box, Global, Result, Ok, Err, IfErr}
+use Rattle.ov_ids.specs.FaultOrder.{IsRefusedBy}
+use Rattle.ov_graph.specs.Links.{LinkGraph, HasNode, IsGraph, IsGroup, AreAllLinked}
 use Rattle.ov_fans.specs.Pieces.{IsPiece, IsLinkedPair, level_of}
 use Rattle.ov_fans.specs.Cuts.{IsRight, IsFoundFor, AreRightPaths}
 use Rattle.ov_fans.specs.Theorems.{IsNoCut}
@@ -14,6 +15,9 @@ use Rattle.ov_fans.proofs.PieceCuts.Decided.{decides}
 use Rattle.std.proofs.Common.{zero, suc, eqb, false}
 use Rattle.ov_cert.specs.declared.cert.Split.{Split}
 use Rattle.ov_even.specs.Answer.{NamesParting, NamesFirstCut}
+use Rattle.ov_even.specs.declared.fault.AnalyseFault.{AnalyseFault}
+use Rattle.ov_even.specs.declared.fault.AnalyseFault.TheVariants.{OutOfMemory}
+use Rattle.ov_even.specs.Faults.{GroupJudged}
 use Rattle.ov_even.specs.First.{IsFirst}
 use Rattle.ov_even.specs.Hauls.{AreRight, Decides, Suffice}
 use Rattle.ov_even.specs.declared.worker_haul.Haul.{Haul}
@@ -24,6 +28,7 @@ use Rattle.ov_even.specs.Code.Cuts.{IsLowestCut, IsFirstCut, IsDeciding, all_set
 use Rattle.ov_even.proofs.PieceOrder.PieceLevels.{level_low, level_high}
 use Rattle.ov_even.proofs.PieceOrder.Ordering.{one_comes_before}
 use Rattle.ov_even.proofs.AnalysisSteps.FirstCut.{in_hauls, among_all}
+use Rattle.ov_even.proofs.AnalysisSteps.Narrowing.{members_few}
 use Rattle.ov_even.proofs.EvenTest.Deciding.{decides_first}
 
 pub pieces_in : (g : LinkGraph) (q : List ℕ) (hauls : List Haul) → AreRight g q hauls
@@ -147,3 +152,17 @@ level_under g q p k at e =
 
 pub whole_group : (g : LinkGraph) → IsGraph g → 0 < length g.nodes → IsGroup g g.nodes
 whole_group g graph some = record { some_member = some; ascends = graph.nodes_ascend; nodes = λ x h. h }
+
+-- for a group nothing is refused: it has a member, so there is a node
+pub none_refused : (g : LinkGraph) (q : List ℕ) → IsGroup g q → GroupJudged g q None
+none_refused g q group =
+    let few = members_few g q group in
+    let some = group.some_member in
+    let node : HasNode g = omega (arith, few, some) in
+    inl (node, inl (group, refl))
+
+-- so it is refused only if memory runs out
+pub refused_by_memory : {T : Type 0} (g : LinkGraph) (q : List ℕ) (result : Result T AnalyseFault) → IsGroup g q
+    → IfErr result (λ fault. fault ≡ OutOfMemory) → IfErr result (IsRefusedBy OutOfMemory (GroupJudged g q))
+refused_by_memory g q (Ok value) group memory = tt
+refused_by_memory g q (Err fault) group memory = inr (memory, none_refused g q group)

@@ -1,6 +1,6 @@
 -- The certificate with paths that an outline has: the pieces of the level below the deciding one are good, so they have
 -- the paths that they ask for.
-use Rattle.std.proofs.Common.{◌≡◌, inl, inr, ℕ, zero, suc, ◌<◌, ◌+◌, List, [], ◌∷◌, map, length, refl, sym, subst}
+use Rattle.std.proofs.Common.{◌≡◌, inl, inr, ℕ, zero, suc, ◌<◌, ◌+◌, ◌-◌, List, [], ◌∷◌, map, length, refl, sym, subst}
 use Rattle.std.proofs.Common.{arith}
 use Rattle.ov_ids.specs.Members.{Has, Ordered}
 use Rattle.ov_ids.proofs.Members.{all_member}
@@ -8,15 +8,15 @@ use Rattle.ov_graph.specs.Links.{LinkGraph, IsGraph, IsGroup, AreAllLinked}
 use Rattle.ov_cert.specs.declared.cert.Cert.TheVariants as cert
 use Rattle.ov_cert.specs.declared.cert.Split.{Split}
 use Rattle.ov_cert.proofs.Validity.Exact.{valid_means}
-use Rattle.ov_fans.specs.Pieces.{IsGood, IsLinkedPair, AreAskedPaths}
+use Rattle.ov_fans.specs.Pieces.{IsGood, IsLinkedPair, AreAskedPaths, level_of}
 use Rattle.ov_fans.specs.declared.piece.Piece.{Piece}
 use Rattle.ov_even.specs.Answer.{NamesFirstCut}
 use Rattle.ov_even.specs.Levels.{IsLevelGood}
-use Rattle.ov_even.specs.Naming.{HaveAskedPaths}
+use Rattle.ov_even.specs.Naming.{AreUnlinkedPieces, AreWanted, HaveAskedPaths}
 use Rattle.ov_even.specs.Order.{ComesBefore}
-use Rattle.ov_even.specs.Outlines.{IsOutline}
+use Rattle.ov_even.specs.Outlines.{IsFullOf, IsOutline}
 use Rattle.ov_even.specs.declared.paths_by_ids.NamedPaths.{NamedPaths}
-use Rattle.ov_even.specs.Code.Entries.{pair_entries, fan_entries}
+use Rattle.ov_even.specs.Code.Entries.{with_entries}
 use Rattle.ov_even.specs.Code.Levels.{pieces_of_level}
 use Rattle.ov_even.proofs.AnalysisSteps.Entered.{AreOfLevel, have_paths, have_fans}
 use Rattle.ov_even.proofs.AnalysisSteps.Named.{AreNamed, NamesItself, named_none, named_behind, named_first}
@@ -108,6 +108,41 @@ level_paths g q (suc k) high good =
       asked = made.1.asked;
     }
 
+-- a split that names the first cut, with the entries of the pieces of its level, is the answer and valid
+full_with : (g : LinkGraph) (q : List ℕ) (c : Split) (named : List NamedPaths) → IsGraph g → IsGroup g q
+    → ¬ AreAllLinked g q → NamesFirstCut g q c → AreOfLevel g q c.k named → HaveAskedPaths g q named
+    → IsFullOf g q (cert.Split c) (cert.Split (with_entries q named c))
+full_with g q c named graph group apart n pieces asked =
+    let high = level_high g q n.piece n.first.piece in
+    let level = n.level in
+    let below : c.k < length g.nodes = omega (arith, high, level) in
+    let names : NamesFirstCut g q (with_entries q named c) = record {
+      piece = n.piece;
+      first = n.first;
+      level = n.level;
+      parting = n.parting;
+      parted = n.parted;
+      names = record { cut = n.names.cut; near = n.names.near; far = n.names.far; side = n.names.side };
+    } in
+    record {
+      valid = split_valid g q (with_entries q named c) graph group names
+          (have_paths g q c.k named group below pieces asked) (have_fans g q c.k named group below pieces asked);
+      answer = (apart, names);
+      alike = record { k = refl; cut = refl; near = refl; far = refl; side = refl };
+    }
+
+-- The outline of a split becomes a full certificate by the entries of the pieces whose paths a certificate has: it is
+-- then valid, is the answer, and agrees with the outline in everything but the paths.
+pub entered_full : (g : LinkGraph) (q : List ℕ) (o : Split) (named : List NamedPaths) → IsGraph g → IsGroup g q
+    → IsOutline g q (cert.Split o) → AreWanted g q (map (λ n. n.piece) named) → HaveAskedPaths g q named
+    → IsFullOf g q (cert.Split o) (cert.Split (with_entries q named o))
+entered_full g q o named graph group outline wanted asked =
+    let n = outline.answer.1 in
+    let level = n.level in
+    let same : level_of n.piece - 1 ≡ o.k = omega (arith, level) in
+    full_with g q o named graph group outline.answer.0 n
+    (subst (λ (k : ℕ). AreUnlinkedPieces g q k (map (λ m. m.piece) named)) same (wanted n.piece n.first)) asked
+
 -- a split that names the first cut, and has no paths
 pub outlined : (g : LinkGraph) (q : List ℕ) (c : Split) → IsGraph g → IsGroup g q → ¬ AreAllLinked g q
     → NamesFirstCut g q c → c.pairs ≡ [] → c.fans ≡ [] → IsOutline g q (cert.Split c)
@@ -116,18 +151,8 @@ outlined g q c graph group apart n pairs fans =
     let level = n.level in
     let below : c.k < length g.nodes = omega (arith, high, level) in
     let w = level_paths g q c.k below (under_good g q n.piece c.k n.first n.level) in
-    let d : Split = record c { pairs = pair_entries q w.named; fans = fan_entries q w.named } in
-    let names : NamesFirstCut g q d = record {
-      piece = n.piece;
-      first = n.first;
-      level = n.level;
-      parting = n.parting;
-      parted = n.parted;
-      names = record { cut = n.names.cut; near = n.names.near; far = n.names.far; side = n.names.side };
-    } in
-    let valid = split_valid g q d graph group names (have_paths g q c.k w.named group below w.pieces w.asked)
-    (have_fans g q c.k w.named group below w.pieces w.asked) in
-    let means = valid_means g q (cert.Split d) valid in
+    let full = full_with g q c w.named graph group apart n w.pieces w.asked in
+    let means = valid_means g q (cert.Split (with_entries q w.named c)) full.valid in
     let splits = means.reached in
     record {
       answer = (apart, n);
@@ -144,14 +169,7 @@ outlined g q c graph group apart n pairs fans =
         no_fewer = means.no_fewer;
         fewest = means.fewest;
       };
-      full = (
-        cert.Split d,
-        record {
-          valid = valid;
-          answer = (apart, names);
-          alike = record { k = refl; cut = refl; near = refl; far = refl; side = refl };
-        },
-      );
+      full = (cert.Split (with_entries q w.named c), full);
     }
 
 -- if every two members are linked, the certificate has no paths anyway

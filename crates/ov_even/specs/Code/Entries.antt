@@ -3,6 +3,7 @@ use Rattle.std.specs.Prelude.{ℕ, List, [], ◌∷◌, ◌++◌}
 use Rattle.ov_ids.specs.Members.{Has}
 use Rattle.ov_cert.specs.declared.cert.PairPaths.{PairPaths}
 use Rattle.ov_cert.specs.declared.cert.FanPaths.{FanPaths}
+use Rattle.ov_cert.specs.declared.cert.Split.{Split}
 use Rattle.ov_fans.specs.Pieces.{IsPieceOf, member_at}
 use Rattle.ov_fans.specs.declared.piece.Piece.{Piece}
 use Rattle.ov_fans.specs.declared.piece.Piece.TheVariants.{Pair, Fan}
@@ -31,3 +32,7 @@ pair_entries q (n ∷ named) = entry_of_pair q n.piece n.paths ++ pair_entries q
 abbrev pub fan_entries : List ℕ → List NamedPaths → List FanPaths
 fan_entries q [] = []
 fan_entries q (n ∷ named) = entry_of_fan q n.piece n.paths ++ fan_entries q named
+
+-- the split with the entries of these pieces
+abbrev pub with_entries : List ℕ → List NamedPaths → Split → Split
+with_entries q named c = record c { pairs = pair_entries q named; fans = fan_entries q named }
