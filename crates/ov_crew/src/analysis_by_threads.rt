@@ -2,7 +2,7 @@
 ghost use Rattle.std.specs.Prelude.{◌≡◌, ℕ, ◌<◌, ◌+◌, length, All, IfOk, IfErr, OnOk, true};
 ghost use Rattle.ov_graph.specs.Links.{IsGroup, IsWithinLimit, AreAllLinked};
 ghost use Rattle.ov_even.specs.Answer.{IsAnalysed, IsCheckedAnswer};
-ghost use Rattle.ov_even.specs.Hauls.{AreRight, Suffice};
+ghost use Rattle.ov_even.specs.Hauls.{AreRight, IsSettledGroup, Suffice};
 ghost use Rattle.ov_even.specs.Levels.{AreNumbersOf, IsTried};
 ghost use Rattle.ov_even.specs.declared.fault.AnalyseFault.TheVariants.{OutOfMemory as out_of_memory};
 ghost use Rattle.ov_crew.specs.Hauls.{IsHaulOf};
@@ -16,7 +16,8 @@ use ov_board::{Board, Seat};
 use ov_cert::{Checked, are_all_linked};
 use ov_even::{
     AnalyseFault, Haul, LevelNumbers, LevelSearch, Searched, Unwatched, Watcher,
-    analyse_group_watched as analyse_by_one, assemble_named, level_numbers, wanted_paths,
+    analyse_group_watched as analyse_by_one, assemble_named, level_numbers,
+    settle_group_watched as settle_by_one, wanted_paths,
 };
 use ov_graph::Graph;
 use ov_ids::{NodeId, OutOfMemory, Workers};
@@ -94,16 +95,55 @@ fn analyse_by<R: Threads + Sync, G: Gate, W: Watcher>(
 ) -> Result<Checked, AnalyseFault>
     ensures analysed { IsAnalysed graph.now group.now result }
 {
+    let mut hauls = settle_by(rt, alloc, graph, group, hiring, gate, watcher)?;
+    let answer = assembled(rt, alloc, graph, group, &hauls, hiring);
+    clear_by_crew(rt, &mut hauls, hiring.workers);
+    answer
+}
+
+/// Does what `settle_group_watched` of `ov_even` does, by these workers. A level with few paths gets fewer workers. The
+/// watcher sees each level before it is tried, with place 0. One worker works in the caller's thread and passes no gate,
+/// and the watcher then sees each piece.
+pub fn settle_group_watched<R: Threads + Sync, G: Gate, W: Watcher>(
+    rt: &R,
+    alloc: Global,
+    graph: &Graph,
+    group: &[NodeId],
+    workers: Workers,
+    gate: &G,
+    watcher: &mut W,
+) -> Result<Vec<Haul>, AnalyseFault>
+    ensures settled { IsSettledGroup graph.now group.now result }
+{
+    if workers == Workers::ONE {
+        return settle_by_one(alloc, graph, group, watcher);
+    }
+    let hiring = Hiring {
+        workers,
+        sparing: true,
+    };
+    settle_by(rt, alloc, graph, group, &hiring, gate, watcher)
+}
+
+/// The settling by these workers.
+fn settle_by<R: Threads + Sync, G: Gate, W: Watcher>(
+    rt: &R,
+    alloc: Global,
+    graph: &Graph,
+    group: &[NodeId],
+    hiring: &Hiring,
+    gate: &G,
+    watcher: &mut W,
+) -> Result<Vec<Haul>, AnalyseFault>
+    ensures settled { IsSettledGroup graph.now group.now result }
+{
     if graph.nodes().is_empty() {
         return Err(AnalyseFault::NoNodes);
     }
     if !graph.is_group(group) {
         return Err(AnalyseFault::BadGroup);
     }
-    let mut hauls = enough(rt, alloc, graph, group, hiring, gate, watcher)?;
-    let answer = assembled(rt, alloc, graph, group, &hauls, hiring);
-    clear_by_crew(rt, &mut hauls, hiring.workers);
-    answer
+    Ok(enough(rt, alloc, graph, group, hiring, gate, watcher)?)
 }
 
 /// Drops the pieces of these hauls, in as many threads as there are workers. On dense graphs their paths take hundreds
