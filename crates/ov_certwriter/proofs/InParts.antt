@@ -179,27 +179,27 @@ long_enough c g group moment text is =
 closed_then : (items all more : List ℕ) → items ++ codes "]" ≡ all → items ++ (codes "]" ++ more) ≡ all ++ more
 closed_then items all more h = sym (append_assoc items (codes "]") more) ∙ ap (λ t. t ++ more) h
 
--- the entries between the parts make the whole file
+-- entries between the parts make the whole file
 joined : (c : Split) (g : LinkGraph) (group : List ℕ) (moment : ℕ) → ArePartsOf c g group moment (record {
   head = head_text c;
   middle = codes "]" ++ middle_text (version_for g group) c g group moment;
   tail = codes "]" ++ members_text true (last_members (version_for g group) c);
 })
 unfolding data_of data_in
-joined c g group moment =
+joined c g group moment pairs fans =
     let version = version_for g group in
-    let fans = items_of (map fan_data c.fans) in
-    let pairs = items_of (map pair_data c.pairs) in
     let last = members_text true (last_members version c) in
     let middle = middle_text version c g group moment in
-    let behind = closed_then (items_after pair_data false c.pairs) (items_text false pairs) last
-    (items_closed pair_data false c.pairs) in
-    ap (λ t. head_text c ++ (items_after fan_data false c.fans ++ ((codes "]" ++ middle) ++ t))) behind
-    ∙ ap (λ t. head_text c ++ t) (closed_then (items_after fan_data false c.fans) (items_text false fans)
-    (middle ++ (items_text false pairs ++ last)) (items_closed fan_data false c.fans))
-    ∙ sym (text_is version c g group moment fans pairs)
+    let fan_texts = items_text false (items_of (map fan_data fans)) in
+    let pair_texts = items_text false (items_of (map pair_data pairs)) in
+    let behind = closed_then (items_after pair_data false pairs) pair_texts last
+    (items_closed pair_data false pairs) in
+    ap (λ t. head_text c ++ (items_after fan_data false fans ++ ((codes "]" ++ middle) ++ t))) behind
+    ∙ ap (λ t. head_text c ++ t) (closed_then (items_after fan_data false fans) fan_texts
+    (middle ++ (pair_texts ++ last)) (items_closed fan_data false fans))
+    ∙ sym (text_is version c g group moment (items_of (map fan_data fans)) (items_of (map pair_data pairs)))
 
--- the text of the file without entries, cut at these places, has the parts of the whole file
+-- the text of the file without entries, cut at these places, has the parts of the files with entries
 pub parts_of_hollow : (c : Split) (g : LinkGraph) (group : List ℕ) (moment : ℕ) (text : List ℕ) (first second : ℕ)
     → text ≡ compact_text (data_of (cert.Split (without_entries c)) g group moment)
     → first ≡ length (compact_text (ids_data c.cut)) + 16

@@ -2,7 +2,6 @@
 ghost use Rattle.std.specs.Prelude.{◌≡◌, ◌≤◌, ◌<◌, ◌+◌, ◌++◌, ◌*◌, ◌^◌, IfOk, IsErrOf, OnOk};
 ghost use Rattle.std.specs.Io.KnownBytes.{Appends};
 ghost use Rattle.serde_json.specs.Written.{compact_text};
-ghost use Rattle.ov_cert.specs.declared.cert.Cert.TheVariants as cert;
 ghost use Rattle.ov_io.specs.Device.{most_faults, write_faults, write_number, AppendsPrefixOf};
 ghost use Rattle.ov_certfile.specs.Forms.{last_moment};
 ghost use Rattle.ov_certfile.specs.DataOf.{data_of};
@@ -10,14 +9,14 @@ ghost use Rattle.ov_certwriter.specs.Number.{writing_number};
 ghost use Rattle.ov_certwriter.specs.Code.Blocks.{AreWithin};
 ghost use Rattle.ov_certwriter.specs.Code.Parts.{text_of_parts};
 
+use crate::answer_by_places::{PlacedAnswer, PlacedEntries};
 use crate::entry_blocks::{BlockSets, write_entries};
 use crate::entry_rooms::largest_room;
 use crate::text_around_entries::Parts;
 use crate::writing_fault::WritingFault;
-use ov_cert::{Cert, Split};
+use ov_cert::Cert;
 use ov_certfile::to_text_group;
-use ov_graph::Graph;
-use ov_ids::{NodeId, OutOfMemory, Workers};
+use ov_ids::{OutOfMemory, Workers};
 use ov_io::{Sink, WriteFault};
 use std::alloc::Global;
 use std::io::Write;
@@ -30,8 +29,8 @@ const BLOCK_BYTES: usize = 1 << 21;
 const ROOM_WORTH_A_THREAD: u64 = 1 << 20;
 
 /// Writes what stands in front of a certificate file, and then the file, as `to_text_group` would make it. The texts of
-/// the entries are made by this number of workers, a part at a time, while the part before is written; no more than
-/// two such parts is held in memory. The moment is at most 65,536.
+/// the entries are made from places of nodes by this number of workers, a part at a time, while the part before is
+/// written; no more than two such parts is held in memory. The moment is at most 65,536.
 ///
 /// `Write` (72): the writer failed in this call, and a prefix of the whole was written. `OutOfMemory` (99): an
 /// allocation was refused. All memory is there before the first byte is written; so nothing was written then.
@@ -40,31 +39,32 @@ pub fn write_certificate<R: Threads + Sync, W: Write>(
     alloc: Global,
     workers: Workers,
     front: &[u8],
-    cert: &Cert,
-    graph: &Graph,
-    group: &[NodeId],
+    answer: &PlacedAnswer<'_>,
     moment: u32,
     sink: &mut Sink<W>,
 ) -> Result<(), WritingFault>
     requires moment { moment ≤ last_moment }
     requires faults { sink.old.faults < most_faults }
     ensures text { OnOk result (Appends (W.contents sink.old.writer) (W.contents sink.new.writer)
-        (front.now ++ compact_text (data_of cert.now graph.now group.now moment))) }
-    ensures prefix { AppendsPrefixOf (front.now ++ compact_text (data_of cert.now graph.now group.now moment))
+        (front.now ++ compact_text (data_of answer.now.cert answer.now.graph answer.now.members moment))) }
+    ensures prefix { AppendsPrefixOf
+        (front.now ++ compact_text (data_of answer.now.cert answer.now.graph answer.now.members moment))
         (W.contents sink.old.writer) (W.contents sink.new.writer) }
     ensures memory { IsErrOf result WritingFault.OutOfMemory → sink.new ≡ sink.old }
     ensures faults { sink.new.faults ≡ sink.old.faults + write_faults writing_number result }
 {
-    let Cert::Split(split) = cert else {
-        let text = to_text_group(alloc, cert, graph, group, moment)?;
+    let (outline, graph, group) = (answer.outline(), answer.graph(), answer.members());
+    let Cert::Split(split) = outline else {
+        let text = to_text_group(alloc, outline, graph, group, moment)?;
         sink.write_all(front)?;
         sink.write_all(text.as_bytes())?;
         return Ok(());
     };
-    let parts = Parts::of(alloc, split, graph, group, moment)?;
-    let mut blocks = blocks_for(rt, alloc, workers, split)?;
+    let parts = Parts::of(alloc, outline, split, graph, group, moment)?;
+    let entries = answer.entries();
+    let mut blocks = blocks_for(rt, alloc, workers, entries)?;
     sink.write_all(front)?;
-    write_parts(rt, sink, &mut blocks, split, &parts)?;
+    write_parts(rt, sink, &mut blocks, entries, &parts)?;
     Ok(())
 }
 
@@ -73,22 +73,22 @@ fn write_parts<R: Threads + Sync, W: Write>(
     rt: &R,
     sink: &mut Sink<W>,
     blocks: &mut BlockSets,
-    split: &Split,
+    entries: &PlacedEntries<'_>,
     parts: &Parts,
 ) -> Result<(), WriteFault>
-    requires fans { AreWithin (λ e. e.paths) blocks.old.full.room split.now.fans }
-    requires pairs { AreWithin (λ e. e.paths) blocks.old.full.room split.now.pairs }
+    requires fans { AreWithin (λ e. e.paths) blocks.old.full.room entries.now.fans.items }
+    requires pairs { AreWithin (λ e. e.paths) blocks.old.full.room entries.now.pairs.items }
     requires faults { sink.old.faults < most_faults }
     ensures bytes { OnOk result (Appends (W.contents sink.old.writer) (W.contents sink.new.writer)
-        (text_of_parts split.now parts.now)) }
-    ensures prefix { AppendsPrefixOf (text_of_parts split.now parts.now)
+        (text_of_parts entries.now.pairs.items entries.now.fans.items parts.now)) }
+    ensures prefix { AppendsPrefixOf (text_of_parts entries.now.pairs.items entries.now.fans.items parts.now)
         (W.contents sink.old.writer) (W.contents sink.new.writer) }
     ensures faults { sink.new.faults ≡ sink.old.faults + write_faults write_number result }
 {
     sink.write_all(parts.head())?;
-    write_entries(rt, sink, blocks, split.fans.as_slice())?;
+    write_entries(rt, sink, blocks, entries.fans.as_slice())?;
     sink.write_all(parts.middle())?;
-    write_entries(rt, sink, blocks, split.pairs.as_slice())?;
+    write_entries(rt, sink, blocks, entries.pairs.as_slice())?;
     sink.write_all(parts.tail())?;
     Ok(())
 }
@@ -98,18 +98,18 @@ fn blocks_for<R: Threads + Sync>(
     rt: &R,
     alloc: Global,
     workers: Workers,
-    split: &Split,
+    entries: &PlacedEntries<'_>,
 ) -> Result<BlockSets, OutOfMemory>
-    ensures fans { IfOk result (λ b. AreWithin (λ e. e.paths) b.full.room split.now.fans) }
-    ensures pairs { IfOk result (λ b. AreWithin (λ e. e.paths) b.full.room split.now.pairs) }
+    ensures fans { IfOk result (λ b. AreWithin (λ e. e.paths) b.full.room entries.now.fans.items) }
+    ensures pairs { IfOk result (λ b. AreWithin (λ e. e.paths) b.full.room entries.now.pairs.items) }
 {
-    let (fans, pairs) = (split.fans.as_slice(), split.pairs.as_slice());
+    let (fans, pairs) = (entries.fans.as_slice(), entries.pairs.as_slice());
     let fan_room = largest_room(rt, alloc, workers, fans)?;
     let pair_room = largest_room(rt, alloc, workers, pairs)?;
     let room = fan_room.max(pair_room);
-    let entries = fans.len().max(pairs.len());
-    let count = block_count(workers, entries, room);
-    let size = block_size(entries, count, room);
+    let most = fans.len().max(pairs.len());
+    let count = block_count(workers, most, room);
+    let size = block_size(most, count, room);
     Ok(BlockSets::new(alloc, count, size, room)?)
 }
 

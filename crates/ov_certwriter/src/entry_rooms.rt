@@ -1,10 +1,9 @@
 //! The most bytes that the texts of entries need.
-ghost use Rattle.std.specs.Prelude.{◌≡◌, ◌<◌, ◌≤◌, ◌*◌, length, IfOk};
+ghost use Rattle.std.specs.Prelude.{◌<◌, ◌≤◌, ◌*◌, length, IfOk};
 ghost use Rattle.std.specs.List.{All};
-ghost use Rattle.ov_certwriter.specs.Code.Blocks.{entry_room, AreWithin, AreRoomsOf};
+ghost use Rattle.ov_certwriter.specs.Code.Blocks.{AreWithin, AreRoomsOf};
 
 use crate::entry_texts::Entry;
-use ov_cert::Paths;
 use ov_ids::{OutOfMemory, Workers};
 use std::alloc::Global;
 use std::thread;
@@ -66,19 +65,7 @@ fn room_of_all<T: Entry>(entries: &[T]) -> usize
 {
     let mut largest = 0;
     for entry in entries {
-        largest = room_of(entry.paths()).max(largest);
+        largest = entry.room().max(largest);
     }
     largest
-}
-
-/// The room of an entry with these paths; the largest number, if the room is so large.
-fn room_of(paths: &Paths) -> usize
-    ensures { result < usize.MAX → entry_room paths.now ≤ result }
-{
-    let mut room: usize = 43;
-    for path in paths.iter() {
-        let own = path.len().saturating_mul(11).saturating_add(3);
-        room = room.saturating_add(own);
-    }
-    room
 }

@@ -11,7 +11,7 @@ use crate::entry_texts::put_ids;
 use ov_cert::{Cert, Split};
 use ov_certfile::to_text_group;
 use ov_graph::Graph;
-use ov_ids::{NodeId, OutOfMemory, Seq};
+use ov_ids::{NodeId, OutOfMemory};
 use std::alloc::Global;
 use std::marker::Model;
 
@@ -41,19 +41,21 @@ impl Model for Parts {
 }
 
 impl Parts {
-    /// The parts of the file of a certificate. OutOfMemory (99) if an allocation is refused.
+    /// The parts of the files of certificates with this outline, which is a split and has no entries. OutOfMemory (99)
+    /// if an allocation is refused.
     pub(crate) fn of(
         alloc: Global,
+        outline: &Cert,
         split: &Split,
         graph: &Graph,
         group: &[NodeId],
         moment: u32,
     ) -> Result<Parts, OutOfMemory>
-        requires { moment ≤ last_moment }
+        requires moment { moment ≤ last_moment }
+        requires outline { outline.now ≡ cert.Split (without_entries split.now) }
         ensures { IfOk result (ArePartsOf split.now graph.now group.now moment) }
     {
-        let hollow = without_entries(alloc, split)?;
-        let text = to_text_group(alloc, &hollow, graph, group, moment)?;
+        let text = to_text_group(alloc, outline, graph, group, moment)?;
         let cut = ids_length(alloc, split.cut.as_slice())?;
         let side = ids_length(alloc, split.side.as_slice())?;
         Ok(Parts::around(text, cut, side))
@@ -92,23 +94,6 @@ impl Parts {
     {
         &self.text.as_bytes()[self.pairs_at..]
     }
-}
-
-/// The certificate without its entries.
-fn without_entries(alloc: Global, split: &Split) -> Result<Cert, OutOfMemory>
-    ensures { IfOk result (λ c. c ≡ cert.Split (without_entries split.now)) }
-{
-    let cut = split.cut.copy(alloc)?;
-    let side = split.side.copy(alloc)?;
-    Ok(Cert::Split(Split {
-        k: split.k,
-        cut,
-        near: split.near,
-        far: split.far,
-        side,
-        pairs: Seq::new(Vec::new(alloc)),
-        fans: Seq::new(Vec::new(alloc)),
-    }))
 }
 
 /// How long the text of these ids is.

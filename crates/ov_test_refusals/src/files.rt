@@ -1,7 +1,8 @@
 //! The file of the square's certificate, written as it is made.
 use crate::square_groups::square;
-use ov_certwriter::{WritingFault, write_certificate};
-use ov_crew::{OpenGate, analyse};
+use ov_certwriter::{WritingFault, place_answer, write_certificate};
+use ov_crew::{OpenGate, settle_group_watched};
+use ov_even::Unwatched;
 use ov_ids::Workers;
 use ov_io::Sink;
 use std::alloc::Global;
@@ -41,20 +42,13 @@ impl Written {
 /// The file, written by so many workers.
 fn file_by<R: Threads + Sync>(rt: &R, alloc: Global, count: u32) -> Result<Written, Fail> {
     let graph = square(alloc)?;
-    let checked = analyse(rt, alloc, &graph, Workers::ONE, &OpenGate)?;
+    let group = graph.nodes();
+    let one = Workers::ONE;
+    let hauls = settle_group_watched(rt, alloc, &graph, group, one, &OpenGate, &mut Unwatched)?;
+    let placed = place_answer(alloc, &graph, group, &hauls)?;
     let workers = Workers::new(count).ok_or("a number of workers")?;
     let mut sink = Sink::new(Vec::with_capacity(alloc, ROOM)?);
-    let answer = write_certificate(
-        rt,
-        alloc,
-        workers,
-        FRONT,
-        checked.cert(),
-        checked.graph(),
-        checked.members(),
-        3,
-        &mut sink,
-    );
+    let answer = write_certificate(rt, alloc, workers, FRONT, &placed, 3, &mut sink);
     let bytes = sink.into_writer();
     Ok(Written { answer, bytes })
 }

@@ -4,8 +4,11 @@ use Rattle.serde_json.specs.Written.{compact_text}
 use Rattle.ov_graph.specs.Links.{LinkGraph}
 use Rattle.ov_cert.specs.declared.cert.Cert.TheVariants as cert
 use Rattle.ov_cert.specs.declared.cert.Split.{Split}
+use Rattle.ov_cert.specs.declared.cert.PairPaths.{PairPaths}
+use Rattle.ov_cert.specs.declared.cert.FanPaths.{FanPaths}
 use Rattle.ov_certfile.specs.DataOf.{pair_data, fan_data, data_of}
 use Rattle.ov_certwriter.specs.Code.Blocks.{items_after}
+use Rattle.ov_certwriter.specs.Code.Placed.{split_with}
 
 -- the texts before the fans, between them and the pairs, and behind these
 pub record PartsState : Type 0 where
@@ -19,15 +22,15 @@ cut_text text first second =
     record { head = take first text; middle = slice_range text first second; tail = drop second text }
 
 -- the parts, with the texts of the fans and of the pairs between them
-abbrev pub text_of_parts : Split → PartsState → List ℕ
-text_of_parts c parts =
+abbrev pub text_of_parts : List PairPaths → List FanPaths → PartsState → List ℕ
+text_of_parts pairs fans parts =
     parts.head
-    ++ (items_after fan_data false c.fans ++ (parts.middle ++ (items_after pair_data false c.pairs ++ parts.tail)))
+    ++ (items_after fan_data false fans ++ (parts.middle ++ (items_after pair_data false pairs ++ parts.tail)))
 
--- these are the parts of the file of a certificate
+-- these are the parts of the file of a certificate, whatever its entries are
 abbrev pub ArePartsOf : Split → LinkGraph → List ℕ → ℕ → PartsState → Type 0
-ArePartsOf c g group moment parts =
-    text_of_parts c parts ≡ compact_text (data_of (cert.Split c) g group moment)
+ArePartsOf c g group moment parts = (pairs : List PairPaths) (fans : List FanPaths) →
+    text_of_parts pairs fans parts ≡ compact_text (data_of (cert.Split (split_with c pairs fans)) g group moment)
 
 -- a certificate without its entries
 abbrev pub without_entries : Split → Split

@@ -11,18 +11,18 @@ returns-clause-fans g c =
     let most = c.max-room.ensures in
     let own = c.in_ok-fan_room.ensures (omega (arith, most, c.in_ok-new.ensures.small, c.in_ok-new.ensures.room)) in
     let room = c.in_ok-fan_room.fan_room in
-    let fans = subst (λ (xs : List FanPaths). AreWithin (λ e. e.paths) room xs) c.as_slice-fans.ensures own in
-    let all = within_more (λ (e : FanPaths). e.paths) room c.max-room.result c.args.split.now.fans
+    let fans = subst (λ (xs : List FanPaths). AreWithin (λ e. e.paths) room xs) c.as_slice-fans.ensures.value own in
+    let all = within_more (λ (e : FanPaths). e.paths) room c.max-room.result c.args.entries.now.fans.items
     (omega (arith, most)) fans in
-    subst (λ (r : ℕ). AreWithin (λ (e : FanPaths). e.paths) r c.args.split.now.fans) (sym c.in_ok-new.ensures.room) all
+    subst (λ (r : ℕ). AreWithin (λ (e : FanPaths). e.paths) r c.args.entries.now.fans.items) (sym c.in_ok-new.ensures.room) all
 
 pub returns-clause-pairs : goal.returns-clause-pairs
 returns-clause-pairs g c =
     let most = c.max-room.ensures in
     let own = c.in_ok-pair_room.ensures (omega (arith, most, c.in_ok-new.ensures.small, c.in_ok-new.ensures.room)) in
     let room = c.in_ok-pair_room.pair_room in
-    let pairs = subst (λ (xs : List PairPaths). AreWithin (λ e. e.paths) room xs) c.as_slice-pairs.ensures own in
-    let all = within_more (λ (e : PairPaths). e.paths) room c.max-room.result c.args.split.now.pairs
+    let pairs = subst (λ (xs : List PairPaths). AreWithin (λ e. e.paths) room xs) c.as_slice-pairs.ensures.value own in
+    let all = within_more (λ (e : PairPaths). e.paths) room c.max-room.result c.args.entries.now.pairs.items
     (omega (arith, most)) pairs in
-    subst (λ (r : ℕ). AreWithin (λ (e : PairPaths). e.paths) r c.args.split.now.pairs)
+    subst (λ (r : ℕ). AreWithin (λ (e : PairPaths). e.paths) r c.args.entries.now.pairs.items)
     (sym c.in_ok-new.ensures.room) all

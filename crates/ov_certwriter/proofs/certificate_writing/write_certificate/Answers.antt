@@ -1,26 +1,40 @@
 -- What stands in front went to the writer, and then the file; if it failed, a prefix of both.
-use Rattle.std.proofs.Common.{◌≡◌, ◌∙◌, sym, ap}
+use Rattle.std.proofs.Common.{◌≡◌, ◌∙◌}
 use Rattle.std.proofs.KnownBytes.{Appends-trans}
 use Rattle.serde_json.specs.Written.{compact_text}
-use Rattle.ov_cert.specs.declared.cert.Cert.{Cert}
 use Rattle.ov_certfile.specs.DataOf.{data_of}
 use Rattle.ov_certwriter.specs.Code.Parts.{text_of_parts}
+use Rattle.ov_certwriter.proofs.Answering.{outline_whole, outline_filled, outline_hollow, same_file}
 use Rattle.ov_certwriter.proofs.Sending.{sent_before, sent_behind, same_sent, same_begun}
 use Rattle.ov_certwriter.proofs.certificate_writing.write_certificate.Goals as goal
 use Rattle.ov_certwriter.proofs.certificate_writing.write_certificate.Goals.{After-as_bytes, After-write_parts}
 
 -- the bytes that are lent are those of the file
 whole_is : (g : _) (c : After-as_bytes g) → c.as_bytes.result.now
-    ≡ compact_text (data_of c.args.cert.now c.args.graph.now c.args.group.now c.args.moment)
-whole_is g c = c.as_bytes.ensures.value ∙ c.in_ok-text.ensures.text
+    ≡ compact_text (data_of c.args.answer.now.cert c.args.answer.now.graph c.args.answer.now.members c.args.moment)
+whole_is g c =
+    c.as_bytes.ensures.value ∙ c.in_ok-text.ensures.text
+    ∙ same_file _ _ _ _ _ _ c.args.moment
+    (outline_whole c.args.answer.now.cert c.outline-outline.result.now c.outline-outline.ensures.alike
+    c.in_default.not-Split) c.graph-graph.ensures c.members-group.ensures
 
 -- the parts with the entries between them are the file
-parts_are : (g : _) (c : After-write_parts g) → text_of_parts c.in-Split.split c.in_ok-parts.parts
-    ≡ compact_text (data_of c.args.cert.now c.args.graph.now c.args.group.now c.args.moment)
+parts_are : (g : _) (c : After-write_parts g)
+    → text_of_parts c.entries-entries.result.now.pairs.items c.entries-entries.result.now.fans.items
+    c.in_ok-parts.parts
+    ≡ compact_text (data_of c.args.answer.now.cert c.args.answer.now.graph c.args.answer.now.members c.args.moment)
 parts_are g c =
-    let a = c.args in
-    c.in_ok-parts.ensures
-    ∙ ap (λ (t : Cert). compact_text (data_of t a.graph.now a.group.now a.moment)) (sym c.in-Split.is)
+    let pairs = c.entries-entries.result.now.pairs.items in
+    let fans = c.entries-entries.result.now.fans.items in
+    c.in_ok-parts.ensures pairs fans
+    ∙ same_file _ _ _ _ _ _ c.args.moment
+    (outline_filled c.args.answer.now.cert c.outline-outline.result.now c.in-Split.split pairs fans
+    c.outline-outline.ensures.alike c.in-Split.is c.entries-entries.ensures) c.graph-graph.ensures
+    c.members-group.ensures
+
+pub of-requires-clause-outline : goal.of-requires-clause-outline
+of-requires-clause-outline g c =
+    outline_hollow c.outline-outline.result.now c.in-Split.split c.in-Split.is c.outline-outline.ensures.no_paths
 
 pub returns-in_err-write_all-clause-prefix : goal.returns-in_err-write_all-clause-prefix
 returns-in_err-write_all-clause-prefix g c = sent_before _ _ _ _ c.in_err-write_all.ensures.prefix

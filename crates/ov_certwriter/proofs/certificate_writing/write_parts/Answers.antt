@@ -9,14 +9,14 @@ use Rattle.ov_certwriter.proofs.Sending.{sent_before, sent_behind, same_sent, sa
 use Rattle.ov_certwriter.proofs.certificate_writing.write_parts.Goals as goal
 use Rattle.ov_certwriter.proofs.certificate_writing.write_parts.Goals.{After-as_slice, After-as_slice-2}
 
--- the fans that are lent, and the pairs, are those of the certificate
+-- the fans that are lent, and the pairs, are all entries
 fans_are : (g : _) (c : After-as_slice g)
-    → items_after fan_data false c.as_slice.result.now ≡ items_after fan_data false c.args.split.now.fans
-fans_are g c = ap (λ (xs : List FanPaths). items_after fan_data false xs) c.as_slice.ensures
+    → items_after fan_data false c.as_slice.result.now ≡ items_after fan_data false c.args.entries.now.fans.items
+fans_are g c = ap (λ (xs : List FanPaths). items_after fan_data false xs) c.as_slice.ensures.value
 
 pairs_are : (g : _) (c : After-as_slice-2 g)
-    → items_after pair_data false c.as_slice-2.result.now ≡ items_after pair_data false c.args.split.now.pairs
-pairs_are g c = ap (λ (xs : List PairPaths). items_after pair_data false xs) c.as_slice-2.ensures
+    → items_after pair_data false c.as_slice-2.result.now ≡ items_after pair_data false c.args.entries.now.pairs.items
+pairs_are g c = ap (λ (xs : List PairPaths). items_after pair_data false xs) c.as_slice-2.ensures.value
 
 pub returns-in_err-write_all-clause-prefix : goal.returns-in_err-write_all-clause-prefix
 returns-in_err-write_all-clause-prefix g c =
