@@ -5,6 +5,7 @@ pub mod Growing
 pub mod Componentwise
 pub mod Fewer
 pub mod Tellings
+pub mod OfGraph
 pub mod Rows
 pub mod Grown
 pub mod Divided

@@ -63,40 +63,25 @@ outlined g q c names named lines text outline are is =
           ∙ ap (λ (t : List ℕ). report_line 0 outline.full.0 g q ++ t) (sym (append-nil lines)),
     )
 
--- a valid answer for this graph and this group, which its certificate file follows
-pub checked : (g : LinkGraph) (q : List ℕ) (c : CheckedState) (names : NamesState) (named : Bool) (lines text : List ℕ)
-    → IsCheckedAnswer g q c → IsValidForGroup c.graph c.members c.cert
-    → AreLinesBetween named c.graph c.cert names lines → text ≡ report_line 0 c.cert c.graph c.members ++ lines
-    → TellsReport g q names true named (k_of c.cert) (with_file_of text (Some c))
-checked g q c names named lines text answer valid are is =
-    let here =
-    subst (λ r. IsValidForGroup g r c.cert) answer.members
-    (subst (λ f. IsValidForGroup f c.members c.cert) answer.graph valid) in
-    let whole = ap (λ (t : List ℕ). t ++ file_text c.cert c.graph c.members 0) is
-    ∙ append_assoc (report_line 0 c.cert c.graph c.members) lines (file_text c.cert c.graph c.members 0) in
-    let line : with_file_of text (Some c) ≡ report_line 0 c.cert g q ++ (lines ++ file_text c.cert g q 0) =
-    subst (λ r. with_file_of text (Some c) ≡ report_line 0 c.cert g r ++ (lines ++ file_text c.cert g r 0))
-    answer.members
-    (subst (λ f. with_file_of text (Some c)
-    ≡ report_line 0 c.cert f c.members ++ (lines ++ file_text c.cert f c.members 0)) answer.graph whole)
-    in
-    let between = subst (λ f. AreLinesBetween named f c.cert names lines) answer.graph are in
-    (c.cert, lines, answer.answer, here, refl, between, line)
-
--- the line of an answer and the lines behind it, of a checked certificate
-pub of_checked : (c : CheckedState) (cert : Cert) (g : LinkGraph) (q : List ℕ) (names : NamesState) (named : Bool)
-    (text : List ℕ) → cert ≡ c.cert → g ≡ c.graph → q ≡ c.members
-    → ((lines : List ℕ) × AreLinesBetween named g cert names lines × (text ≡ report_line 0 cert g q ++ lines))
-    → (lines : List ℕ) × AreLinesBetween named c.graph c.cert names lines
-    × (text ≡ report_line 0 c.cert c.graph c.members ++ lines)
-of_checked c cert g q names named text is_cert is_graph is_members b = (
-  b.0,
-  subst (λ (h : LinkGraph). AreLinesBetween named h c.cert names b.0) is_graph
-      (subst (λ (d : Cert). AreLinesBetween named g d names b.0) is_cert b.1),
-  subst (λ (r : List ℕ). text ≡ report_line 0 c.cert c.graph r ++ b.0) is_members
-      (subst (λ (h : LinkGraph). text ≡ report_line 0 c.cert h q ++ b.0) is_graph
-      (subst (λ (d : Cert). text ≡ report_line 0 d g q ++ b.0) is_cert b.2)),
-)
+-- the lines of the outline of a valid answer, with the certificate file of the answer behind them
+pub certified : (g : LinkGraph) (q : List ℕ) (c : CheckedState) (outline : Cert) (names : NamesState) (named : Bool)
+    (lines text : List ℕ) → IsCheckedAnswer g q c → IsValidForGroup g q c.cert → AreAlike c.cert outline
+    → AreLinesBetween named g outline names lines → text ≡ report_line 0 outline g q ++ lines
+    → TellsReport g q names true named (k_of outline) (with_file_of text (Some c))
+certified g q c outline names named lines text answer valid same are is =
+    let line = same_line 0 g q c.cert outline same in
+    let file : file_text c.cert c.graph c.members 0 ≡ file_text c.cert g q 0 =
+    rw (answer.graph, answer.members) refl in (
+      c.cert,
+      lines,
+      answer.answer,
+      valid,
+      same_number outline c.cert same,
+      alike_lines g c.cert outline names named lines same are,
+      ap (λ (t : List ℕ). text ++ t) file
+          ∙ ap (λ (t : List ℕ). t ++ file_text c.cert g q 0) (is ∙ ap (λ (t : List ℕ). t ++ lines) (sym line))
+          ∙ append_assoc (report_line 0 c.cert g q) lines (file_text c.cert g q 0),
+    )
 
 -- with the file that says the graph and keeps the names it is what is told of the file
 pub told : (bytes text gone : List ℕ) (group : Option (List ℕ)) (certificate named : Bool) (answered : Answered)

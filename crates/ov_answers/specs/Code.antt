@@ -6,3 +6,4 @@ pub mod Sentences
 pub mod Rows
 pub mod GivenNames
 pub mod TextFaults
+pub mod ToldOfGraph

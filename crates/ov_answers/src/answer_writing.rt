@@ -1,16 +1,24 @@
-ghost use Rattle.std.specs.Prelude.{◌≡◌, ◌+◌, ◌++◌, ◌<◌, IfOk, IfErr, OnOk};
+//! How an analysis of a graph and a group is told, and written with its certificate file if that is asked for.
+ghost use Rattle.std.specs.Prelude.{◌≡◌, ◌+◌, ◌++◌, ◌<◌, true, option_map, IfOk, IfErr, OnOk};
 ghost use Rattle.std.specs.Io.KnownBytes.{Appends};
 ghost use Rattle.serde_json.specs.Written.{compact_text};
+ghost use Rattle.ov_graph.specs.Links.{IsGroup};
 ghost use Rattle.ov_io.specs.Device.{most_faults, AppendsPrefixOf};
 ghost use Rattle.ov_certfile.specs.DataOf.{data_of};
+ghost use Rattle.ov_even.specs.Hauls.{Suffice};
 ghost use Rattle.ov_run_meaning.specs.Faults.{write_faults};
 ghost use Rattle.ov_answers.specs.Code.Files.{with_file_of, IsWritingFault};
+ghost use Rattle.ov_answers.specs.Code.GivenNames.{HasNames, given_names};
+ghost use Rattle.ov_answers.specs.Code.ToldOfGraph.{IsToldOfGraph};
 
-use crate::answer_making::{Answer, FILE_MOMENT};
-use crate::request::Told;
-use ov_cert::Checked;
-use ov_certwriter::{WritingFault, write_certificate};
-use ov_ids::Workers;
+use crate::answer_making::{Answer, FILE_MOMENT, answer_without_file, begun_answer, refusal};
+use crate::request::{Request, Told};
+use ov_certwriter::{PlacedAnswer, WritingFault, place_answer, write_certificate};
+use ov_crew::{OpenGate, settle_group_watched};
+use ov_even::{Haul, Watcher};
+use ov_graph::Graph;
+use ov_graphfile::Names;
+use ov_ids::{NodeId, Workers};
 use ov_io::Sink;
 use ov_run_meaning::RunFault;
 use std::alloc::Global;
@@ -18,36 +26,113 @@ use std::io::Write;
 use std::mem;
 use std::thread::Threads;
 
+/// Analyses this graph and this group, and writes what the request asks for. Names are given if lines with names or
+/// sentences are asked for. If it is out of memory, nothing was written. Returns what is told.
+pub(crate) fn tell_graph<T: Threads + Sync, W: Write, P: Watcher>(
+    rt: &T,
+    alloc: Global,
+    graph: &Graph,
+    group: &[NodeId],
+    names: Option<&Names<'_>>,
+    request: &Request<'_>,
+    watcher: &mut P,
+    sink: &mut Sink<W>,
+) -> Result<Told, RunFault>
+    requires names { HasNames request.now.names (option_map (λ n. n.now) names) }
+    requires writes { sink.old.faults < most_faults }
+    ensures { IsToldOfGraph graph.now group.now (given_names (option_map (λ n. n.now) names.entry))
+        request.now.certificate request.now.names W.contents sink.old sink.new result }
+{
+    if request.certificate {
+        return tell_with_file(rt, alloc, graph, group, names, request, watcher, sink);
+    }
+    let answer = answer_without_file(rt, alloc, graph, group, names, request, watcher)?;
+    write_answer(rt, alloc, request.workers, answer, None, sink)
+}
+
+/// The same, with the certificate file.
+#[tactic(auto, using(crate::proofs::Written::refused_or_memory))]
+fn tell_with_file<T: Threads + Sync, W: Write, P: Watcher>(
+    rt: &T,
+    alloc: Global,
+    graph: &Graph,
+    group: &[NodeId],
+    names: Option<&Names<'_>>,
+    request: &Request<'_>,
+    watcher: &mut P,
+    sink: &mut Sink<W>,
+) -> Result<Told, RunFault>
+    requires names { HasNames request.now.names (option_map (λ n. n.now) names) }
+    requires writes { sink.old.faults < most_faults }
+    ensures { IsToldOfGraph graph.now group.now (given_names (option_map (λ n. n.now) names.entry))
+        true request.now.names W.contents sink.old sink.new result }
+{
+    let workers = request.workers;
+    match settle_group_watched(rt, alloc, graph, group, workers, &OpenGate, watcher) {
+        Ok(hauls) => tell_hauls(rt, alloc, graph, group, hauls, names, request, sink),
+        Err(fault) => {
+            let answer = refusal(alloc, graph, group, fault)?;
+            write_answer(rt, alloc, workers, answer, None, sink)
+        }
+    }
+}
+
+/// Tells the answer for which these hauls suffice, and writes its certificate file behind it.
+///
+/// The memory of the hauls is not given back: they may have millions of paths, and the system takes all memory faster
+/// when the process ends, which is next.
+fn tell_hauls<T: Threads + Sync, W: Write>(
+    rt: &T,
+    alloc: Global,
+    graph: &Graph,
+    group: &[NodeId],
+    hauls: Vec<Haul>,
+    names: Option<&Names<'_>>,
+    request: &Request<'_>,
+    sink: &mut Sink<W>,
+) -> Result<Told, RunFault>
+    requires names { HasNames request.now.names (option_map (λ n. n.now) names) }
+    requires writes { sink.old.faults < most_faults }
+    requires group { IsGroup graph.now group.now }
+    requires suffice { Suffice graph.now group.now hauls.items }
+    ensures { IsToldOfGraph graph.now group.now (given_names (option_map (λ n. n.now) names.entry))
+        true request.now.names W.contents sink.old sink.new result }
+{
+    let placed = place_answer(alloc, graph, group, &hauls)?;
+    let answer = begun_answer(alloc, placed.outline(), graph, group, names, request)?;
+    let written = write_answer(rt, alloc, request.workers, answer, Some(&placed), sink);
+    mem::forget(placed);
+    mem::forget(hauls);
+    written
+}
+
 /// Writes the text of an answer, and behind it the certificate file if there is one. The file is written as it is made,
 /// by this number of workers. If it is out of memory, nothing was written. Returns what is told.
-///
-/// The memory of a certificate that was written is not given back: its paths may be millions, and the system takes all
-/// memory faster when the process ends, which is next.
-pub(crate) fn write_answer<T: Threads + Sync, W: Write>(
+fn write_answer<T: Threads + Sync, W: Write>(
     rt: &T,
     alloc: Global,
     workers: Workers,
     answer: Answer,
+    file: Option<&PlacedAnswer<'_>>,
     sink: &mut Sink<W>,
 ) -> Result<Told, RunFault>
     requires writes { sink.old.faults < most_faults }
     ensures told { IfOk result (λ told. told ≡ answer.told) }
     ensures bytes { OnOk result (Appends (W.contents sink.old.writer) (W.contents sink.new.writer)
-        (with_file_of answer.text.items answer.file)) }
-    ensures prefix { AppendsPrefixOf (with_file_of answer.text.items answer.file)
+        (with_file_of answer.text.items (option_map (λ f. f.now) file.entry))) }
+    ensures prefix { AppendsPrefixOf (with_file_of answer.text.items (option_map (λ f. f.now) file.entry))
         (W.contents sink.old.writer) (W.contents sink.new.writer) }
     ensures faults { sink.new.faults ≡ sink.old.faults + write_faults result }
     ensures unwritten { IfErr result (λ f. ¬ (f ≡ RunFault.Write) → sink.new ≡ sink.old) }
     ensures kind { IfErr result IsWritingFault }
 {
-    let Answer { told, text, file } = answer;
-    let Some(checked) = file else {
+    let Answer { told, text } = answer;
+    let Some(placed) = file else {
         sink.write_all(&text)?;
         return Ok(told);
     };
-    write_file(rt, alloc, workers, &text, &checked, sink)?;
+    write_file(rt, alloc, workers, &text, placed, sink)?;
     sink.write_all(b"\n")?;
-    mem::forget(checked);
     Ok(told)
 }
 
@@ -57,31 +142,20 @@ fn write_file<T: Threads + Sync, W: Write>(
     alloc: Global,
     workers: Workers,
     front: &[u8],
-    checked: &Checked,
+    placed: &PlacedAnswer<'_>,
     sink: &mut Sink<W>,
 ) -> Result<(), RunFault>
     requires writes { sink.old.faults < most_faults }
     ensures bytes { OnOk result (Appends (W.contents sink.old.writer) (W.contents sink.new.writer)
-        (front.now ++ compact_text (data_of checked.now.cert checked.now.graph checked.now.members 0))) }
+        (front.now ++ compact_text (data_of placed.now.cert placed.now.graph placed.now.members 0))) }
     ensures prefix { AppendsPrefixOf
-        (front.now ++ compact_text (data_of checked.now.cert checked.now.graph checked.now.members 0))
+        (front.now ++ compact_text (data_of placed.now.cert placed.now.graph placed.now.members 0))
         (W.contents sink.old.writer) (W.contents sink.new.writer) }
     ensures faults { sink.new.faults ≡ sink.old.faults + write_faults result }
     ensures unwritten { IfErr result (λ f. ¬ (f ≡ RunFault.Write) → sink.new ≡ sink.old) }
     ensures kind { IfErr result IsWritingFault }
 {
-    let (cert, graph, group) = (checked.cert(), checked.graph(), checked.members());
-    match write_certificate(
-        rt,
-        alloc,
-        workers,
-        front,
-        cert,
-        graph,
-        group,
-        FILE_MOMENT,
-        sink,
-    ) {
+    match write_certificate(rt, alloc, workers, front, placed, FILE_MOMENT, sink) {
         Ok(()) => Ok(()),
         Err(WritingFault::Write) => Err(RunFault::Write),
         Err(WritingFault::OutOfMemory) => Err(RunFault::OutOfMemory),

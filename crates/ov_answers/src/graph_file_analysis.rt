@@ -1,11 +1,9 @@
-ghost use Rattle.std.specs.Prelude.{◌≡◌, ◌≢◌, ◌<◌, false, option_map, Some, Err, IfOk, IfErr};
+ghost use Rattle.std.specs.Prelude.{◌≢◌, ◌<◌, option_map, Some, Err};
 ghost use Rattle.ov_io.specs.Device.{most_faults};
-ghost use Rattle.ov_answers.specs.Analysing.{IsAnalysis, IsAnalysisOf, IsFileAnalysis};
-ghost use Rattle.ov_answers.specs.Code.Files.{with_file_of};
-ghost use Rattle.ov_answers.specs.Code.TextFaults.{IsTextFault};
+ghost use Rattle.ov_answers.specs.Analysing.{IsAnalysisOf, IsFileAnalysis};
 
-use crate::answer_making::{Answer, answer_for, graph_of};
-use crate::answer_writing::write_answer;
+use crate::answer_making::graph_of;
+use crate::answer_writing::tell_graph;
 use crate::report_or_refusal::Answered;
 use crate::request::Request;
 use ov_even::Watcher;
@@ -26,7 +24,7 @@ use std::thread::Threads;
 /// and then a prefix of the text was written. With any other fault nothing was written. OutOfMemory (99) is returned if
 /// an allocation was refused. The numbers and the form of what is printed are chosen here.
 ///
-/// Each certificate that was written keeps its memory until the process ends.
+/// The paths of each certificate that was written keep their memory until the process ends.
 pub fn analyse_file<T: Threads + Sync, R: Read, W: Write, P: Watcher>(
     rt: &T,
     alloc: Global,
@@ -80,27 +78,10 @@ pub fn analyse_bytes<T: Threads + Sync, W: Write, P: Watcher>(
         names: false,
         explain: false,
     };
-    let answer = plain_answer(rt, alloc, bytes, &request, watcher)?;
-    match write_answer(rt, alloc, workers, answer, sink) {
+    let graph = graph_of(alloc, bytes)?;
+    let members = members_of(request.group, &graph);
+    match tell_graph(rt, alloc, &graph, members, None, &request, watcher, sink) {
         Ok(told) => Ok(told.answered),
         Err(fault) => Err(fault),
     }
-}
-
-/// What is printed of a graph file without its names, which are not read.
-fn plain_answer<T: Threads + Sync, P: Watcher>(
-    rt: &T,
-    alloc: Global,
-    bytes: &[u8],
-    request: &Request<'_>,
-    watcher: &mut P,
-) -> Result<Answer, RunFault>
-    requires plain { request.now.names ≡ false }
-    ensures answer { IfOk result (λ answer. IsAnalysis bytes.now (option_map (λ ids. ids.now) request.now.group)
-        request.now.certificate answer.told.answered (with_file_of answer.text.items answer.file)) }
-    ensures fault { IfErr result (IsTextFault bytes.now) }
-{
-    let graph = graph_of(alloc, bytes)?;
-    let members = members_of(request.group, &graph);
-    Ok(answer_for(rt, alloc, &graph, members, None, request, watcher)?)
 }

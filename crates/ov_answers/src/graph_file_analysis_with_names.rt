@@ -1,12 +1,9 @@
-ghost use Rattle.std.specs.Prelude.{◌≡◌, ◌<◌, [], false, option_map, Some, IfOk, IfErr};
+ghost use Rattle.std.specs.Prelude.{◌≡◌, ◌<◌, [], false, option_map};
 ghost use Rattle.ov_io.specs.Device.{most_faults};
 ghost use Rattle.ov_answers.specs.Analysing.{IsAnalysisOf};
-ghost use Rattle.ov_answers.specs.Telling.{IsToldOf, IsTelling, answered_of};
-ghost use Rattle.ov_answers.specs.Code.Files.{with_file_of};
-ghost use Rattle.ov_answers.specs.Code.TextFaults.{IsTextFault};
+ghost use Rattle.ov_answers.specs.Telling.{IsToldOf, answered_of};
 
-use crate::answer_making::{Answer, answer_for};
-use crate::answer_writing::write_answer;
+use crate::answer_writing::tell_graph;
 use crate::graph_without_nodes::graph_without;
 use crate::request::{Request, Told};
 use ov_even::Watcher;
@@ -22,7 +19,7 @@ use std::thread::Threads;
 /// leaves, stand between the line of the answer and the certificate file; a linked answer and a refusal have none.
 /// Nodes that are gone, and their links, are taken away before the analysis: the answer and its certificate are those
 /// of the graph that is left. Without names, and if no node is gone, what is written is the same as there. The faults
-/// are the same as there, in the same order, and as there a certificate that was written keeps its memory.
+/// are the same as there, in the same order, and as there the paths of a certificate that was written keep their memory.
 pub fn analyse_told<T: Threads + Sync, W: Write, P: Watcher>(
     rt: &T,
     alloc: Global,
@@ -42,7 +39,7 @@ pub fn analyse_told<T: Threads + Sync, W: Write, P: Watcher>(
 }
 
 /// The same, by what is told alone.
-#[tactic(auto, using(crate::proofs::Tellings::refused))]
+#[tactic(auto, using(crate::proofs::Tellings::refused, crate::proofs::Refused::of_graph_file))]
 fn tell<T: Threads + Sync, W: Write, P: Watcher>(
     rt: &T,
     alloc: Global,
@@ -55,24 +52,6 @@ fn tell<T: Threads + Sync, W: Write, P: Watcher>(
     ensures told { IsToldOf bytes.now W.contents sink.old request.now.gone.now
         (option_map (λ ids. ids.now) request.now.group) request.now.certificate request.now.names sink.new result }
 {
-    let answer = answer_for_file(rt, alloc, bytes, request, watcher)?;
-    write_answer(rt, alloc, request.workers, answer, sink)
-}
-
-/// What is told of a graph file.
-#[tactic(auto, using(crate::proofs::Refused::of_graph_file))]
-fn answer_for_file<T: Threads + Sync, P: Watcher>(
-    rt: &T,
-    alloc: Global,
-    bytes: &[u8],
-    request: &Request<'_>,
-    watcher: &mut P,
-) -> Result<Answer, RunFault>
-    ensures answer { IfOk result (λ answer. IsTelling bytes.now request.now.gone.now
-        (option_map (λ ids. ids.now) request.now.group) request.now.certificate request.now.names answer.told.answered
-        (with_file_of answer.text.items answer.file)) }
-    ensures fault { IfErr result (IsTextFault bytes.now) }
-{
     let (graph, told) = match read_named_graph(alloc, bytes) {
         Ok(read) => read,
         Err(fault) => return Err(RunFault::of_graph_file(&fault)),
@@ -80,5 +59,14 @@ fn answer_for_file<T: Threads + Sync, P: Watcher>(
     let names = Names::new(&graph, told);
     let left = graph_without(&graph, request.gone)?;
     let members = members_of(request.group, &left);
-    Ok(answer_for(rt, alloc, &left, members, Some(&names), request, watcher)?)
+    tell_graph(
+        rt,
+        alloc,
+        &left,
+        members,
+        Some(&names),
+        request,
+        watcher,
+        sink,
+    )
 }

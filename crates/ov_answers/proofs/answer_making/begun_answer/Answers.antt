@@ -1,6 +1,6 @@
 -- The line of the answer, and the lines behind it.
 use Rattle.std.proofs.Common.{◌∙◌, ℕ, List, ◌++◌, ap}
-use Rattle.ov_answers.proofs.answer_making.begun_report.Goals as goal
+use Rattle.ov_answers.proofs.answer_making.begun_answer.Goals as goal
 
 pub returns-clause-lines : goal.returns-clause-lines
 returns-clause-lines c =
