@@ -1,6 +1,6 @@
-//! Certificate files that are written as they are made, by several workers, from paths that are lists of places of nodes
-//! in the graph. Of the texts of the entries, nearly all of a file, no more is held than a few blocks; and all memory is
-//! there before the first byte is written.
+//! Certificate files that are written as they are made, by several workers, from paths that are lists of places in the
+//! graph. Of the texts of the entries, nearly all of a file, no more is held than a few blocks; and all memory is there
+//! before the first byte is written.
 #![tactic(auto)]
 
 mod answer_by_places;

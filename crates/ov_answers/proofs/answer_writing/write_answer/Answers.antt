@@ -16,22 +16,22 @@ whole sent text c file is same =
 pub returns-in_err-write_file-clause-prefix : goal.returns-in_err-write_file-clause-prefix
 returns-in_err-write_file-clause-prefix g c =
     let answer = c.args.answer in
-    same_begun _ _ _ _ (whole c.deref-2.result.now answer.text.items c.in-Some.placed.now (option_map (λ f. f.now) c.args.file)
-    (ap (λ o. option_map (λ f. f.now) o) c.in-Some.is)
-    c.deref-2.ensures.value) (sent_before _ _ _ (codes "\n") c.in_err-write_file.ensures.prefix)
+    let file = option_map (λ f. f.now) c.args.file in
+    same_begun _ _ _ _ (whole c.deref-2.result.now answer.text.items c.in-Some.placed.now file
+    (ap (λ o. option_map (λ f. f.now) o) c.in-Some.is) c.deref-2.ensures.value) (sent_before _ _ _ (codes "\n") c.in_err-write_file.ensures.prefix)
 
 pub returns-in_err-write_all-2-clause-prefix : goal.returns-in_err-write_all-2-clause-prefix
 returns-in_err-write_all-2-clause-prefix g c =
     let answer = c.args.answer in
-    same_begun _ _ _ _ (whole c.deref-2.result.now answer.text.items c.in-Some.placed.now (option_map (λ f. f.now) c.args.file)
-    (ap (λ o. option_map (λ f. f.now) o) c.in-Some.is)
-    c.deref-2.ensures.value)
+    let file = option_map (λ f. f.now) c.args.file in
+    same_begun _ _ _ _ (whole c.deref-2.result.now answer.text.items c.in-Some.placed.now file
+    (ap (λ o. option_map (λ f. f.now) o) c.in-Some.is) c.deref-2.ensures.value)
     (sent_behind _ _ _ _ _ c.in_ok-write_file.ensures.bytes c.in_err-write_all-2.ensures.prefix)
 
 pub returns-clause-prefix : goal.returns-clause-prefix
 returns-clause-prefix g c =
     let answer = c.args.answer in
-    same_begun _ _ _ _ (whole c.deref-2.result.now answer.text.items c.in-Some.placed.now (option_map (λ f. f.now) c.args.file)
-    (ap (λ o. option_map (λ f. f.now) o) c.in-Some.is)
-    c.deref-2.ensures.value)
+    let file = option_map (λ f. f.now) c.args.file in
+    same_begun _ _ _ _ (whole c.deref-2.result.now answer.text.items c.in-Some.placed.now file
+    (ap (λ o. option_map (λ f. f.now) o) c.in-Some.is) c.deref-2.ensures.value)
     (sent_behind _ _ _ _ _ c.in_ok-write_file.ensures.bytes c.in_ok-write_all-2.ensures.prefix)

@@ -11,7 +11,8 @@ use Rattle.ov_even.specs.Code.Entries.{pair_entries, fan_entries}
 use Rattle.ov_even.proofs.AnalysisSteps.Entered.{pair_entered, fan_entered, fan_no_pair, pair_no_fan}
 use Rattle.ov_certwriter.specs.Code.Placed.{by_ids}
 use Rattle.ov_certwriter.proofs.Placing.{pair_by_ids, fan_by_ids, named_more}
-use Rattle.ov_certwriter.proofs.answer_by_places.place_entries.Goals.{In-Pair, In-Fan, in-Pair+in_ok-push-in-Pair, in-Fan+in_ok-push-in-Fan}
+use Rattle.ov_certwriter.proofs.answer_by_places.place_entries.Goals.{In-Pair, In-Fan, in-Pair+in_ok-push-in-Pair}
+use Rattle.ov_certwriter.proofs.answer_by_places.place_entries.Goals.{in-Fan+in_ok-push-in-Fan}
 use Rattle.ov_certwriter.proofs.answer_by_places.place_entries.Goals as goal
 
 -- the next piece is one of those that were found

@@ -14,7 +14,8 @@ returns-clause-fans g c =
     let fans = subst (λ (xs : List FanPaths). AreWithin (λ e. e.paths) room xs) c.as_slice-fans.ensures.value own in
     let all = within_more (λ (e : FanPaths). e.paths) room c.max-room.result c.args.entries.now.fans.items
     (omega (arith, most)) fans in
-    subst (λ (r : ℕ). AreWithin (λ (e : FanPaths). e.paths) r c.args.entries.now.fans.items) (sym c.in_ok-new.ensures.room) all
+    subst (λ (r : ℕ). AreWithin (λ (e : FanPaths). e.paths) r c.args.entries.now.fans.items)
+    (sym c.in_ok-new.ensures.room) all
 
 pub returns-clause-pairs : goal.returns-clause-pairs
 returns-clause-pairs g c =

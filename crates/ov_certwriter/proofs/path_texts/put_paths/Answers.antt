@@ -8,7 +8,8 @@ use Rattle.ov_flow.specs.Flow.{ArePlaces, ended_by}
 use Rattle.ov_certfile.specs.DataOf.{ids_data}
 use Rattle.ov_certwriter.specs.Code.Blocks.{items_after, texts_room}
 use Rattle.ov_certwriter.specs.Code.Placed.{by_ids, ids_back}
-use Rattle.ov_certwriter.proofs.PutTexts.{puts_nothing, puts_then, puts_same, item_more, item_short, list_put, list_short}
+use Rattle.ov_certwriter.proofs.PutTexts.{puts_nothing, puts_then, puts_same, item_more, item_short, list_put}
+use Rattle.ov_certwriter.proofs.PutTexts.{list_short}
 use Rattle.ov_certwriter.proofs.PathTexts.{turned, places_turned}
 use Rattle.ov_certwriter.proofs.path_texts.put_paths.Goals as goal
 
