@@ -79,8 +79,8 @@ fn tell_with_file<T: Threads + Sync, W: Write, P: Watcher>(
 
 /// Tells the answer for which these hauls suffice, and writes its certificate file behind it.
 ///
-/// The memory of the hauls is not given back: they may have millions of paths, and the system takes all memory faster
-/// when the process ends, which is next.
+/// Once the file is written, the memory of the hauls is not given back: they may have millions of paths, and the system
+/// takes all memory faster when the process ends, which is next.
 fn tell_hauls<T: Threads + Sync, W: Write>(
     rt: &T,
     alloc: Global,
@@ -100,10 +100,14 @@ fn tell_hauls<T: Threads + Sync, W: Write>(
 {
     let placed = place_answer(alloc, graph, group, &hauls)?;
     let answer = begun_answer(alloc, placed.outline(), graph, group, names, request)?;
-    let written = write_answer(rt, alloc, request.workers, answer, Some(&placed), sink);
-    mem::forget(placed);
-    mem::forget(hauls);
-    written
+    match write_answer(rt, alloc, request.workers, answer, Some(&placed), sink) {
+        Ok(told) => {
+            mem::forget(placed);
+            mem::forget(hauls);
+            Ok(told)
+        }
+        Err(fault) => Err(fault),
+    }
 }
 
 /// Writes the text of an answer, and behind it the certificate file if there is one. The file is written as it is made,

@@ -24,7 +24,7 @@ use std::thread::Threads;
 /// and then a prefix of the text was written. With any other fault nothing was written. OutOfMemory (99) is returned if
 /// an allocation was refused. The numbers and the form of what is printed are chosen here.
 ///
-/// The paths of each certificate that was written keep their memory until the process ends.
+/// What was settled for each certificate that was written keeps its memory until the process ends.
 pub fn analyse_file<T: Threads + Sync, R: Read, W: Write, P: Watcher>(
     rt: &T,
     alloc: Global,

@@ -19,7 +19,7 @@ use std::thread::Threads;
 /// leaves, stand between the line of the answer and the certificate file; a linked answer and a refusal have none.
 /// Nodes that are gone, and their links, are taken away before the analysis: the answer and its certificate are those
 /// of the graph that is left. Without names, and if no node is gone, what is written is the same as there. The faults
-/// are the same as there, in the same order, and the paths of a certificate that was written keep their memory, too.
+/// are the same as there, in the same order, and what was settled for a certificate that was written keeps its memory.
 pub fn analyse_told<T: Threads + Sync, W: Write, P: Watcher>(
     rt: &T,
     alloc: Global,

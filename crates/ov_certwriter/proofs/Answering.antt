@@ -20,17 +20,6 @@ use Rattle.ov_even.proofs.EvenTest.Answering.{linked_valid}
 use Rattle.ov_certwriter.specs.Code.Parts.{without_entries}
 use Rattle.ov_certwriter.specs.Code.Placed.{split_with, cert_with, HasEntries}
 
--- ---- a certificate with other entries
-
-pub with_alike : (c : Cert) (pairs : List PairPaths) (fans : List FanPaths) → AreAlike (cert_with c pairs fans) c
-with_alike (cert.Linked k) pairs fans = refl
-with_alike (cert.Split c) pairs fans = record { k = refl; cut = refl; near = refl; far = refl; side = refl }
-
-pub with_has : (c : Cert) (pairs : List PairPaths) (fans : List FanPaths)
-    → HasEntries (cert_with c pairs fans) pairs fans
-with_has (cert.Linked k) pairs fans = tt
-with_has (cert.Split c) pairs fans = (refl, refl)
-
 -- ---- what an outline says of its certificate
 
 -- if it is no split, it is the certificate

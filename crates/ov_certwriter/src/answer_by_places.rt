@@ -55,14 +55,14 @@ impl<'a> Model for PlacedAnswer<'a> {
 
 impl<'a> PlacedAnswer<'a> {
     /// The graph.
-    pub fn graph(&self) -> &'a Graph
+    pub(crate) fn graph(&self) -> &'a Graph
         ensures { result.now ≡ self.now.graph }
     {
         self.graph
     }
 
     /// The members of the group, ascending.
-    pub fn members(&self) -> &'a [NodeId]
+    pub(crate) fn members(&self) -> &'a [NodeId]
         ensures { result.now ≡ self.now.members }
     {
         self.group

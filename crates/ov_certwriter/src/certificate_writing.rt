@@ -30,7 +30,7 @@ const ROOM_WORTH_A_THREAD: u64 = 1 << 20;
 
 /// Writes what stands in front of a certificate file, and then the file, as `to_text_group` would make it. The texts of
 /// the entries are made from places of nodes by this number of workers, a part at a time, while the part before is
-/// written; no more than two such parts is held in memory. The moment is at most 65,536.
+/// written; no more than two such parts are held in memory. The moment is at most 65,536.
 ///
 /// `Write` (72): the writer failed in this call, and a prefix of the whole was written. `OutOfMemory` (99): an
 /// allocation was refused. All memory is there before the first byte is written; so nothing was written then.

@@ -1,5 +1,5 @@
-//! The texts of the entries of a certificate, put into memory that is there already, as `reserved_memory` does it. An
-//! entry's room is the most bytes that its text needs.
+//! What puts the text of an entry of a certificate into memory that is there already, as `reserved_memory` does it; and
+//! the texts of lists of ids. An entry's room is the most bytes that its text needs.
 ghost use Rattle.std.specs.Prelude.{◌≤◌, ◌+◌, ◌*◌, length};
 ghost use Rattle.serde_json.specs.Written.{compact_text};
 ghost use Rattle.ov_certfile.specs.DataOf.{ids_data};

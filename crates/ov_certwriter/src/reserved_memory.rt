@@ -1,5 +1,5 @@
-//! The JSON texts of numbers, lists and entries, put into memory that is there already: nothing is allocated. Each call
-//! takes the place at which it begins to put, and returns the place behind what it put. So the place is in no memory
+//! Bytes, texts, commas and whole numbers, put into memory that is there already: nothing is allocated. Each call takes
+//! the place at which it begins to put, and returns the place behind what it put. So the place is in no memory
 //! that several threads share. What does not fit is left out; so who calls has to have room.
 ghost use Rattle.std.specs.Prelude.{◌≡◌, ◌≤◌, ◌<◌, ◌+◌, [], ◌∷◌, decimal, length};
 ghost use Rattle.serde_json.specs.Written.{comma_if};

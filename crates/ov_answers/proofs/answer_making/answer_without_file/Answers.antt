@@ -1,8 +1,6 @@
 -- The line of an outline is that of the answer.
-use Rattle.std.proofs.Common.{false, option_map, subst, sym, OnOk}
+use Rattle.std.proofs.Common.{option_map}
 use Rattle.ov_answers.specs.Code.GivenNames.{given_names}
-use Rattle.ov_answers.specs.Telling.{TellsAnswer}
-use Rattle.ov_answers.specs.declared.report_or_refusal.Answered.{Answered}
 use Rattle.ov_answers.proofs.OfGraph.{outline_told}
 use Rattle.ov_answers.proofs.answer_making.answer_without_file.Goals as goal
 
