@@ -1,12 +1,12 @@
 -- The members of a set after a change, and their places.
 use Rattle.std.proofs.Common.{subst, ap, zero, ◌≡◌, ◌≢◌, ◌↔◌, ℕ, suc, ◌<◌, ◌≤◌, ◌+◌, Bool, true, false, cond, not}
 use Rattle.std.proofs.Common.{IsTrue, ◌||◌, ◌&&◌, eqb, ltb, List, [], ◌∷◌, length, get_or, refl, inl, inr, sym, ◌∙◌}
-use Rattle.std.proofs.Common.{◌-◌}
-use Rattle.std.proofs.Common.{◌⊎◌, arith}
-use Rattle.std.specs.Prelude.{insert, remove, slice_index, if◌then◌else◌}
+use Rattle.std.proofs.Common.{◌-◌, ◌⊎◌, arith}
+use Rattle.std.specs.Prelude.{Some, insert, remove, slice_get, slice_index, if◌then◌else◌}
 use Rattle.std.specs.List.{AllByRecursion}
 use Rattle.std.proofs.lemmas.Bool.{and_parts, not-true, or_cases, or_left, or_right, ltb-true, ltb-false, lt-ltb}
 use Rattle.std.proofs.lemmas.Bool.{le-ltb, eq-eqb, ne_eqb, eqb-false, eqb-true, or_parts, cases_order, both_ways}
+use Rattle.std.proofs.lemmas.Option.{same_Some, slice_get-get_or}
 use Rattle.ov_ids.specs.Sets.{IsSet, has, IsIn, adding, without, count_below, IsPlaceFor}
 
 All-map : (P Q : ℕ → Type 0) → ((y : ℕ) → P y → Q y) → (t : List ℕ) → AllByRecursion P t → AllByRecursion Q t
@@ -374,15 +374,6 @@ replaced_more x o t s e h p =
 pub IsSet-replacing : (x o : ℕ) (t : List ℕ) → IsSet t → IsSet (adding x (without o t))
 IsSet-replacing x o t s = IsSet-adding x (without o t) (IsSet-without o t s)
 
-pub members_replacing : (x o : ℕ) (t u : List ℕ) → u ≡ adding x (without o t)
-    → (z : ℕ) → IsIn u z ↔ ((z ≡ x) ⊎ ((z ≢ o) × IsIn t z))
-members_replacing x o t u e z =
-    let out = members_without o t (without o t) refl z in
-    let into = members_adding x (without o t) u e z in (
-      (λ h. elim (into.0 h) [ inl same ↦ inl same | inr k ↦ inr (out.0 k) ]),
-      (λ h. into.1 (elim h [ inl same ↦ inl same | inr k ↦ inr (out.1 k) ])),
-    )
-
 -- what holds of all items holds of the one at a place
 at_place : (P : ℕ → Type 0) (t : List ℕ) (i d : ℕ) → AllByRecursion P t → i < length t → P (get_or t i d)
 at_place P [] i d a l = absurd (omega (arith, l))
@@ -401,3 +392,17 @@ count_below_at (y ∷ t) (suc i) d s l =
 pub without_at : (t : List ℕ) (i d : ℕ) → IsSet t → i < length t → without (get_or t i d) t ≡ remove t i
 without_at t i d s l =
     without_present (get_or t i d) t s (IsIn-get_or t i d l) ∙ ap (remove t) (count_below_at t i d s l)
+
+-- a member by its place: it is one, and so many are below it
+pub placed : (t : List ℕ) (i x : ℕ) → IsSet t → i < length t → slice_get t i ≡ Some x
+    → (has t x ≡ true) × (count_below x t ≡ i)
+placed t i x s l e =
+    let same : get_or t i 0 ≡ x = same_Some (get_or t i 0) x (sym (slice_get-get_or t i 0 l) ∙ e) in
+    subst (λ y. (has t y ≡ true) × (count_below y t ≡ i)) same (IsIn-get_or t i 0 l, count_below_at t i 0 s l)
+
+-- a member is at the place that says how many are below it
+pub member_at : (x : ℕ) (t : List ℕ) → IsSet t → has t x ≡ true → slice_get t (count_below x t) ≡ Some x
+member_at x t s h =
+    let l : count_below x t < length t = count_below-lt-length x t h in
+    slice_get-get_or t (count_below x t) 0 l
+    ∙ ap Some (eqb-true (get_or t (count_below x t) 0) x (has_at x t 0 s l ∙ h))

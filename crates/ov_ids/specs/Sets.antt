@@ -1,6 +1,6 @@
 -- Sets of ids, each written as the list of its members in ascending order.
-use Rattle.std.specs.Prelude.{ℕ, suc, ◌<◌, ◌≤◌, Bool, IsTrue, not, List, [], ◌∷◌, ◌==◌, length, slice_index, nat_lt}
-use Rattle.std.specs.Prelude.{filter, if◌then◌else◌}
+use Rattle.std.specs.Prelude.{ℕ, suc, ◌<◌, ◌≤◌, ◌≡◌, Bool, false, IsTrue, not, List, [], ◌∷◌, ◌==◌, length}
+use Rattle.std.specs.Prelude.{slice_index, nat_lt, filter, if◌then◌else◌}
 use Rattle.std.specs.List.{list_any}
 use Rattle.ov_ids.specs.Members.{Ascends}
 
@@ -38,6 +38,10 @@ without_all (y ∷ ys) xs = without_all ys (without y xs)
 abbrev pub count_below : ℕ → List ℕ → ℕ
 count_below x [] = 0
 count_below x (y ∷ ys) = if nat_lt y x then suc (count_below x ys) else 0
+
+-- i is the gap of x, which is no member: so many members are below x
+abbrev pub IsGap : List ℕ → ℕ → ℕ → Type 0
+IsGap set x i = (has set x ≡ false) × (i ≡ count_below x set)
 
 -- p is the place for x: each id before it is below x, and the id at it, if there is one, is not
 pub record IsPlaceFor (xs : List ℕ) (x p : ℕ) : Type 0 where

@@ -48,9 +48,7 @@ impl LivePeer {
         ensures ok { OnOk result (Follows self.old plan self.new) }
         ensures err { OnErr result (self.new ≡ self.old) }
     {
-        match self.peer.apply(plan.into_plan()) {
-            Ok(_) => Ok(()),
-            Err(fault) => Err(fault),
-        }
+        let mut plan = plan.into_box();
+        self.peer.follow(&mut plan)
     }
 }

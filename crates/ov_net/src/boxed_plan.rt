@@ -36,10 +36,10 @@ impl BoxedPlan {
         &self.plan
     }
 
-    /// The plan, taken out of its box.
-    pub(crate) fn into_plan(self) -> Plan
-        ensures { result ≡ self }
+    /// The plan in its box.
+    pub(crate) fn into_box(self) -> Box<Plan>
+        ensures { result.value ≡ self }
     {
-        Box::into_inner(self.plan)
+        self.plan
     }
 }

@@ -1,4 +1,4 @@
-ghost use Rattle.std.specs.Prelude.{◌≡◌, ◌≢◌, IsOk, OnOk, OnErr, None, Some, IfSome, is_some, nat_eq, slice_get};
+ghost use Rattle.std.specs.Prelude.{◌≡◌, OnOk, OnErr, Some, IfSome, is_some, nat_eq, slice_get};
 ghost use Rattle.std.specs.Option.{option_copied};
 ghost use Rattle.std.specs.FinMap as map;
 ghost use Rattle.indexmap.specs.IndexMap.{get, keys, values};
@@ -92,10 +92,9 @@ impl Nodes {
         }
     }
 
-    /// Stores a node under this id. Only a new id may need an allocation; out of memory, nothing changes.
+    /// Stores a node under this id. Out of memory, nothing changes.
     pub(crate) fn put(&mut self, id: NodeId, member: Member) -> Result<(), OutOfMemory>
         ensures ok { OnOk result (self.new ≡ map.insert self.old id member) }
-        ensures present { map.get self.old id ≢ None → IsOk result }
         ensures err { OnErr result (self.new ≡ self.old) }
     {
         self.members.insert(id, member)?;

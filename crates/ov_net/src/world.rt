@@ -15,7 +15,7 @@ ghost use Rattle.ov_net.specs.World.{Stands, opening_world};
 
 use crate::event::Event;
 use crate::fault::NetFault;
-use crate::journal_entry_and_changes::{Entry, Told};
+use crate::journal_entry_and_changes::Entry;
 use crate::live_graph_updating::{add_newborn, change_graph, remove_newborn};
 use crate::member::Member;
 use crate::nodes::Nodes;
@@ -234,13 +234,14 @@ impl World {
             changes,
             delivery,
         } = effects;
-        let told = Told {
+        let number = next_number(&self.journal);
+        let entry = Entry {
+            number,
             event,
             words: kept,
             changes,
             delivery,
         };
-        let number = next_number(&self.journal);
         reserve_and_change(
             &mut self.nodes,
             &mut self.graph,
@@ -248,12 +249,12 @@ impl World {
             &mut self.journal,
             node,
             packets.len(),
-            &told.event,
+            &entry.event,
         )?;
-        change_graph(&mut self.graph, &self.nodes, told.changes.as_slice());
+        change_graph(&mut self.graph, &self.nodes, entry.changes.as_slice());
         update_packets(&mut self.packets, taken, packets);
-        self.since = since_after(self.since, &told, number);
-        self.journal.push_reserved(told.entry(number));
+        self.since = since_after(self.since, &entry);
+        self.journal.push_reserved(entry);
         Ok(number)
     }
 }
@@ -340,14 +341,15 @@ fn next_number(journal: &[Entry]) -> u32
     journal.len() as u32 + 1
 }
 
-/// The number of the last entry that told a change, after one more entry, which tells this and has this number.
-fn since_after(before: u32, told: &Told, number: u32) -> u32
-    ensures { ((told.now.changes ≡ []) × (result ≡ before)) ⊎ ((told.now.changes ≢ []) × (result ≡ number)) }
+/// The number of the last entry that told a change, after one more entry.
+fn since_after(before: u32, entry: &Entry) -> u32
+    ensures { ((entry.now.changes ≡ []) × (result ≡ before))
+        ⊎ ((entry.now.changes ≢ []) × (result ≡ entry.now.number)) }
 {
-    if told.changes.as_slice().is_empty() {
+    if entry.changes.as_slice().is_empty() {
         before
     } else {
-        number
+        entry.number
     }
 }
 

@@ -34,6 +34,7 @@ use ov_wire::{Body, MOST_PAYLOAD, Message};
 use ov_words::{Draws, Words};
 use std::alloc::Global;
 use std::marker::Model;
+use std::mem;
 
 /// How many broadcasts a node may make, as `most_broadcasts` of `ov_plum` says. (Chosen here.)
 pub const MOST_BROADCASTS: u32 = 4096;
@@ -216,27 +217,36 @@ impl Peer {
         ensures err { OnErr result (self.new ≡ self.old) }
         ensures room { may_allocate plan.plum_change ≡ false → IsOk result }
     {
-        let Plan {
-            sends,
-            changes,
-            delivered,
-            views_change,
-            plum_change,
-        } = plan;
+        let mut plan = plan;
+        self.follow(&mut plan)?;
+        Ok(Output {
+            sends: plan.sends,
+            changes: plan.changes,
+            delivered: plan.delivered,
+        })
+    }
+
+    /// Follows a plan as `apply` does, with the same fault. What becomes part of the node is taken out of the plan, and
+    /// what the step sends, changes and delivers stays in it. So nothing large is moved.
+    pub fn follow(&mut self, plan: &mut Plan) -> Result<(), OutOfMemory>
+        requires { IsPlanFor self.old plan.old }
+        ensures follows { OnOk result (Follows self.old plan.old self.new) }
+        ensures output { output_of plan.new ≡ output_of plan.old }
+        ensures err { OnErr result (self.new ≡ self.old) }
+        ensures room { may_allocate plan.old.plum_change ≡ false → IsOk result }
+    {
+        let plum_change = mem::replace(&mut plan.plum_change, PlumChange::Nothing);
+        let views_change = mem::replace(&mut plan.views_change, HyParViewChange::Nothing);
         self.plum.apply(plum_change)?;
         prove!(self.plum.eager().len() + self.plum.lazy().len() <= self.views.active().len());
-        tell(&mut self.plum, &changes);
+        tell(&mut self.plum, &plan.changes);
         follow(
             &mut self.views,
             &mut self.attempt,
             &mut self.sent,
             views_change,
         );
-        Ok(Output {
-            sends,
-            changes,
-            delivered,
-        })
+        Ok(())
     }
 
     /// One step: the node takes an input. Random choices are drawn from the words. After a fault the node is as it was.

@@ -13,6 +13,7 @@ use ov_shuffle::Sent;
 use ov_views::{Moves, ViewChange, Views};
 use ov_wire::Message;
 use std::alloc::Global;
+use std::mem;
 
 /// The views and the attempt that a node is to have next.
 #[derive(Drop)]
@@ -116,13 +117,13 @@ pub(crate) fn follow(
     }
 }
 
-/// Puts the next views and the next attempt in the place of a node's own. It is a call of its own since its room on
-/// the stack is cleared, which a plan without next views is spared so.
-fn take_over(views: &mut Views, attempt: &mut Attempt, next: Box<NextViews>)
+/// Puts the next views and the next attempt in the place of a node's own. Of the views only the members are copied, and
+/// the node's attempt before goes with the box.
+fn take_over(views: &mut Views, attempt: &mut Attempt, mut next: Box<NextViews>)
     ensures views { views.new ≡ next.value.views }
     ensures attempt { attempt.new ≡ next.value.attempt }
 {
-    let next = Box::into_inner(next);
-    *views = next.views;
-    *attempt = next.attempt;
+    let next = &mut *next;
+    views.copy_from(&next.views);
+    mem::swap(attempt, &mut next.attempt);
 }

@@ -27,9 +27,6 @@ others v x e =
     let parts = or_parts (eqb x v.me) (has v.active x) e in
     record { differs = eqb-false x v.me parts.0; inactive = not_in v.active x parts.1 }
 
-pub strangers : (v : ViewsState) (x : ℕ) → is_known v x ≡ false → AreOthers v x
-strangers v x e = others v x (or_parts (is_close v x) (has v.passive x) e).0
-
 pub AreViews-without_active : (v : ViewsState) (x : ℕ) → AreViews v →
     AreViews (record v { active = without x v.active })
 AreViews-without_active v x a = record {

@@ -1,5 +1,6 @@
 pub mod Keeping
 pub mod Giving
+pub mod LeftOf
 pub mod Sampling
 pub mod Integrating
 pub mod Tracking

@@ -1,8 +1,8 @@
 -- A sample while it is drawn.
-use Rattle.std.proofs.Common.{◌≡◌, ℕ, ◌≤◌, ◌+◌, List, [], ◌∷◌, ◌++◌, length, refl, ap, ◌∙◌, subst, arith}
+use Rattle.std.proofs.Common.{◌≡◌, ℕ, ◌+◌, List, [], ◌∷◌, ◌++◌, length, refl, ap, ◌∙◌, subst, arith}
 use Rattle.std.proofs.lemmas.List.{length-append}
 use Rattle.ov_ids.specs.Sets.{IsSet, IsIn, without, without_all}
-use Rattle.ov_ids.proofs.Sets.{IsSet-without, length-without_set}
+use Rattle.ov_ids.proofs.Sets.{IsSet-without, length-without_less, length-without_set}
 use Rattle.ov_words.specs.Pick.{Choice, AreDrawn}
 use Rattle.ov_words.proofs.PickLemmas.{AreDrawn-append, picked_member, picked_word}
 use Rattle.ov_views.specs.Sampling.{AreChosen}
@@ -15,7 +15,7 @@ pub record Sampling (set : List ℕ) (before now picked rest : List ℕ) : Type 
   pub remaining : rest ≡ without_all picked set
   pub ascends : IsSet rest
   pub words : length before ≡ length now + length picked
-  pub enough : length set ≤ length rest + length picked
+  pub counted : length set ≡ length rest + length picked
 
 pub begun : (set before : List ℕ) → IsSet set → Sampling set before before [] set
 begun set before up = record {
@@ -25,7 +25,7 @@ begun set before up = record {
   remaining = refl;
   ascends = up;
   words = omega arith;
-  enough = omega arith;
+  counted = omega arith;
 }
 
 chosen_more : (ids : List ℕ) (set : List ℕ) (x : ℕ) (choices : List Choice) → AreChosen set ids choices →
@@ -62,5 +62,11 @@ sampled_more set before now later picked rest x s drawn =
       remaining = ap (without x) s.remaining ∙ rest_more picked set x;
       ascends = IsSet-without x rest s.ascends;
       words = omega (arith, s.words);
-      enough = omega (arith, s.enough, length-without_set x rest s.ascends);
+      counted = omega (
+        arith,
+        s.counted,
+        length-without_set x rest s.ascends,
+        length-without_less x rest h,
+        more,
+      );
     }

@@ -15,7 +15,7 @@ use Rattle.ov_views.specs.Changes.{Keeps, Chosen, AddsPassive, DropsRandom, Adds
 use Rattle.ov_views.specs.Sampling.{GivesUp, TakesIn, Integrates}
 use Rattle.ov_views.specs.declared.change.ViewChange.{ViewChange}
 use Rattle.ov_views.specs.declared.change.ViewChange.TheVariants.{Up, Down}
-use Rattle.ov_views.proofs.Giving.{passed_more, none_left}
+use Rattle.ov_views.proofs.Giving.{no_member, passed_more, none_left}
 use Rattle.ov_views.proofs.Keeping.{drops, enters}
 
 few_given : (passive sent : List ℕ) (d : ℕ) (left : List ℕ) (cs : List Choice) →
@@ -81,7 +81,8 @@ can_give passive sent [] s some =
     let m = some_member passive some in
     (record { from = passive; member = m.0 } ∷ [], m.0, [], inr (none_left passive sent [] s refl, (m.1, refl), refl))
 can_give passive sent (y ∷ left) s some = by (has passive y) refl
-    (λ out. can_give passive sent left (passed_more passive sent (y ∷ left) left y s refl out) some)
+    (λ out. let passed = passed_more passive sent (y ∷ left) left y s refl (no_member passive y out) in
+    can_give passive sent left passed some)
   where
     by : (b : Bool) → has passive y ≡ b →
         (has passive y ≡ false → (cs : List Choice) × (d : ℕ) × (rest : List ℕ) × GivesUp passive sent d rest cs) →
@@ -173,16 +174,12 @@ given_up v x sent words unknown full enough = λ cs h.
 -- and if no member was sent, there is a word for the pick
 pub pick_gives : (passive sent words : List ℕ) → IsApart passive sent →
     Suffice words (λ cs. (d : ℕ) × (left : List ℕ) × GivesUp passive sent d left cs) →
-    passive ≢ [] → 0 < length words
-pick_gives passive sent words apart enough some = by passive refl
-  where
-    by : (set : List ℕ) → passive ≡ set → 0 < length words
-    by [] e = absurd (some e)
-    by (y ∷ set) e =
-        let m = some_member passive (omega (arith, ap length e)) in
-        let one : Choice = record { from = passive; member = m.0 } in
-        let all : length (one ∷ []) ≤ length words = enough (one ∷ []) (m.0, [], inr (apart, (m.1, refl), refl)) in
-        omega (arith, all)
+    0 < length passive → 0 < length words
+pick_gives passive sent words apart enough some =
+    let m = some_member passive some in
+    let one : Choice = record { from = passive; member = m.0 } in
+    let all : length (one ∷ []) ≤ length words = enough (one ∷ []) (m.0, [], inr (apart, (m.1, refl), refl)) in
+    omega (arith, all)
 
 -- if words suffice for a list, they do for its first id
 pub first_taken : (v : ViewsState) (x : ℕ) (ids sent words : List ℕ) → 1 ≤ v.params.passive →

@@ -1,2 +1,3 @@
 -- What proofs and private functions alone cite.
 pub mod ChangeOrder
+pub mod LeftOf

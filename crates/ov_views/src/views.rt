@@ -1,16 +1,17 @@
 ghost use Rattle.std.specs.Prelude.{◌≡◌, ◌≤◌, ◌<◌, ◌+◌, ◌↔◌, ℕ, List, [], ◌∷◌, ◌++◌, Some, None, length, min};
-ghost use Rattle.std.specs.Prelude.{◌==◌, ◌&&◌, not, IsTrue, IfSome, IfNone, MatchBool};
+ghost use Rattle.std.specs.Prelude.{◌==◌, ◌&&◌, not, slice_get, IsTrue, IfSome, IfNone, MatchBool};
 ghost use Rattle.ov_ids.specs.Members.{Has};
-ghost use Rattle.ov_ids.specs.Sets.{IsSet, IsIn, has, without, without_all};
+ghost use Rattle.ov_ids.specs.Sets.{IsSet, has, without, without_all};
 ghost use Rattle.ov_words.specs.Pick.{AreDrawn, Drawn, Suffice, Choice};
 ghost use Rattle.ov_views.specs.ViewsState.{ViewsState, AreViews, has_place, is_close, members};
 ghost use Rattle.ov_views.specs.Changes.{AddsPassive, DropsRandom, AddsActive, RemovesActive, Forgets};
 ghost use Rattle.ov_views.specs.Code.ChangeOrder.{in_order};
+ghost use Rattle.ov_views.specs.Code.LeftOf.{left_of};
 ghost use Rattle.ov_views.specs.Sampling.{Samples, GivesUp, TakesIn, Integrates};
 ghost use Rattle.ov_views.specs.declared.change.ViewChange.{ViewChange};
 
 use crate::{Changes, Sample};
-use ov_ids::{IdSet, MOST_ACTIVE, NodeId, Params};
+use ov_ids::{IdSet, MOST_ACTIVE, MOST_MEMBERS, NodeId, Params};
 use ov_words::Draws;
 use std::marker::Model;
 
@@ -67,6 +68,16 @@ impl Views {
             active: self.active.copy(),
             passive: self.passive.copy(),
         }
+    }
+
+    /// Becomes equal views. Only the members are copied.
+    pub fn copy_from(&mut self, other: &Views)
+        ensures { self.new ≡ other.now }
+    {
+        self.me = other.me;
+        self.params = other.params;
+        self.active.copy_from(&other.active);
+        self.passive.copy_from(&other.passive);
     }
 
     /// The node whose views these are.
@@ -280,15 +291,15 @@ impl Views {
         if self.is_close(id) {
             return sent;
         }
+        let Some(gap) = self.passive.gap(id) else {
+            return sent;
+        };
         if self.passive.len() < self.params.passive() {
-            self.passive.insert(id);
+            self.passive.insert_at(gap, id);
             return sent;
         }
-        if self.passive.contains(id) {
-            return sent;
-        }
-        let (out, left) = give_up(&self.passive, sent, draws);
-        self.passive.replace(out, id);
+        let (place, left) = give_up(&self.passive, sent, draws);
+        self.passive.replace_at(place, gap, id);
         left
     }
 
@@ -300,11 +311,13 @@ impl Views {
         ensures drawn { Drawn draws.old draws.new (λ choices. Samples (members view self.now) count choices result) }
         ensures words { length draws.old ≡ length draws.new + length result }
     {
-        let mut rest = self.set_of(view).copy();
+        let set = self.set_of(view);
+        let mut taken = [0; MOST_MEMBERS];
         let mut picked = Sample::new();
-        for _ in 0..count.min(rest.len()) {
-            let place = draws.place(rest.len());
-            picked.push(rest.take_at(place));
+        for i in 0..count.min(set.len()) {
+            let place = draws.place(set.len() - i);
+            picked.push(left_member(set.as_slice(), &taken[..i], place));
+            taken[i] = place as u8;
         }
         picked
     }
@@ -318,24 +331,41 @@ fn is_neither(node: NodeId, one: NodeId, other: NodeId) -> bool
     node != one && node != other
 }
 
-/// The passive member to give up for a new one, and what is then left of `sent`.
-fn give_up<'s>(passive: &IdSet, sent: &'s [NodeId], draws: &mut Draws<'_>) -> (NodeId, &'s [NodeId])
+/// The place of the passive member to give up for a new one, counted from 0 in ascending order, and what is then left
+/// of `sent`.
+fn give_up<'s>(passive: &IdSet, sent: &'s [NodeId], draws: &mut Draws<'_>) -> (usize, &'s [NodeId])
     requires some { 0 < length passive.now }
     requires words { Suffice draws.old (λ choices. (d : ℕ) × (left : List ℕ)
         × GivesUp passive.now sent.now d left choices) }
-    ensures drawn { Drawn draws.old draws.new (λ choices. GivesUp passive.now sent.now result.0 result.1.now choices) }
-    ensures member { IsIn passive.now result.0 }
+    ensures within { result.0 < length passive.now }
+    ensures drawn { (d : ℕ) → slice_get passive.now result.0 ≡ Some d → Drawn draws.old draws.new
+        (λ choices. GivesUp passive.now sent.now d result.1.now choices) }
     ensures words { length draws.old ≤ length draws.new + 1 }
 {
     let mut left = sent;
     while let Some((next, rest)) = left.split_first() {
-        if passive.contains(*next) {
-            return (*next, rest);
+        match passive.member_place(*next) {
+            Some(place) => return (place, rest),
+            None => left = rest,
         }
-        left = rest;
     }
-    match draws.pick(passive.as_slice()) {
-        Some(out) => (out, left),
-        None => unreachable!(),
+    let place = draws.place(passive.len());
+    (place, left)
+}
+
+/// The member at a place among those that are left of a set. `taken` are the places of the others, which were taken out
+/// one after another. Each place is counted from 0 among those that were left then.
+fn left_member(set: &[NodeId], taken: &[u8], place: usize) -> NodeId
+    requires { place + length taken.now < length set.now }
+    ensures { slice_get (left_of set.now taken.now) place ≡ Some result }
+{
+    let mut before = place;
+    let mut others = taken;
+    while let Some((last, earlier)) = others.split_last() {
+        if *last as usize <= before {
+            before += 1;
+        }
+        others = earlier;
     }
+    set[before]
 }

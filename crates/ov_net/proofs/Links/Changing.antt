@@ -9,7 +9,7 @@ use Rattle.ov_graph.specs.Links.{LinkGraph, IsGraph, Linked}
 use Rattle.ov_graph.specs.Changes.{ArePair, GainsNode, LosesNode, GainsLink, LosesLink}
 use Rattle.ov_graph.proofs.EvenTest.Filtered.{linked_node}
 use Rattle.ov_graph.proofs.EvenTest.Walks.{linked_sym}
-use Rattle.ov_graph.proofs.GraphValues.OneGraph.{linked_differ, same_graphs}
+use Rattle.ov_graph.proofs.GraphValues.OneGraph.{same_graphs}
 use Rattle.ov_peer.specs.PeerState.{PeerState}
 use Rattle.ov_net.specs.Code.LinkChanges.{FitsOne, Gains, GainsMutual, HasAllLive, Holds, IsChanged, IsLive}
 use Rattle.ov_net.specs.Code.LinkChanges.{AreChanged, Fit, MayGain}

@@ -9,6 +9,8 @@ pub returns : goal.returns
 returns c =
     let now = slice_set c.copy_within.new.self c.args.i c.args.id in
     let same : length now ≡ length c.push.new.self.items = search rules in
-    let after : c.copy_within.new.self ≡ copy_within (c.args.ids.now.items ++ c.args.id ∷ []) c.args.i c.len-count.result (c.args.i + 1) = search rules in
+    let after : c.copy_within.new.self
+    ≡ copy_within (c.args.ids.now.items ++ c.args.id ∷ []) c.args.i c.len-count.result (c.args.i + 1) =
+    search rules in
     items-with_items c.push.new.self now same ∙ ap (λ l. slice_set l c.args.i c.args.id) after
     ∙ moved_up c.args.ids.now.items c.args.id c.args.i c.len-count.result (search rules) (search rules)

@@ -9,6 +9,8 @@ pub returns : goal.returns
 returns c =
     let now = slice_set c.copy_within.new.self c.args.to c.args.id in
     let same : length now ≡ length c.args.ids.now.items = search rules in
-    let after : c.copy_within.new.self ≡ copy_within c.args.ids.now.items c.args.to c.args.from (c.args.to + 1) = search rules in
+    let after : c.copy_within.new.self
+    ≡ copy_within c.args.ids.now.items c.args.to c.args.from (c.args.to + 1) =
+    search rules in
     items-with_items c.args.ids.now now same ∙ ap (λ l. slice_set l c.args.to c.args.id) after
     ∙ copied_up c.args.ids.now.items c.args.to c.args.from c.args.id c.requires.order c.requires.within

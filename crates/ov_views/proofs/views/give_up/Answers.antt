@@ -1,33 +1,39 @@
-use Rattle.std.proofs.Common.{◌≡◌, [], ◌∷◌, refl, inr, sym, ◌∙◌, false, rules}
-use Rattle.ov_ids.specs.Members.{IsApart}
-use Rattle.ov_ids.specs.Sets.{has}
+use Rattle.std.proofs.Common.{◌≡◌, ◌<◌, ◌+◌, ℕ, [], ◌∷◌, length, get_or, refl, sym, arith, rules}
 use Rattle.std.proofs.lemmas.List.{nil_from_length}
-use Rattle.ov_words.proofs.PickLemmas.{picked_member}
-use Rattle.ov_views.proofs.Giving.{passed_more, none_left}
+use Rattle.std.proofs.lemmas.Option.{slice_get-get_or}
+use Rattle.ov_words.proofs.PickLemmas.{picked_word}
+use Rattle.ov_views.proofs.Giving.{passed_more, none_left, next_given, random_given}
 use Rattle.ov_views.proofs.Sufficing.{pick_gives}
 use Rattle.ov_views.proofs.views.give_up.Goals as goal
 
+pub returns-in-Some-member_place-clause-drawn : goal.returns-in-Some-member_place-clause-drawn
+returns-in-Some-member_place-clause-drawn c = λ d at.
+    let e : c.loop-next.left.now ≡ c.in-Some.next.now ∷ c.in-Some.rest.now = search rules in
+    let i = c.in-Some-member_place.place in
+    ([], refl, next_given _ _ _ _ _ i d c.loop-next.invariant e c.in-Some-member_place.ensures.some at)
+
 pub loop-next-preserved : goal.loop-next-preserved
 loop-next-preserved c =
-    let out : has c.args.passive.now c.in-Some.next.now ≡ false = sym c.contains.ensures.value ∙ c.if-contains.false in
     let e : c.loop-next.left.now ≡ c.in-Some.next.now ∷ c.in-Some.rest.now = search rules in
-    passed_more _ _ _ _ _ c.loop-next.invariant e out
+    passed_more _ _ _ _ _ c.loop-next.invariant e c.in-None.ensures.none
 
-pub pick-requires : goal.pick-requires
-pick-requires c =
+pub place-place-requires-clause-word : goal.place-place-requires-clause-word
+place-place-requires-clause-word c =
     let none : c.loop-next.left.now ≡ [] = nil_from_length _ c.in_default.ensures.cases in
-    rw c.as_slice.ensures.value
-    (pick_gives c.args.passive.now c.args.sent.now c.args.draws.now (none_left _ _ _ c.loop-next.invariant none)
-    c.requires.words)
+    pick_gives c.args.passive.now c.args.sent.now c.args.draws.now (none_left _ _ _ c.loop-next.invariant none)
+    c.requires.words c.requires.some
 
 pub returns-clause-drawn : goal.returns-clause-drawn
-returns-clause-drawn c =
-    let drawn = rw c.as_slice.ensures.value at c.in-Some-pick.ensures.drawn in
-    let h = picked_member _ _ _ _ drawn in
+returns-clause-drawn c = λ d at.
     let none : c.loop-next.left.now ≡ [] = nil_from_length _ c.in_default.ensures.cases in
-    let apart : IsApart c.args.passive.now c.args.sent.now = none_left _ _ _ c.loop-next.invariant none in
-    (record { from = c.args.passive.now; member = c.in-Some-pick.out } ∷ [], drawn, inr (apart, (h, refl), none))
+    random_given _ _ _ _ d _ _ c.loop-next.invariant none at
+    (c.place-place.ensures.drawn c.args.passive.now d (sym c.len.ensures.value) at)
 
-pub returns-clause-member : goal.returns-clause-member
-returns-clause-member c =
-    picked_member _ _ _ _ (rw c.as_slice.ensures.value at c.in-Some-pick.ensures.drawn)
+pub returns-clause-words : goal.returns-clause-words
+returns-clause-words c =
+    let within : c.place-place.result < length c.args.passive.now = omega arith in
+    let d : ℕ = get_or c.args.passive.now c.place-place.result 0 in
+    let drawn = c.place-place.ensures.drawn c.args.passive.now d (sym c.len.ensures.value)
+    (slice_get-get_or c.args.passive.now c.place-place.result 0 within) in
+    let word : length c.place-place.new.self + 1 ≡ length c.args.draws.now = picked_word _ d _ _ drawn in
+    omega (arith, word)

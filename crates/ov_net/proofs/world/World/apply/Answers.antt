@@ -65,9 +65,9 @@ invariant_of-self-2 c =
       nodes = nodes;
       packets = c.update_packets.new.packets.items;
     } in
+    let pushed : Entry = record entry { words = c.in_ok-kept.kept } in
     let journal = c.push_reserved.ensures.items
-    ∙ ap (λ v. v ++ c.entry.result ∷ []) c.in_ok-reserve_and_change.ensures.journal
-    ∙ ap (λ (e : Entry). before.journal.items ++ e ∷ []) c.entry.ensures
+    ∙ ap (λ v. v ++ pushed ∷ []) c.in_ok-reserve_and_change.ensures.journal
     ∙ ap (λ (words : List ℕ). before.journal.items ++ record entry { words = words } ∷ []) c.in_ok-kept.ensures in
     let numbered = c.next_number-number.ensures ∙ ap (λ v. length v + 1) c.deref.ensures.value in
     let stands = stands_next seen c.args.self.now c.args.event c.args.words.now effects entry later
