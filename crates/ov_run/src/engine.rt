@@ -1,4 +1,4 @@
-ghost use Rattle.std.specs.Prelude.{◌≡◌, ◌<◌, ◌≤◌, ◌≢◌, [], Some, Err, IfOk, IfErr};
+ghost use Rattle.std.specs.Prelude.{◌≡◌, ◌<◌, ◌≤◌, ◌≢◌, [], Some, Err, IfOk, IfErr, OnErr};
 ghost use Rattle.std.specs.Io.Buffered.{writer_buffer};
 ghost use Rattle.ov_io.specs.Device.{most_faults};
 ghost use Rattle.ov_run.specs.Code.Outcomes.{RanLines};
@@ -13,7 +13,7 @@ use crate::hall_outside_sections::RunHall;
 use crate::line_running::run_lines;
 use crate::run_watcher::{RunWatcher, Unwatched};
 use ov_hall::{HallName, Opening};
-use ov_ids::Params;
+use ov_ids::{OutOfMemory, Params};
 use ov_io::{Sink, Source};
 use ov_run_meaning::{RunFault, Strictness};
 use ov_scenario::{LinesToRun, Scenario, read_scenario};
@@ -33,9 +33,9 @@ use std::thread::Threads;
 /// nothing was written, or a prefix of what the scenario prints.
 ///
 /// An event or an analysis that is out of memory is refused with 99, and the run goes on. OutOfMemory (99) is returned
-/// only if reading the scenario was out of memory, or reading a line of it with a payload or ids again when its turn
-/// came, or running a block of sections, or making the line of an event that happened, of a node or of a packet. The
-/// numbers and the form of what is printed are chosen here.
+/// only if reading the scenario was out of memory, or making the hall before the first line, or reading a line of it
+/// with a payload or ids again when its turn came, or running a block of sections, or making the line of an event that
+/// happened, of a node or of a packet. The numbers and the form of what is printed are chosen here.
 ///
 /// Before each analysis, before each block of sections and at the end, the writer is asked to hand on what it keeps
 /// back (`Write::flush`), unless it has failed.
@@ -91,7 +91,7 @@ pub fn run_bytes<T: Threads + Wait + Sync, W: Write, V: RunWatcher>(
 {
     let scenario = scenario_of(alloc, bytes)?;
     let opening = Opening::new(alloc, scenario.drivers.count() as u64)?;
-    run_in_hall::<Brand, _, _, _>(
+    let ran = run_in_hall::<Brand, _, _, _>(
         rt,
         alloc,
         scenario.params,
@@ -101,7 +101,10 @@ pub fn run_bytes<T: Threads + Wait + Sync, W: Write, V: RunWatcher>(
         strictness,
         watcher,
     )?;
-    Ok(0)
+    match ran {
+        Ok(()) => Ok(0),
+        Err(fault) => Err(fault),
+    }
 }
 
 /// Does what `run_bytes` does, and prints in blocks: through a buffer, which is empty. At the end what it keeps back is
@@ -140,7 +143,8 @@ fn failed_to_write(ran: &Result<u8, RunFault>) -> bool
     matches!(ran, Err(RunFault::Write))
 }
 
-/// Runs these lines in a new hall, in which nothing happened, and writes what they print.
+/// Runs these lines in a new hall, in which nothing happened, and writes what they print. If there is no memory for the
+/// hall, nothing is done.
 fn run_in_hall<N: HallName + Send + Sync, T: Threads + Wait + Sync, W: Write, V: RunWatcher>(
     rt: &T,
     alloc: Global,
@@ -150,16 +154,17 @@ fn run_in_hall<N: HallName + Send + Sync, T: Threads + Wait + Sync, W: Write, V:
     sink: &mut Sink<W>,
     strictness: Strictness,
     watcher: &mut V,
-) -> Result<(), RunFault>
+) -> Result<Result<(), RunFault>, OutOfMemory>
     requires faults { sink.old.faults < most_faults }
     requires name { (opening.table ≡ N.table) × (opening.drivers ≡ N.drivers) }
     requires params { params ≡ N.params }
     requires drivers { drivers_for lines.items ≤ N.drivers }
-    ensures ran { RanLines strictness W.contents (opening_core params) lines.entry.items lines.entry.file_lines sink.old
-        sink.new result }
+    ensures ran { IfOk result (RanLines strictness W.contents (opening_core params) lines.entry.items
+        lines.entry.file_lines sink.old sink.new) }
+    ensures nothing { OnErr result (sink.new ≡ sink.old) }
 {
-    let hall = RunHall::<N>::new(alloc, params, opening);
-    run_lines(rt, alloc, hall, lines, sink, strictness, watcher)
+    let hall = RunHall::<N>::new(alloc, params, opening)?;
+    Ok(run_lines(rt, alloc, hall, lines, sink, strictness, watcher))
 }
 
 /// The scenario that these bytes say.

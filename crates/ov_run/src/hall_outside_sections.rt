@@ -1,5 +1,5 @@
 //! The hall of a run while one hand has it: what lines outside sections need of it.
-ghost use Rattle.std.specs.Prelude.{◌≡◌, length, IfErr, OnOk, OnErr};
+ghost use Rattle.std.specs.Prelude.{◌≡◌, length, IfOk, IfErr, OnOk, OnErr};
 ghost use Rattle.ov_snap.specs.Logs.{core_made};
 ghost use Rattle.ov_ids.specs.FaultOrder.{IsRefusedBy};
 ghost use Rattle.ov_net.specs.Refusals.{IsRefusal};
@@ -11,17 +11,17 @@ ghost use Rattle.ov_snap.specs.Run.{Happened};
 ghost use Rattle.ov_snap.specs.declared.refused_core_call.CoreFault.TheVariants.{OutOfMemory as out_of_memory};
 
 use ov_hall::{HallName, Opening, Whole};
-use ov_ids::Params;
+use ov_ids::{OutOfMemory, Params};
 use ov_net::{Event, NetFault};
 use ov_snap::{Core, CoreFault, Report};
 use ov_words::Words;
 use std::alloc::Global;
 use std::marker::Model;
 
-/// The hall of a run, in one hand. Contracts see the core that its log makes, and no driver: which driver did something
-/// is nothing to what a run prints.
+/// The hall of a run, in one hand. It lies in a box, so that it stays in its place when lines hand it on. Contracts see
+/// the core that its log makes, and no driver: which driver did something is nothing to what a run prints.
 pub struct RunHall<N: HallName> {
-    pub(crate) hall: Whole<N>,
+    pub(crate) hall: Box<Whole<N>>,
 }
 
 impl<N: HallName> Drop for RunHall<N> {
@@ -40,26 +40,30 @@ impl<N: HallName> Model for RunHall<N> {
 
     ghost coded = { core_code };
 
-    ghost view = { λ r. core_made N.params r.hall };
+    ghost view = { λ r. core_made N.params r.hall.value };
 }
 
 impl<N: HallName> RunHall<N> {
-    /// The hall of a run in which nothing happened.
-    pub(crate) fn new(alloc: Global, params: Params, opening: Opening) -> RunHall<N>
+    /// The hall of a run in which nothing happened, or out of memory (99).
+    pub(crate) fn new(
+        alloc: Global,
+        params: Params,
+        opening: Opening,
+    ) -> Result<RunHall<N>, OutOfMemory>
         requires name { (opening.table ≡ N.table) × (opening.drivers ≡ N.drivers) }
         requires params { params ≡ N.params }
-        ensures { result ≡ opening_core params }
+        ensures { IfOk result (λ hall. hall ≡ opening_core params) }
     {
-        RunHall {
-            hall: Whole::<N>::new(alloc, params, opening),
-        }
+        RunHall::of(alloc, Whole::<N>::new(alloc, params, opening))
     }
 
-    /// The hall of a run, from one at rest.
-    pub(crate) fn of(hall: Whole<N>) -> RunHall<N>
-        ensures { result ≡ core_made N.params hall }
+    /// The hall of a run, from one at rest, or out of memory (99).
+    pub(crate) fn of(alloc: Global, hall: Whole<N>) -> Result<RunHall<N>, OutOfMemory>
+        ensures { IfOk result (λ run. run ≡ core_made N.params hall) }
     {
-        RunHall { hall }
+        Ok(RunHall {
+            hall: Box::new(alloc, hall)?,
+        })
     }
 
     /// The hall at rest.
@@ -67,7 +71,7 @@ impl<N: HallName> RunHall<N> {
         ensures { core_made N.params result ≡ self }
     {
         let RunHall { hall } = self;
-        hall
+        Box::into_inner(hall)
     }
 
     /// The core.

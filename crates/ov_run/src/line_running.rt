@@ -25,7 +25,7 @@ use ov_net::{Entry, Event};
 use ov_run_meaning::{Outcome, Refusal, RunFault, Strictness, write_done, write_entry, write_look};
 use ov_scenario::{Line, LineToRun, LinesToRun, Look, SectionLine, Subject};
 use ov_snap::Core;
-use ov_words::Words;
+use ov_words::{WORDS_PER_EVENT, Words};
 use std::alloc::Global;
 use std::io::Write;
 use std::sync::Wait;
@@ -77,10 +77,11 @@ fn run_each<N: HallName + Send + Sync, T: Threads + Wait + Sync, W: Write, V: Ru
         result }
 {
     let mut recent = RecentReports::new(alloc);
+    let mut words = Words::new([0; WORDS_PER_EVENT]);
     let mut left = lines;
     while let Some(next) = left.next_line(alloc)? {
         let ran = ran_line(&next);
-        let (came, after) = run_line(rt, alloc, hall, &mut recent, next.line, sink)?;
+        let (came, after) = run_line(rt, alloc, hall, &mut recent, &mut words, next.line, sink)?;
         hall = after;
         let stop = settle(strictness, ran.number, &came, sink)?;
         tell(watcher, hall.core(), &ran, came);
@@ -163,12 +164,14 @@ fn tell_section<V: RunWatcher>(watcher: &mut V, told: &[ToldLine<'_>]) {
 type LineDone<'a, N> = (Came<'a>, RunHall<N>);
 
 /// Runs one line, and returns what became of it. What an accepted line prints is written, unless it is a block. Before
-/// an analysis or a block of sections, which may take long, the writer is asked to hand on what it keeps back.
+/// an analysis or a block of sections, which may take long, the writer is asked to hand on what it keeps back. The
+/// words become those of an event that runs.
 fn run_line<'a, N: HallName + Send + Sync, T: Threads + Wait + Sync, W: Write>(
     rt: &T,
     alloc: Global,
     hall: RunHall<N>,
     recent: &mut RecentReports,
+    words: &mut Words,
     line: Line<'a>,
     sink: &mut Sink<W>,
 ) -> Result<LineDone<'a, N>, RunFault>
@@ -177,7 +180,10 @@ fn run_line<'a, N: HallName + Send + Sync, T: Threads + Wait + Sync, W: Write>(
     ensures ran { LineRan W.contents hall line.entry (λ r. r.0) (λ r. r.1) sink.old sink.new result }
 {
     match line {
-        Line::Event { event, words } => run_event_line(alloc, hall, event, &words, sink),
+        Line::Event { event, words: own } => {
+            own.write_to(words);
+            run_event_line(alloc, hall, event, words, sink)
+        }
         Line::Look(look) => run_look_line(alloc, hall, look, sink),
         Line::Analyse { subject, workers } => {
             run_analysis_line(rt, alloc, hall, recent, &subject, workers, sink)

@@ -22,7 +22,7 @@ use ov_net::Event;
 use ov_run_meaning::{Outcome, Refusal};
 use ov_scenario::{Deed, SectionLine, Subject};
 use ov_snap::{CoreFault, Snapshot};
-use ov_words::Words;
+use ov_words::{WORDS_PER_EVENT, Words};
 use std::alloc::Global;
 use std::marker::Model;
 use std::sync::Wait;
@@ -87,15 +87,16 @@ pub(crate) fn run_section<'a, N: HallName, T: Threads + Wait + Sync>(
     let Section { lines, room } = section;
     let mut told = room;
     let mut recent = RecentReports::new(alloc);
+    let mut words = Words::new([0; WORDS_PER_EVENT]);
     for line in lines {
-        let (one, next) = run_line(rt, alloc, hall, pass, line, &mut recent);
+        let (one, next) = run_line(rt, alloc, hall, pass, line, &mut recent, &mut words);
         pass = next;
         told.push_reserved(one);
     }
     (pass, Seq::new(told))
 }
 
-/// Runs one line, and returns what is told of it.
+/// Runs one line, and returns what is told of it. The words become those of an event that runs.
 fn run_line<'a, N: HallName, T: Threads + Wait + Sync>(
     rt: &T,
     alloc: Global,
@@ -103,13 +104,14 @@ fn run_line<'a, N: HallName, T: Threads + Wait + Sync>(
     pass: Pass<N>,
     line: SectionLine<'a>,
     recent: &mut RecentReports,
+    words: &mut Words,
 ) -> (ToldLine<'a>, Pass<N>)
     ensures { (outcome : OutcomeOf) × RunsLine N.params pass line.entry.deed outcome result.1
         × (result.0 ≡ told_of line.entry outcome) }
 {
     let SectionLine { number, text, deed } = line;
     let is_event = is_event(&deed);
-    let (outcome, pass) = run_deed(rt, alloc, hall, pass, deed, recent);
+    let (outcome, pass) = run_deed(rt, alloc, hall, pass, deed, recent, words);
     let line = RanLine {
         number,
         text,
@@ -119,7 +121,7 @@ fn run_line<'a, N: HallName, T: Threads + Wait + Sync>(
 }
 
 /// Whether a line is an event.
-fn is_event(deed: &Deed) -> bool
+fn is_event(deed: &Deed<'_>) -> bool
     ensures { result ≡ is_event deed.now }
 {
     match deed {
@@ -128,19 +130,23 @@ fn is_event(deed: &Deed) -> bool
     }
 }
 
-/// Does what a line says, or refuses it.
+/// Does what a line says, or refuses it. The words become those of an event.
 fn run_deed<N: HallName, T: Threads + Wait + Sync>(
     rt: &T,
     alloc: Global,
     hall: &Hall<N>,
     pass: Pass<N>,
-    deed: Deed,
+    deed: Deed<'_>,
     recent: &mut RecentReports,
+    words: &mut Words,
 ) -> (Outcome, Pass<N>)
-    ensures { RunsLine N.params pass deed result.0 result.1 }
+    ensures { RunsLine N.params pass deed.entry result.0 result.1 }
 {
     match deed {
-        Deed::Event { event, words } => run_event(rt, hall, pass, event, &words),
+        Deed::Event { event, words: own } => {
+            own.write_to(words);
+            run_event(rt, hall, pass, event, words)
+        }
         Deed::Analyse { moment } => run_analysis(rt, alloc, hall, pass, moment, recent),
     }
 }

@@ -47,7 +47,7 @@ pub fn run_together<'a, N: HallName + Send + Sync, T: Threads + Wait + Sync>(
     let ran = run_jobs(rt, alloc, &hall, jobs)?;
     let (back, told) = sorted_out(ran, back, told);
     let (accepted, refused) = counted(&told);
-    let hall = RunHall::of(hall.unite(back));
+    let hall = RunHall::of(alloc, hall.unite(back))?;
     Ok(BlockRan {
         hall,
         told: Seq::new(told),

@@ -1,7 +1,7 @@
-ghost use Rattle.std.specs.Prelude.{◌≡◌, IfOk, string_bytes};
+ghost use Rattle.std.specs.Prelude.{◌≡◌, ◌++◌, IfOk, OnOk, string_bytes};
 ghost use Rattle.ov_run_meaning.specs.Printed.{entry_line, node_line, packet_line, together_line};
 
-use crate::change_texts::{ChangesText, DeliveryText};
+use crate::entry_part_writing::{write_changes, write_delivery, write_number};
 use arrayvec::ArrayString;
 use itoa::Buffer;
 use ov_ids::{IdsText, NodeId, OutOfMemory};
@@ -9,16 +9,29 @@ use ov_net::Entry;
 use ov_peer::Peer;
 use std::alloc::Global;
 
-/// The line of an accepted event: `entry N`, the changes in order, and what was delivered. Like every line here it ends
-/// with a line feed, and its form is chosen here. OutOfMemory (99) is returned if an allocation was refused.
+/// Room for the line of an event without changes: four numbers of at most 10 digits, and 20 other bytes.
+const LINE_ROOM: usize = 64;
+
+/// Appends the line of an accepted event. OutOfMemory (99) is returned if the text may not grow.
 #[tactic(auto, unfolding(crate::specs::Printed::entry_line))]
+fn write_line(line: &mut String, entry: &Entry) -> Result<(), OutOfMemory>
+    ensures { OnOk result (string_bytes line.new ≡ string_bytes line.old ++ entry_line entry.now) }
+{
+    write_number(line, "entry ", entry.number)?;
+    write_changes(line, entry.changes.as_slice())?;
+    write_delivery(line, &entry.delivery)?;
+    Ok(line.push('\n')?)
+}
+
+/// The line of an accepted event: `entry N`, the changes in order, and what was delivered. Like every line here it ends
+/// with a line feed, and its form is chosen here. OutOfMemory (99) is returned if an allocation was refused. A line
+/// without changes takes one allocation.
 pub fn entry_line(alloc: Global, entry: &Entry) -> Result<String, OutOfMemory>
     ensures { IfOk result (λ line. string_bytes line ≡ entry_line entry.now) }
 {
-    let number = entry.number;
-    let changes = ChangesText(entry.changes.as_slice());
-    let delivery = DeliveryText(&entry.delivery);
-    Ok(format!(in alloc; "entry {number}{changes}{delivery}\n")?)
+    let mut line = String::with_capacity(alloc, LINE_ROOM)?;
+    write_line(&mut line, entry)?;
+    Ok(line)
 }
 
 /// The line of a block: `together D accepted A refused R`. Nothing is allocated.

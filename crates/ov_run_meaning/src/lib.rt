@@ -1,7 +1,7 @@
 //! What a run of a scenario prints, and why it ends: by definition, as texts, and as it goes to a writer.
 #![tactic(auto)]
 
-mod change_texts;
+mod entry_part_writing;
 mod event_block_node_and_packet_lines;
 mod line_output_writing;
 mod line_run_outcome;

@@ -3,3 +3,4 @@ pub mod Ahead
 pub mod Judging
 pub mod Reading
 pub mod RunnableLines
+pub mod WordSources

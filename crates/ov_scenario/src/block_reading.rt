@@ -17,9 +17,9 @@ use std::mem::replace;
 
 /// What a line of a block is for.
 #[derive(Drop)]
-pub(crate) enum Part {
+pub(crate) enum Part<'a> {
     /// It does something, in the section that is read.
-    Deed(Deed),
+    Deed(Deed<'a>),
     /// The next section begins.
     Section,
     /// The block ends.
@@ -132,7 +132,7 @@ fn part_of<'a>(
     stated: Stated<'a>,
     given: &mut Option<GivenWords<'a>>,
     draws: &mut SeedWords,
-) -> Part
+) -> Part<'a>
     ensures { TakesPart (stream_now draws.old) given.old stated.entry.says result (stream_now draws.new) given.new }
 {
     let waiting = given.take();

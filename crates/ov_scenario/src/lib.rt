@@ -2,6 +2,7 @@
 #![tactic(auto)]
 
 mod block_reading;
+mod event_words;
 mod fault_listing;
 mod first_fault_theorem;
 mod given_random_words_reading;
@@ -21,6 +22,7 @@ mod statement_reading;
 mod whole_run_settings;
 mod words_from_seed;
 
+pub use event_words::EventWords;
 pub use fault_listing::{FaultyLines, faulty_lines};
 pub use first_fault_theorem::first_line_has_the_fault;
 pub use line_of_section::{Deed, SectionLine};

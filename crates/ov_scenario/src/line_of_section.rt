@@ -1,24 +1,24 @@
+use crate::event_words::EventWords;
 use ov_net::Event;
-use ov_words::Words;
 use std::marker::Model;
 
 /// What a line of a section does.
-#[derive(Debug, Drop)]
-pub enum Deed {
+#[derive(Drop)]
+pub enum Deed<'a> {
     /// An event happens, with these random words.
-    Event { event: Event, words: Words },
+    Event { event: Event, words: EventWords<'a> },
     /// The overlay at this moment is analysed, for all of its nodes and by one worker, and a report is filed.
     Analyse { moment: u32 },
 }
 
 /// A line of a section: what it does, and the line of the file that asks for it.
-#[derive(Debug, Drop)]
+#[derive(Drop)]
 pub struct SectionLine<'a> {
     /// The number of that line among all lines of the file. These are counted from 1.
     pub number: usize,
     /// Its text, without its line feed and one carriage return before that.
     pub text: &'a [u8],
-    pub deed: Deed,
+    pub deed: Deed<'a>,
 }
 
 impl<'a> Model for SectionLine<'a> {

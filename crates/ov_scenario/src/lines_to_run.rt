@@ -8,6 +8,7 @@ ghost use Rattle.ov_scenario.specs.Code.RunnableLines.{AreReadable, TakesLine, s
 ghost use Rattle.ov_lines.specs.Lines.{kept_lines};
 
 use crate::block_reading::read_sections;
+use crate::event_words::EventWords;
 use crate::given_random_words_reading::GivenWords;
 use crate::scenario::Line;
 use crate::statement::{Stated, Statement};
@@ -15,7 +16,6 @@ use crate::statement_reading::{Unstated, read_statement, state};
 use crate::words_from_seed::SeedWords;
 use ov_ids::{OutOfMemory, Seq, Workers};
 use ov_lines::{KeptLine, KeptLines};
-use ov_words::{WORDS_PER_EVENT, Words};
 use std::alloc::Global;
 use std::marker::Model;
 
@@ -154,7 +154,7 @@ pub fn line_asked_by<'a>(alloc: Global, text: &'a [u8]) -> Result<Option<Line<'a
 {
     match read_statement(alloc, text) {
         Ok(Statement::Event(event)) => {
-            let words = Words::new([0; WORDS_PER_EVENT]);
+            let words = EventWords::zeros();
             Ok(Some(Line::Event { event, words }))
         }
         Ok(Statement::Look(look)) => Ok(Some(Line::Look(look))),

@@ -1,14 +1,14 @@
+use crate::event_words::EventWords;
 use crate::line_of_section::SectionLine;
 use crate::lines_to_run::LinesToRun;
 use ov_ids::{NodeId, Params, Seq, Workers};
 use ov_net::Event;
-use ov_words::Words;
 
 /// A line of a scenario that is run.
-#[derive(Debug, Drop)]
+#[derive(Drop)]
 pub enum Line<'a> {
     /// An event happens, with these random words.
-    Event { event: Event, words: Words },
+    Event { event: Event, words: EventWords<'a> },
     /// Something is looked at, and nothing changes.
     Look(Look),
     /// The overlay is analysed by this many workers, and a report is filed.

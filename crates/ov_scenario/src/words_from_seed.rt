@@ -5,9 +5,10 @@ ghost use Rattle.ov_scenario.specs.Code.RunnableLines.{AreEventWords, stream_now
 ghost use Rattle.ov_scenario.specs.Draws.{AreDraws, seeded};
 ghost use Rattle.ov_words.specs.Stream.{words_per_event};
 
+use crate::event_words::EventWords;
 use crate::given_random_words_reading::GivenWords;
 use ov_ids::OutOfMemory;
-use ov_words::Words;
+use ov_words::{GeneratedWords, WORDS_PER_EVENT, Words};
 use rand_core::SeedableRng;
 use rand_pcg::Pcg64;
 use std::alloc::Global;
@@ -39,21 +40,21 @@ impl SeedWords {
 
     /// The random words of the next event.
     #[tactic(auto, unfolding(crate::specs::Code::RunnableLines::stream_now))]
-    pub(crate) fn next_words(&mut self) -> Words
+    pub(crate) fn next_words(&mut self) -> GeneratedWords
         ensures count { length result ≡ words_per_event }
         ensures outputs { AreOutputs (stream_now self.old) result (stream_now self.new) }
     {
-        Words::from_pcg(&mut self.generator)
+        GeneratedWords::next(&mut self.generator)
     }
 
     /// The random words of an event: these, if they were given, or else the next.
     #[tactic(auto, using(crate::proofs::Scenarios::Outputs::outputs_drawn))]
-    pub(crate) fn event_words(&mut self, given: Option<GivenWords>) -> Words
+    pub(crate) fn event_words<'a>(&mut self, given: Option<GivenWords<'a>>) -> EventWords<'a>
         ensures { AreEventWords (stream_now self.old) given.entry result (stream_now self.new) }
     {
         match given {
-            Some(given) => given.words(),
-            None => self.next_words(),
+            Some(given) => EventWords::given(given),
+            None => EventWords::generated(self.next_words()),
         }
     }
 }
@@ -69,7 +70,9 @@ pub fn draw(alloc: Global, seed: u64, n: usize) -> Result<Vec<Words>, OutOfMemor
     let mut left = SeedWords::new(seed);
     let mut draws = Vec::with_capacity(alloc, n)?;
     for _ in 0..n {
-        draws.push(left.next_words())?;
+        let mut words = Words::new([0; WORDS_PER_EVENT]);
+        left.next_words().write_to(&mut words);
+        draws.push(words)?;
     }
     Ok(draws)
 }

@@ -1,9 +1,11 @@
-ghost use Rattle.std.specs.Prelude.{◌≡◌, length, IfOk};
+ghost use Rattle.std.specs.Prelude.{◌≡◌, [], length, IfOk};
 ghost use Rattle.rand_core.specs.Steps.{stream_of, steps_u64_low};
 ghost use Rattle.rand_pcg.specs.Pcg.{pcg64};
 ghost use Rattle.ov_words.specs.Stream.{AreOutputs, words_per_event};
+ghost use Rattle.ov_words.specs.Code.Making.{all_words};
 
 use crate::draws::Draws;
+use crate::generated_words::GeneratedWords;
 use crate::kept_words::KeptWords;
 use arrayvec::ArrayVec;
 use ov_ids::OutOfMemory;
@@ -84,15 +86,21 @@ impl Words {
 
     /// Becomes the next 64 outputs of this generator, as `from_pcg` makes them. Only the generator's state is written,
     /// and the words that were listed go.
-    #[tactic(auto, using(crate::proofs::Made::outputs_made, crate::proofs::Made::all_made))]
     pub fn refill(&mut self, rng: &mut Pcg64)
         ensures outputs { AreOutputs (stream_of (steps_u64_low pcg64) rng.old) self.new
             (stream_of (steps_u64_low pcg64) rng.new) }
         ensures count { length self.new ≡ words_per_event }
     {
+        GeneratedWords::next(rng).write_to(self);
+    }
+
+    /// Becomes the words that this generator makes next. The words that were listed go.
+    #[tactic(auto, using(crate::proofs::Made::all_made))]
+    pub(crate) fn make_with(&mut self, generator: &Pcg64)
+        ensures { self.new ≡ all_words [] generator.now }
+    {
         self.listed.clear();
-        self.generator = copied(rng);
-        rng.advance(WORDS_PER_EVENT as u128);
+        self.generator = copied(generator);
     }
 
     /// The same words in little room: if a generator makes them, nothing is allocated. OutOfMemory (99) if an

@@ -2,14 +2,18 @@
 use Rattle.std.proofs.Common.{rules, Err, ap, arith, refl, subst}
 use Rattle.ov_snap.specs.CoreState.{opening_core}
 use Rattle.ov_run_meaning.specs.Strict.{StopsLines}
+use Rattle.ov_run.specs.Code.Outcomes.{RanLines}
 use Rattle.ov_run.proofs.Printing.WholeRuns.{finished, stopped, without_room}
 use Rattle.ov_run.proofs.engine.run_bytes.Goals as goal
 
-pub returns : goal.returns
-returns g c =
+pub returns-in-Ok : goal.returns-in-Ok
+returns-in-Ok g c =
     let said = c.in_ok-scenario in
-    let printed = c.in_ok-run_in_hall.ensures.ran.prints in
-    let begun = c.in_ok-run_in_hall.ensures.ran.begun in
+    let ran = subst (λ result. RanLines c.args.strictness g.W.Write.contents (opening_core said.scenario.params)
+    said.scenario.lines.items said.scenario.lines.file_lines c.args.sink.now c.run_in_hall.new.sink result)
+    c.in-Ok.is c.in_ok-ran.ensures.ran in
+    let printed = ran.prints in
+    let begun = ran.begun in
     record {
       read = λ e. absurd cc;
       run = finished c.args.strictness c.args.bytes.now g.W.Write.contents c.args.sink.now c.run_in_hall.new.sink (
@@ -29,7 +33,7 @@ returns g c =
         refl,
         record { scenario = said.scenario; says = said.ensures.scenario; lines = begun.1 },
         begun.2,
-      ) (λ strict. let own = c.in_ok-run_in_hall.ensures.ran.accepts strict in (
+      ) (λ strict. let own = ran.accepts strict in (
         c.args.bytes.now,
         own.1.0,
         refl,
@@ -40,7 +44,7 @@ returns g c =
           lines = own.1.1;
         },
         own.1.2,
-      )) c.in_ok-run_in_hall.ensures.ran.faults;
+      )) ran.faults;
     }
 
 pub returns-in_err-opening : goal.returns-in_err-opening
@@ -51,16 +55,25 @@ returns-in_err-opening g c = record {
       c.from_residual-in_err-opening.ensures.1;
 }
 
-pub returns-in_err-run_in_hall : goal.returns-in_err-run_in_hall
-returns-in_err-run_in_hall g c =
+pub returns-in_err-ran : goal.returns-in_err-ran
+returns-in_err-ran g c = record {
+  read = search rules;
+  run = rw c.in_err-ran.ensures.nothing
+      (without_room c.args.strictness c.args.bytes.now g.W.Write.contents c.args.sink.now
+      c.from_residual-in_err-ran.result c.from_residual-in_err-ran.ensures.1);
+}
+
+pub returns-in-Err : goal.returns-in-Err
+returns-in-Err g c =
     let file = c.in_ok-scenario in
-    let ran = c.in_err-run_in_hall.ensures.ran in
-    let failed = c.from_residual-in_err-run_in_hall in
+    let ran = subst (λ result. RanLines c.args.strictness g.W.Write.contents (opening_core file.scenario.params)
+    file.scenario.lines.items file.scenario.lines.file_lines c.args.sink.now c.run_in_hall.new.sink result)
+    c.in-Err.is c.in_ok-ran.ensures.ran in
     record {
       read = search rules;
       run = stopped c.args.strictness c.args.bytes.now g.W.Write.contents c.args.sink.now
-          c.run_in_hall.new.sink failed.result
-          c.in_err-run_in_hall.field-0.0 failed.ensures.1 (
+          c.run_in_hall.new.sink (Err c.in-Err.fault)
+          c.in-Err.fault refl (
             c.args.bytes.now,
             ran.begun.0,
             refl,

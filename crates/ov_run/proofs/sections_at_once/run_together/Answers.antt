@@ -34,8 +34,8 @@ returns-clause-ran g c =
     let seen = c.into_inner.result in
     let log = c.unite.result in
     let back = c.sorted_out-back.ensures in
-    ran_together params n seen log c.args.hall c.of-hall.result sections c.in_ok-ran.ran.items c.new.result
-    c.in-Ok.hall.some c.requires.enough c.into_inner.ensures (sym c.of-hall.ensures) c.unite.ensures.log
+    ran_together params n seen log c.args.hall c.in_ok-hall.hall sections c.in_ok-ran.ran.items c.new.result
+    c.in-Ok.hall.some c.requires.enough c.into_inner.ensures (sym c.in_ok-hall.ensures) c.unite.ensures.log
     (drivers_ran params seen n sections c.in-Ok.passes.items c.in_ok-jobs.jobs.items c.in_ok-ran.ran.items
     c.in-Ok.ensures.passes c.in_ok-jobs.ensures c.in_ok-ran.ensures)
     (subst (λ ts. AllBegin ts log) back.passes c.unite.ensures.began) (c.new.ensures ∙ back.told)

@@ -1,5 +1,5 @@
 -- A line more, the line that ends the block, and no line.
-use Rattle.std.proofs.Common.{rules, ◌≡◌, ◌∙◌, ◌∷◌, ◌++◌, [], true, false, ℕ, List, ap, refl, sym, subst}
+use Rattle.std.proofs.Common.{rules, ◌≡◌, ◌∙◌, ◌∷◌, ◌++◌, [], false, ℕ, List, ap, refl, sym, subst}
 use Rattle.ov_scenario.specs.RunLines.{outside_blocks}
 use Rattle.ov_scenario.specs.Statements.{told}
 use Rattle.ov_scenario.specs.Code.RunnableLines.{AreReadable, TakesIn, stream_now, to_run}

@@ -1,6 +1,6 @@
 -- The numbers of the parameters, and the rule.
 use Rattle.std.proofs.Common.{sym, subst}
-use Rattle.ov_scenario.specs.Scenarios.{AreParamsOf, IsRefillOf}
+use Rattle.ov_scenario.specs.Scenarios.{AreParamsOf}
 use Rattle.ov_scenario.proofs.Scenarios.Settled.{with_rule}
 use Rattle.ov_scenario.proofs.whole_run_settings.Settings.params.Goals as goal
 
