@@ -388,11 +388,6 @@ count_below_at (y ∷ t) (suc i) d s l =
     let after : y < get_or t i d = at_place (λ z. y < z) t i d s.0 (omega (arith, l)) in
     rw (lt-ltb y (get_or t i d) after) (ap suc (count_below_at t i d s.1 (omega (arith, l))))
 
--- the set without the member at a place
-pub without_at : (t : List ℕ) (i d : ℕ) → IsSet t → i < length t → without (get_or t i d) t ≡ remove t i
-without_at t i d s l =
-    without_present (get_or t i d) t s (IsIn-get_or t i d l) ∙ ap (remove t) (count_below_at t i d s l)
-
 -- a member by its place: it is one, and so many are below it
 pub placed : (t : List ℕ) (i x : ℕ) → IsSet t → i < length t → slice_get t i ≡ Some x
     → (has t x ≡ true) × (count_below x t ≡ i)

@@ -39,9 +39,9 @@ abbrev pub count_below : ℕ → List ℕ → ℕ
 count_below x [] = 0
 count_below x (y ∷ ys) = if nat_lt y x then suc (count_below x ys) else 0
 
--- i is the gap of x, which is no member: so many members are below x
-abbrev pub IsGap : List ℕ → ℕ → ℕ → Type 0
-IsGap set x i = (has set x ≡ false) × (i ≡ count_below x set)
+-- x is no member of the set, and i is its gap, the place at which it goes in: so many members are below x
+abbrev pub IsGapOf : List ℕ → ℕ → ℕ → Type 0
+IsGapOf set x i = (has set x ≡ false) × (i ≡ count_below x set)
 
 -- p is the place for x: each id before it is below x, and the id at it, if there is one, is not
 pub record IsPlaceFor (xs : List ℕ) (x p : ℕ) : Type 0 where

@@ -35,7 +35,8 @@ pub enum HyParViewChange {
 }
 
 /// The plan of one step: the messages to send and their receivers, the changes of the active view, both in order, what
-/// to deliver, and how the two parts of the node change. `Peer::plan` makes it and `Peer::apply` follows it.
+/// to deliver, and how the two parts of the node change. `Peer::plan` makes it; `Peer::apply` and `Peer::follow` follow
+/// it.
 #[derive(Drop)]
 pub struct Plan {
     pub sends: Vec<(NodeId, Message)>,

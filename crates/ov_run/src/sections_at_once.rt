@@ -25,8 +25,8 @@ pub struct BlockRan<'a, N: HallName> {
 }
 
 /// Runs section i by driver i, all at once: each section that has lines in a thread of its own, or, if no other one has
-/// lines, in this thread. The room for what is told of the lines is made before any line runs. Out of memory ends the
-/// hall, since the passes are dropped then.
+/// lines, in this thread. The room for what is told of the lines is made before any line runs, and the box of the hall
+/// anew after them. Out of memory ends the hall, since the passes are dropped then.
 pub fn run_together<'a, N: HallName + Send + Sync, T: Threads + Wait + Sync>(
     rt: &T,
     alloc: Global,

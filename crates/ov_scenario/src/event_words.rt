@@ -16,8 +16,9 @@ pub(crate) enum WordSource<'a> {
     Zeros,
 }
 
-/// The random words of an event: those that the line right before it gives, or else the next that the seed gives. They
-/// are small to hand on. Contracts see the 64 words in order.
+/// The random words of an event: those that the line right before it gives, or else the next that the seed gives, or
+/// zeros where a line is read outside a run (`line_asked_by`). They are small to hand on. Contracts see the 64 words in
+/// order.
 #[derive(Drop)]
 pub struct EventWords<'a> {
     source: WordSource<'a>,
@@ -51,7 +52,7 @@ impl<'a> EventWords<'a> {
         }
     }
 
-    /// Zeros.
+    /// Zeros, for a line that is read outside a run.
     pub(crate) fn zeros() -> EventWords<'a>
         ensures { result ≡ replicate words_per_event 0 }
     {
@@ -60,7 +61,7 @@ impl<'a> EventWords<'a> {
         }
     }
 
-    /// Makes other words these.
+    /// Makes other words these, so that an event can draw from them.
     pub fn write_to(&self, words: &mut Words)
         ensures { words.new ≡ self.now }
     {

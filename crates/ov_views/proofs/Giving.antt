@@ -44,8 +44,8 @@ none_left passive sent left s e =
     subst (IsApart passive) (sym all) s.1
 
 -- the id at a place is a member
-pub member_at : (set : List ℕ) (i d : ℕ) → slice_get set i ≡ Some d → IsIn set d
-member_at set i d at =
+pub member_there : (set : List ℕ) (i d : ℕ) → slice_get set i ≡ Some d → IsIn set d
+member_there set i d at =
     subst (IsIn set) (get_or_from_slice_get set i d 0 at) (IsIn-get_or set i 0 (slice_get_within set i d at))
 
 -- the first passive member in `sent` is given up
@@ -55,7 +55,7 @@ pub next_given : (passive sent left rest : List ℕ) (x i d : ℕ) →
 next_given passive sent left rest x i d s e found at =
     let same : x ≡ d = ap (λ o. unwrap_or o 0) (sym found ∙ at) in
     let split : sent ≡ s.0 ++ d ∷ rest = s.2 ∙ ap (λ l. s.0 ++ l) (e ∙ ap (λ z. z ∷ rest) same) in
-    inl ((s.0, s.1, member_at passive i d at, split), refl)
+    inl ((s.0, s.1, member_there passive i d at, split), refl)
 
 -- a random member is given up
 pub random_given : (passive sent left : List ℕ) (i d : ℕ) (before after : List ℕ) →
@@ -64,7 +64,7 @@ pub random_given : (passive sent left : List ℕ) (i d : ℕ) (before after : Li
     Drawn before after (λ cs. GivesUp passive sent d left cs)
 random_given passive sent left i d before after s none at drawn =
     let one : Choice = record { from = passive; member = d } in
-    (one ∷ [], drawn, inr (none_left passive sent left s none, (member_at passive i d at, refl), none))
+    (one ∷ [], drawn, inr (none_left passive sent left s none, (member_there passive i d at, refl), none))
 
 -- an id that is neither close nor passive is not known
 pub unknown : (v : ViewsState) (x : ℕ) → is_close v x ≡ false → has v.passive x ≡ false → is_known v x ≡ false

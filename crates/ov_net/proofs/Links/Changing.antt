@@ -6,12 +6,12 @@ use Rattle.std.specs.FinMap as map
 use Rattle.std.specs.Ordering.{nat_cmp}
 use Rattle.ov_ids.specs.Members.{Has}
 use Rattle.ov_graph.specs.Links.{LinkGraph, IsGraph, Linked}
-use Rattle.ov_graph.specs.Changes.{ArePair, GainsNode, LosesNode, GainsLink, LosesLink}
+use Rattle.ov_graph.specs.Changes.{ArePair, GainsNode, LosesNode, LosesLink}
 use Rattle.ov_graph.proofs.EvenTest.Filtered.{linked_node}
 use Rattle.ov_graph.proofs.EvenTest.Walks.{linked_sym}
 use Rattle.ov_graph.proofs.GraphValues.OneGraph.{same_graphs}
 use Rattle.ov_peer.specs.PeerState.{PeerState}
-use Rattle.ov_net.specs.Code.LinkChanges.{FitsOne, Gains, GainsMutual, HasAllLive, Holds, IsChanged, IsLive}
+use Rattle.ov_net.specs.Code.LinkChanges.{FitsOne, Gains, HasAllLive, Holds, IsChanged, IsLive}
 use Rattle.ov_net.specs.Code.LinkChanges.{AreChanged, Fit, MayGain}
 use Rattle.ov_net.specs.declared.journal_entry_and_changes.Change.{Change}
 use Rattle.ov_net.specs.declared.journal_entry_and_changes.Change.TheVariants.{Born, Up, Down, Gone}
@@ -94,25 +94,6 @@ unlinked_rests g a b none = record {
       | inl q ↦ none (subst (λ u. Linked g u b) q.0 (subst (λ v. Linked g x v) q.1 l))
       | inr q ↦ none (linked_sym g b a (subst (λ u. Linked g u a) q.0 (subst (λ v. Linked g x v) q.1 l)))
     ]
-
--- a link comes between two nodes that differ, of which the second holds the first
-pub mutual_linked : (members : map.FinMap nat_cmp Member) (a b : ℕ) (g h : LinkGraph)
-    → (a ≢ b) × Holds members b a → GainsLink g a b h → GainsMutual members a b g h
-mutual_linked members a b g h held gains =
-    record { nodes = gains.nodes; links = λ x y. (to x y, from x y) }
-  where
-    to : (x y : ℕ) → Linked h x y → Linked g x y ⊎ (ArePair a b x y × (a ≢ b) × Holds members b a)
-    to x y l = elim ((gains.links x y).0 l) [ inl p ↦ inr (p, held.0, held.1) | inr k ↦ inl k ]
-
-    from : (x y : ℕ) → Linked g x y ⊎ (ArePair a b x y × (a ≢ b) × Holds members b a) → Linked h x y
-    from x y l = (gains.links x y).1 (elim l [ inl k ↦ inr k | inr p ↦ inl p.0 ])
-
-pub one_sided_rests : (members : map.FinMap nat_cmp Member) (a b : ℕ) (g : LinkGraph)
-    → ¬ ((a ≢ b) × Holds members b a) → GainsMutual members a b g g
-one_sided_rests members a b g none = record {
-  nodes = refl;
-  links = λ x y. ((λ l. inl l), (λ l. elim l [ inl k ↦ k | inr p ↦ absurd (none (p.1, p.2)) ]));
-}
 
 -- each live node stays in the graph
 pub live_kept : (members : map.FinMap nat_cmp Member) (c : Change) (g h : LinkGraph) → IsChanged members c g h

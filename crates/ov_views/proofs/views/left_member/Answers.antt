@@ -24,7 +24,8 @@ loop-last-preserved c =
     let earlier = c.in-Some.earlier.now in
     let parts : c.loop-last.others.now ≡ earlier ++ last ∷ [] = c.in-Some.ensures.cases.0 in
     let long = ap length parts ∙ length-append earlier (last ∷ []) in (
-      ahead_of_last c.args.set.now _ earlier last c.loop-last.before _ parts (omega (arith, c.if-last-before.false)) i.0,
+      ahead_of_last c.args.set.now _ earlier last c.loop-last.before _ parts
+          (omega (arith, c.if-last-before.false)) i.0,
       omega (arith, i.1, long),
     )
 

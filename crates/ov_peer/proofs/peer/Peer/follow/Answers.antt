@@ -1,13 +1,15 @@
 use Rattle.std.proofs.Common.{◌≡◌, length, sym, ap, subst, arith}
 use Rattle.ov_views.specs.Allowed.{HyParViewState}
 use Rattle.ov_peer.specs.PeerState.{PeerState}
-use Rattle.ov_peer.specs.Planning.{IsPlanFor, hyparview_after}
+use Rattle.ov_peer.specs.Planning.{Follows, IsPlanFor, hyparview_after}
+use Rattle.ov_peer.specs.Step.{Told, IsPeerStep}
 use Rattle.ov_peer.specs.declared.plan.HyParViewChange.{HyParViewChange}
 use Rattle.ov_plum.specs.PlumChange.{plum_after}
+use Rattle.ov_plum.specs.PlumState.{PlumState}
 use Rattle.ov_plum.specs.declared.plum_change.PlumChange.{PlumChange}
 use Rattle.ov_peer.proofs.Counts.{neighbours_fit}
 use Rattle.ov_peer.proofs.Steps.{peer_of}
-use Rattle.ov_peer.proofs.Following.{peer_changed, peer_followed, fits_tree, fits_tracks}
+use Rattle.ov_peer.proofs.Following.{peer_changed, peer_followed, fits_tree, fits_tracks, fits_step}
 use Rattle.ov_peer.proofs.peer.Peer.follow.Goals as goal
 
 pub apply-requires : goal.apply-requires
@@ -54,3 +56,20 @@ invariant_of-self-2 c =
     c.replace-views_change.ensures.value c.follow.ensures in
     peer_followed p c.args.plan.now c.apply.new.self c.tell.new.plum m c.self.invariant fits ok
     (rw (← c.deref.ensures.value) c.tell.ensures) followed
+
+pub returns-clause-step : goal.returns-clause-step
+returns-clause-step c =
+    let p = peer_of c.self.inside.views c.self.inside.attempt c.self.inside.sent c.self.inside.plum in
+    let q = peer_of c.follow.new.views c.follow.new.attempt c.follow.new.sent c.tell.new.plum in
+    let plan = c.args.plan.now in
+    let ok = subst (λ (k : PlumChange). c.apply.new.self ≡ plum_after c.self.inside.plum k)
+    c.replace-plum_change.ensures.value c.in_ok-apply.ensures.ok in
+    let fits = subst (λ (w : PeerState). IsPlanFor w plan) (sym c.self.view_is) c.requires in
+    let told : Told c.apply.new.self plan.changes.items q.tree = rw (← c.deref.ensures.value) c.tell.ensures in
+    let follows : Follows p plan q = record {
+      hyparview = subst (λ (k : HyParViewChange). q.hyparview ≡ hyparview_after p.hyparview k)
+          c.replace-views_change.ensures.value c.follow.ensures;
+      told = subst (λ (t : PlumState). Told t plan.changes.items q.tree) ok told;
+    } in
+    let step = fits_step p q plan fits follows in
+    subst (λ (w : PeerState). IsPeerStep w q plan.sends.items plan.changes.items plan.delivered) c.self.view_is step

@@ -5,7 +5,7 @@ use Rattle.std.specs.Prelude.{Some, slice_get}
 use Rattle.ov_words.specs.Pick.{Suffice}
 use Rattle.ov_views.specs.ViewsState.{ViewsState, has_passive_place, is_close, is_known}
 use Rattle.ov_views.specs.Sampling.{TakesIn}
-use Rattle.ov_views.proofs.Giving.{member_at, unknown, taken_passive, taken_with_room, taken_for}
+use Rattle.ov_views.proofs.Giving.{member_there, unknown, taken_passive, taken_with_room, taken_for}
 use Rattle.ov_views.proofs.Keeping.{others, AreViews-adding_passive, AreViews-replacing}
 use Rattle.ov_views.proofs.Sufficing.{given_up}
 use Rattle.ov_views.proofs.views.Views.take_in.Goals as goal
@@ -85,7 +85,7 @@ invariant_of-self-2 c =
     let at : slice_get c.self.inside.passive c.give_up-place.result.0 ≡ Some d =
     slice_get-get_or c.self.inside.passive c.give_up-place.result.0 0 c.give_up-place.ensures.within in
     rw (c.replace_at.ensures d at)
-    (AreViews-replacing v _ d c.self.invariant (member_at c.self.inside.passive _ d at) (others v _ far))
+    (AreViews-replacing v _ d c.self.invariant (member_there c.self.inside.passive _ d at) (others v _ far))
 
 pub returns-clause-drawn : goal.returns-clause-drawn
 returns-clause-drawn c =
