@@ -2,7 +2,7 @@
 
 from __future__ import annotations
 
-from typing import Any, Dict, Iterable, List, Optional, Tuple
+from typing import Any, Dict, Iterable, List, Mapping, NamedTuple, Optional, Tuple, Union
 
 from .errors import BadDump
 
@@ -16,33 +16,53 @@ LINK_KEYS = ("links", "edges")
 GRAPH_KEYS = (*LINK_KEYS, "adjacency")
 
 
+# What a dump says beside a listing, a link or a host: the value of each other field, column or attribute.
+Scalar = Union[str, int, float, bool, None]
+Said = Mapping[str, Scalar]
+
+
+class Statement(NamedTuple):
+    """What one place of a dump says: that a host has an entry (`other` is None), that `one` lists `other`, or that both
+    are linked; and what stands beside it."""
+
+    one: str
+    other: Optional[str]
+    is_link: bool
+    said: Said
+
+
 class Views:
-    """What each host lists: the dump as `overlay import --views` reads it. `kind` says how the file was read."""
+    """What each host lists: the dump as `overlay import --views` reads it. `kind` says how the file was read, and
+    `statements` has all that was said, in its order, with what stands beside it."""
 
     def __init__(self, kind: str = "") -> None:
         self.peers: Dict[str, Dict[str, None]] = {}
+        self.statements: List[Statement] = []
         self.kind = kind
 
-    def enter(self, name: str) -> Dict[str, None]:
-        """The peers of a host, which has an entry from now on."""
-        return self.peers.setdefault(name, {})
+    def enter(self, name: str, said: Optional[Said] = None) -> None:
+        """A host has an entry. `said` is what the dump says of it otherwise."""
+        self.peers.setdefault(name, {})
+        self.statements.append(Statement(name, None, False, said or {}))
 
-    def listing(self, name: str, peer: str) -> None:
-        """A host lists a peer, which this gives no entry."""
-        self.enter(name)[peer] = None
+    def listing(self, name: str, peer: str, said: Optional[Said] = None) -> None:
+        """A host, which has an entry then, lists a peer, which this gives no entry. `said` is what stands beside it."""
+        self.peers.setdefault(name, {})[peer] = None
+        self.statements.append(Statement(name, peer, False, said or {}))
 
-    def link(self, one: str, other: str) -> None:
+    def link(self, one: str, other: str, said: Optional[Said] = None) -> None:
         """Two hosts list each other."""
-        self.listing(one, other)
-        self.listing(other, one)
+        self.peers.setdefault(one, {})[other] = None
+        self.peers.setdefault(other, {})[one] = None
+        self.statements.append(Statement(one, other, True, said or {}))
 
-    def edge(self, one: str, other: str, is_directed: bool) -> None:
+    def edge(self, one: str, other: str, is_directed: bool, said: Optional[Said] = None) -> None:
         """An edge: a link, or if it has a direction the listing of its first end; then both have an entry."""
         if is_directed:
-            self.listing(one, other)
+            self.listing(one, other, said)
             self.enter(other)
         else:
-            self.link(one, other)
+            self.link(one, other, said)
 
     @property
     def has_known(self) -> bool:

@@ -8,7 +8,7 @@ from unittest import mock
 
 from tagzirk.errors import BadDump, LibraryMissing
 from tagzirk.forms import Asked, host_of, listings_of, of_graphviz, of_hosts, text_of
-from tagzirk.values import views_of
+from tagzirk.values import Views, views_of
 
 try:
     import networkx
@@ -58,6 +58,24 @@ class Left(unittest.TestCase):
             self.assertIsNone(views(text), text)
         for form in "views", "edges", "dot":
             self.assertIsNone(views('[["a", "b"]]', form=form))
+
+
+class Statements(unittest.TestCase):
+    def test_what_stands_beside_is_kept_in_order(self):
+        made = Views()
+        made.enter("a", {"rack": 4})
+        made.listing("a", "b", {"up": True})
+        made.link("b", "c")
+        made.edge("c", "d", True, {"cost": None})
+        self.assertEqual(made.value, {"a": ["b"], "b": ["c"], "c": ["b", "d"], "d": []})
+        wanted = [
+            ("a", None, False, {"rack": 4}),
+            ("a", "b", False, {"up": True}),
+            ("b", "c", True, {}),
+            ("c", "d", False, {"cost": None}),
+            ("d", None, False, {}),
+        ]
+        self.assertEqual([tuple(it) for it in made.statements], wanted)
 
 
 class Values(unittest.TestCase):
