@@ -11,13 +11,13 @@ import shutil
 import subprocess
 import sys
 import tempfile
-from typing import BinaryIO, Dict, Iterator, NamedTuple, NoReturn, Optional, Sequence, Tuple, Union
+from typing import IO, Dict, Iterator, NamedTuple, NoReturn, Optional, Sequence, Tuple, Union
 
 from .errors import ProgramFailed, ProgramMissing, Refused
 
 Program = Union[str, "os.PathLike[str]"]
 # What a program reads: bytes, or an open file, from where it stands.
-Data = Union[bytes, BinaryIO]
+Data = Union[bytes, IO[bytes]]
 
 CHECKOUT = pathlib.Path(__file__).resolve().parents[2]
 REFUSED = re.compile(r"(?:line \d+: )?refused (\d+)")
@@ -84,10 +84,10 @@ def unproved(crate: str) -> Optional[str]:
     return place
 
 
-def call(program: str, words: Sequence[str], data: Data, output: Optional[BinaryIO] = None) -> Ended:
+def call(program: str, words: Sequence[str], data: Data, output: Optional[IO[bytes]] = None) -> Ended:
     """Runs a program with these words and this standard input. What it prints goes into the file `output`, if one is
     given, and else is what is told."""
-    out: Union[int, BinaryIO] = subprocess.PIPE if output is None else output
+    out: Union[int, IO[bytes]] = subprocess.PIPE if output is None else output
     command = [program, *words]
     try:
         if isinstance(data, bytes):
@@ -140,7 +140,7 @@ def opened(text: Union[str, bytes, "os.PathLike[str]"]) -> Iterator[Data]:
             yield file
 
 
-def first_line(printed: BinaryIO) -> Tuple[str, int]:
+def first_line(printed: IO[bytes]) -> Tuple[str, int]:
     """The first line that a program printed into a file without a buffer, and where the next one begins. A program that
     is given the file reads from there. If the last line ends with a line feed, that is taken away."""
     place, end = printed.fileno(), printed.seek(0, os.SEEK_END)
@@ -151,7 +151,7 @@ def first_line(printed: BinaryIO) -> Tuple[str, int]:
     return line.decode(errors="backslashreplace"), begin
 
 
-def text_from(file: BinaryIO, begin: int) -> str:
+def text_from(file: IO[bytes], begin: int) -> str:
     """The text of a file from a place on. Its bytes are not read into memory beside it."""
     if os.fstat(file.fileno()).st_size <= begin:
         return ""

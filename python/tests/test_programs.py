@@ -31,7 +31,13 @@ from tagzirk.reports import analysed
 EXAMPLES = CHECKOUT / "examples"
 CHECKER = CHECKOUT / "tools" / "check.py"
 # all but that which runs the command
-MODULES = ["tagzirk", *(f"tagzirk.{it.stem}" for it in sorted((CHECKOUT / "python" / "tagzirk").glob("[a-z]*.py")))]
+MODULES = [
+    "tagzirk",
+    *(
+        ".".join(it.relative_to(CHECKOUT / "python").with_suffix("").parts)
+        for it in sorted((CHECKOUT / "python" / "tagzirk").rglob("[a-z]*.py"))
+    ),
+]
 RING_WITH_TAIL = [(1, 2), (2, 3), (3, 4), (4, 5), (1, 5), (2, 6)]
 
 

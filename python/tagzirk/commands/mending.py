@@ -1,0 +1,44 @@
+"""`tagzirk mend`: links to add."""
+
+from __future__ import annotations
+
+import argparse
+from typing import TYPE_CHECKING
+
+from ..graphs import shown
+from ..mending import Mended, mend
+from ..pages import counted
+from ..progress import Progress
+from .words import Parents, at_least_one, command, dump_of, told, write
+
+if TYPE_CHECKING:
+    from .words import Commands
+
+
+def add(commands: Commands, parents: Parents) -> None:
+    """Adds the words of `mend`."""
+    text = "find links to add, so that no fewer than K crashes split the overlay"
+    it = command(commands, "mend", run_mend, text, parents.dump)
+    it.add_argument("--to", type=at_least_one, metavar="K", required=True, help="how many crashes k is to be")
+    it.add_argument("--most-links", type=at_least_one, metavar="D", help="no host gets more than D links by these")
+    it.add_argument("--certificate", action="store_true", help="print the certificate of the new k, as the last line")
+    it.add_argument("--graph", metavar="GRAPHFILE", help="write the graph file with these links too")
+
+
+def run_mend(words: argparse.Namespace) -> int:
+    """Prints links to add."""
+    graph = dump_of(words).graph
+    with Progress() as progress:
+        mended: Mended[str] = mend(graph, words.to, words.most_links, progress=progress)
+    for one, other in mended.links:
+        print(f"add\t{shown(one)}\t{shown(other)}")
+    if words.graph:
+        write(words.graph, mended.after.graph_file)
+    if words.certificate:
+        print(mended.after.certificate)
+    before, after = mended.before.k, mended.after.k
+    if mended.links:
+        told(f"k is {before}, and {after} with {counted(len(mended.links), 'more link')}")
+    else:
+        told(f"k is {before} already, so no link is needed")
+    return 0

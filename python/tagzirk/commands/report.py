@@ -1,0 +1,34 @@
+"""`tagzirk report`: a page about a dump."""
+
+from __future__ import annotations
+
+import argparse
+import datetime
+import sys
+from typing import TYPE_CHECKING
+
+from ..dumps import last_change
+from ..pages import page
+from ..progress import Progress
+from .words import Parents, at_least_one, command, dump_of
+
+if TYPE_CHECKING:
+    from .words import Commands
+
+
+def add(commands: Commands, parents: Parents) -> None:
+    """Adds the words of `report`."""
+    text = "print a page of HTML about a dump, which needs nothing else"
+    it = command(commands, "report", run_report, text, parents.dump)
+    it.add_argument("--to", type=at_least_one, metavar="K", help="links to add are for this k, not for one more")
+
+
+def run_report(words: argparse.Namespace) -> int:
+    """Prints the page."""
+    dump = dump_of(words)
+    changed = last_change(words.files)
+    taken = None if changed is None else datetime.datetime.fromtimestamp(changed).astimezone()
+    with Progress() as progress:
+        text = page(dump, words.to, taken=taken, progress=progress)
+    sys.stdout.write(text)
+    return 0

@@ -1,0 +1,126 @@
+"""What the commands share: words that several of them take, and how they speak to a person."""
+
+from __future__ import annotations
+
+import argparse
+import contextlib
+import os
+import pathlib
+import sys
+from dataclasses import dataclass
+from typing import TYPE_CHECKING, Callable, Sequence
+
+from ..dumps import Dump, Options, read_dump
+from ..forms import FORMS, Asked
+from ..graphs import UNSHOWN, code, shown
+
+if TYPE_CHECKING:
+    Commands = argparse._SubParsersAction[argparse.ArgumentParser]
+
+MOST_NAMES = 8
+
+DUMP_FORMS = """FILE is a dump of what each host lists, in a form of `overlay import`, or as JSON of nodes and links
+(networkx, d3, NetJSON, cytoscape), objects or lists of hosts with their peers, JSON lines, GraphML, GEXF, GML, YAML,
+CSV with a header, lines with weights, `;` or arrows, or lists of neighbours. """
+READS = f"""{DUMP_FORMS}Several files, or a folder, are one file a
+host, whose name is the host's. Without FILE, or with -, standard input is read. Notes on the dump go to standard error.
+"""
+READS_MANY = f"""{DUMP_FORMS}Each FILE is a dump; one folder stands
+for the dumps in it. Notes on the dumps go to standard error.
+"""
+
+
+@dataclass(frozen=True)
+class Parents:
+    """Words that commands have in common: how a dump is read, and how many questions are asked at once."""
+
+    dump: argparse.ArgumentParser
+    at_once: argparse.ArgumentParser
+
+
+def common_words() -> Parents:
+    """The words that commands have in common."""
+    dump = argparse.ArgumentParser(add_help=False)
+    dump.add_argument("--either", action="store_true", help="link two hosts also if only one of them lists the other")
+    dump.add_argument("--entries", action="store_true", help="leave out names that others list, and that have no entry")
+    dump.add_argument("--form", choices=FORMS, help="the form of the dump; without it the dump itself decides")
+    dump.add_argument("--by", metavar="FIELD", help="the field of an object that names its host")
+    dump.add_argument("--columns", metavar="FROM,TO", help="the columns of a table that are both ends of a link")
+    at_once = argparse.ArgumentParser(add_help=False)
+    at_once.add_argument(
+        "--workers",
+        type=at_least_one,
+        metavar="N",
+        help="ask so many questions at once; without it, as many as there are processors",
+    )
+    return Parents(dump, at_once)
+
+
+def command(
+    commands: Commands,
+    name: str,
+    run: Callable[[argparse.Namespace], int],
+    text: str,
+    *parents: argparse.ArgumentParser,
+    is_of_many: bool = False,
+) -> argparse.ArgumentParser:
+    """Adds a command that reads a dump, or one of many dumps."""
+    made = commands.add_parser(
+        name,
+        help=text,
+        description=f"{text[0].upper()}{text[1:]}.",
+        epilog=READS_MANY if is_of_many else READS,
+        parents=parents,
+    )
+    files = "a dump, or a folder of dumps" if is_of_many else "the dump, or one file a host"
+    made.add_argument("files", nargs="+" if is_of_many else "*", metavar="FILE", help=files)
+    made.set_defaults(run=run, name=name)
+    return made
+
+
+def at_least_one(text: str) -> int:
+    """A number of hosts, links or questions that somebody typed."""
+    number = int(text) if text.isascii() and text.isdigit() else 0
+    if not 1 <= number <= 1024:
+        raise argparse.ArgumentTypeError(f"it takes a number from 1 to 1024, and not {text!r}")
+    return number
+
+
+def told(text: str) -> None:
+    """Says something to the person, on standard error, below what is printed. Control characters are shown as codes.
+    Where standard error is closed or full, it is lost."""
+    sys.stdout.flush()
+    with contextlib.suppress(OSError):
+        print("\n".join(UNSHOWN.sub(code, line) for line in text.split("\n")), file=sys.stderr, flush=True)
+
+
+def some(names: Sequence[object]) -> str:
+    """Names in words, the first eight."""
+    first = ", ".join(map(shown, names[:MOST_NAMES]))
+    return first if len(names) <= MOST_NAMES else f"{first} and {len(names) - MOST_NAMES} more"
+
+
+def options_of(words: argparse.Namespace) -> Options:
+    """How the dump is read."""
+    return Options(words.either, words.entries, Asked(words.form, words.by, words.columns))
+
+
+def dump_of(words: argparse.Namespace, is_graph_taken: bool = True) -> Dump:
+    """The dump that the words name, whose notes are told."""
+    dump = read_dump(words.files or ["-"], options_of(words), is_graph_taken=is_graph_taken)
+    for note in dump.notes:
+        told(note)
+    return dump
+
+
+def write(place: str, text: str) -> None:
+    """Writes a file at once, so that it is whole or as it was; `-` is standard output."""
+    if place == "-":
+        sys.stdout.write(text)
+        return
+    part = pathlib.Path(f"{place}.{os.getpid()}.part")
+    try:
+        part.write_text(text, encoding="utf-8", errors="backslashreplace")
+        part.replace(place)
+    finally:
+        part.unlink(missing_ok=True)
