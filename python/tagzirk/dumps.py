@@ -17,7 +17,7 @@ from .graphs import NamedGraph
 from .programs import Program, call, find, refuse
 
 GRAPH_FILE = re.compile(r"(?:[ \t\r]*(?:#[^\n]*)?\n)*[ \t\r]*(?:node|link) +\d")
-NAME = re.compile(r"# (\d+) (.*)")
+NAME = re.compile(r"# ([0-9]+) (.*)")
 ONE_SIDED = re.compile(r"^listed by one end only: (\d+)$", re.MULTILINE)
 WITHOUT_ENTRY = re.compile(r"^listed without an entry: (\d+)$", re.MULTILINE)
 # What overlay says of a first line that may be a header.
@@ -69,20 +69,30 @@ def read_graph_file(text: str) -> NamedGraph[str]:
     >>> graph = read_graph_file("# 4 oslo\\nnode 4\\nnode 7\\nlink 4 7\\n")
     >>> graph.ids, graph.links
     ({'oslo': 4, '7': 7}, [[4, 7]])
+    >>> read_graph_file("# 1 x (3)\\nnode 1\\n# 2 x\\nnode 2\\n# 3 x\\nnode 3\\n").ids
+    {'x (3)': 1, 'x': 2, 'x (3) (3)': 3}
     """
     before, names, links = "", {}, []  # type: str, Dict[int, str], List[List[int]]
     for line in text.split("\n"):
         words = line.split()
         if words[:1] == ["node"]:
             said = NAME.fullmatch(before.rstrip("\r"))
-            names[int(words[1])] = said[2] if said and int(said[1]) == int(words[1]) else words[1]
+            place = id_of(words[1])
+            names[place] = said[2] if said and said[1].lstrip("0") == words[1].lstrip("0") else str(place)
         elif words[:1] == ["link"]:
-            links.append([int(words[1]), int(words[2])])
+            links.append([id_of(words[1]), id_of(words[2])])
         before = line
     ids: Dict[str, int] = {}
     for place, name in names.items():
-        ids[name if name not in ids else f"{name} ({place})"] = place
+        while name in ids:
+            name = f"{name} ({place})"
+        ids[name] = place
     return NamedGraph(ids, links)
+
+
+def id_of(word: str) -> int:
+    """The id that a word of a graph file says, with any number of zeros in front."""
+    return int(word.lstrip("0") or "0")
 
 
 def contents_of(places: Sequence[str]) -> Dict[pathlib.Path, bytes]:

@@ -6,6 +6,7 @@ import shutil
 import unittest
 from unittest import mock
 
+from tagzirk.dumps import read_graph_file
 from tagzirk.errors import BadDump, LibraryMissing
 from tagzirk.forms import Asked, host_of, listings_of, of_graphviz, of_hosts, text_of
 from tagzirk.values import Views, views_of
@@ -411,6 +412,22 @@ class Libraries(unittest.TestCase):
         ):
             with self.assertRaises(BadDump, msg=text):
                 of_graphviz(text)
+
+
+class GraphFiles(unittest.TestCase):
+    def test_each_node_line_is_a_host(self):
+        # names that are taken, names like those that are made for these, zeros in front, digits of another script
+        zeros = "0" * 5000
+        for text, ids in (
+            ("# 1 x (3)\nnode 1\n# 2 x\nnode 2\n# 3 x\nnode 3\n", {1, 2, 3}),
+            ("# 1 3\nnode 1\n# 2 3 (3)\nnode 2\nnode 3\n", {1, 2, 3}),
+            ("# 1 b\nnode 1\n# 2 b\nnode 2\n# 3 b (2)\nnode 3\n", {1, 2, 3}),
+            (f"# {zeros}1 x\nnode {zeros}1\n# {'1' * 5000} y\nnode 2\n", {1, 2}),
+        ):
+            graph = read_graph_file(text)
+            self.assertEqual((set(graph.ids.values()), len(graph.ids)), (ids, len(ids)), text[:60])
+        self.assertEqual(read_graph_file(f"# {zeros}1 x\nnode 01\n").ids, {"x": 1})
+        self.assertEqual(read_graph_file("# \u0661 oslo\nnode 1\n").ids, {"1": 1})
 
 
 class OtherValues(unittest.TestCase):
