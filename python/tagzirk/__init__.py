@@ -16,6 +16,7 @@ True
 """
 
 from .answers import Answer
+from .asked import Asked
 from .checks import Verdict, check
 from .crashes import Crash, each
 from .dumps import Dump, Options, read_dump
@@ -30,7 +31,6 @@ from .errors import (
     TagzirkError,
     ViewsDiffer,
 )
-from .forms import Asked
 from .gauges import Metrics, metrics
 from .histories import Moment, history
 from .mending import Mended, mend

@@ -10,8 +10,10 @@ import sys
 from dataclasses import dataclass, field
 from typing import Dict, List, NamedTuple, Optional, Sequence, Tuple
 
+from .asked import Asked
 from .errors import BadDump, LibraryMissing, Refused
-from .forms import Asked, NATIVE, listings_of, of_graphviz, of_hosts, text_of
+from .folders import of_hosts
+from .forms import NATIVE, listings_of, of_graphviz, text_of
 from .values import Views
 from .graphs import NamedGraph
 from .programs import Program, call, find, refuse

@@ -4,26 +4,15 @@ from __future__ import annotations
 
 import io
 import json
-import pathlib
 import re
 import shutil
 import subprocess
-from typing import Any, Dict, List, NamedTuple, Optional, Tuple
+from typing import Any, Dict, List, Optional, Tuple
 
+from .asked import Asked
 from .errors import BadDump, LibraryMissing
-from .lines import of_lines, rows_of
-from .values import (
-    NAME_KEYS,
-    PEER_KEYS,
-    Views,
-    is_list_of_names,
-    is_views,
-    key_around,
-    key_in,
-    name_of,
-    names_of,
-    views_of,
-)
+from .lines import of_lines
+from .values import PEER_KEYS, Views, is_views, key_around, key_in, views_of
 
 # The forms that can be asked for. Those of `overlay import` are its own.
 NATIVE = ("views", "edges", "dot")
@@ -35,8 +24,6 @@ XML = re.compile(r"\s*<(?:\?xml\b|!--|graphml\b|gexf\b|!doctype\b)", re.IGNORECA
 # The first line of YAML, where the file's name does not say that it is YAML: an item of a list; a key with a list or an
 # object in brackets, which may go on in the next line; an object whose first key has no quotes.
 YAML = re.compile(r"- .*|[^\s\[{#].*?:\s*[\[{](?:.*[\]},\[{])?|\{\s*[^\s\"'{}\[\],:]+\s*:(?:\s.*)?")
-# Endings of a file's name that are no part of the host's, where each file is of one host.
-ENDINGS = (".json", ".txt", ".yaml", ".yml", ".peers", ".list", ".out")
 # How files begin that are no text.
 PACKED = (
     (b"\x1f\x8b", "gzip: `zcat` unpacks it"),
@@ -46,14 +33,6 @@ PACKED = (
     (b"%PDF", "PDF"),
     (b"\x89PNG", "PNG"),
 )
-
-
-class Asked(NamedTuple):
-    """How a dump is to be read: its form, the field that names hosts, and the columns of both ends of a table."""
-
-    form: Optional[str] = None
-    by: Optional[str] = None
-    columns: Optional[str] = None
 
 
 def text_of(data: bytes) -> Tuple[bytes, List[str]]:
@@ -268,74 +247,3 @@ def of_json(text: str, asked: Asked) -> Optional[Views]:
             "all hosts, or their folder; the name of each is then the host's"
         )
     return None if is_views(value) else views_of(value, asked.by)
-
-
-def host_of(place: pathlib.Path) -> str:
-    """The host whose peers a file has: the file's name without such an ending.
-
-    >>> host_of(pathlib.Path("peers/10.0.0.1.json")), host_of(pathlib.Path("10.0.0.1"))
-    ('10.0.0.1', '10.0.0.1')
-    """
-    name = place.name
-    ending = next((it for it in ENDINGS if name.endswith(it) and name != it), "")
-    return name[: len(name) - len(ending)]
-
-
-def of_hosts(files: Dict[pathlib.Path, bytes], asked: Asked) -> Views:
-    """What hosts list, with one file a host: a list of names or objects, an object with such a list, or a name on each
-    line. If objects name peers and no host is among these names, another field is tried that names some host."""
-    views = hosts_by(files, asked)
-    for field in () if asked.by or views.has_known else NAME_KEYS:
-        try:
-            others = hosts_by(files, asked._replace(by=field))
-        except BadDump:
-            continue
-        if others.has_known:
-            others.kind += f", with peers by {field}"
-            return others
-    return views
-
-
-def hosts_by(files: Dict[pathlib.Path, bytes], asked: Asked) -> Views:
-    """The same, with peers by the field that is asked for."""
-    views = Views(f"{len(files)} files, one a host")
-    for place, data in files.items():
-        host = host_of(place)
-        try:
-            if host in views.peers:
-                raise BadDump(f"a second file is of the host {host}")
-            views.enter(host)
-            for peer in peers_in(decoded(text_of(data)[0]), host, str(place), asked):
-                views.listing(host, peer)
-        except BadDump as why:
-            raise BadDump(f"{place}: {why}") from None
-    return views
-
-
-def peers_in(text: str, host: str, place: str, asked: Asked) -> List[str]:
-    """The peers that the file of one host has."""
-    form = "json" if place.endswith(".json") and text.strip() else form_of(text, place)
-    if form not in ("json", "yaml"):
-        rows = rows_of(text)
-        for row in rows:
-            if len(row.words) > 1 or ";" in row.text:
-                raise BadDump(
-                    f"line {row.number} has several words: of several files each is of one host, with the name "
-                    "of a peer on each line"
-                )
-        return [row.text for row in rows]
-    try:
-        value = json_of(text) if form == "json" else yaml_of(text)
-    except json.JSONDecodeError as why:
-        raise BadDump(f"line {why.lineno}: it is no JSON: {why.msg}") from None
-    if isinstance(value, dict) and list(value) == [host] and is_list_of_names(value[host]):
-        value = value[host]
-    if isinstance(value, dict):
-        key = key_in(value, PEER_KEYS)
-        if not key or "nodes" in value:
-            raise BadDump(
-                "of several files each is of one host, and this is no list of peers, nor an object with the "
-                f"list {', '.join(PEER_KEYS[:-1])} or {PEER_KEYS[-1]}"
-            )
-        value = value[key]
-    return [name_of(value, asked.by)] if isinstance(value, str) else names_of(value, asked.by)

@@ -178,7 +178,7 @@ def of_weighted(rows: List[Tuple[Row, List[str]]]) -> Views:
     for row, words in rows:
         if len(words) not in (2, 3) or len(words) == 3 and not NUMBER.fullmatch(words[2]) or not all(words):
             raise BadDump(f"line {row.number} is not two names with a number behind them: {row.text}")
-        views.link(*words[:2])
+        views.link(words[0], words[1])
     return views
 
 

@@ -301,12 +301,12 @@ def of_list(value: List[Any], by: Optional[str]) -> Views:
         ends = ends_in(it)
         if ends:
             views.kind = "a list of links"
-            views.link(*(name_of(end, by) for end in ends))
+            views.link(name_of(ends[0], by), name_of(ends[1], by))
         elif isinstance(it, list):
             views.kind = "a list of links"
             if len(it) not in (2, 3) or len(it) == 3 and not isinstance(it[2], (int, float, dict)):
                 raise BadDump(f"a link is a list of two names: {short(it)}")
-            views.link(*(name_of(end, by) for end in it[:2]))
+            views.link(name_of(it[0], by), name_of(it[1], by))
         elif isinstance(it, dict):
             of_host(views, it, by)
         else:

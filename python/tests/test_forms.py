@@ -7,8 +7,10 @@ import unittest
 from unittest import mock
 
 from tagzirk.dumps import read_graph_file
+from tagzirk.asked import Asked
 from tagzirk.errors import BadDump, LibraryMissing
-from tagzirk.forms import Asked, host_of, listings_of, of_graphviz, of_hosts, text_of
+from tagzirk.folders import host_of, of_hosts
+from tagzirk.forms import listings_of, of_graphviz, text_of
 from tagzirk.values import Views, views_of
 
 try:

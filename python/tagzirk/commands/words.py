@@ -10,8 +10,9 @@ import sys
 from dataclasses import dataclass
 from typing import TYPE_CHECKING, Callable, Sequence
 
+from ..asked import Asked
 from ..dumps import Dump, Options, read_dump
-from ..forms import FORMS, Asked
+from ..forms import FORMS
 from ..graphs import UNSHOWN, code, shown
 
 if TYPE_CHECKING:
@@ -45,7 +46,17 @@ def common_words() -> Parents:
     dump.add_argument("--entries", action="store_true", help="leave out names that others list, and that have no entry")
     dump.add_argument("--form", choices=FORMS, help="the form of the dump; without it the dump itself decides")
     dump.add_argument("--by", metavar="FIELD", help="the field of an object that names its host")
-    dump.add_argument("--columns", metavar="FROM,TO", help="the columns of a table that are both ends of a link")
+    dump.add_argument("--columns", metavar="FROM,TO", help="the columns or fields that are both ends of a link")
+    dump.add_argument("--peers", metavar="KEY", help="the key below which the peers of each host stand in JSON")
+    dump.add_argument("--links", metavar="KEY", help="the key below which all links stand in JSON")
+    dump.add_argument(
+        "--up",
+        action="append",
+        default=[],
+        metavar="FIELD=VALUE[,VALUE]",
+        help="take only what has one of these values in this field, and leave out what is down; may be repeated",
+    )
+    dump.add_argument("--all", action="store_true", help="take all listings and links, whatever state is said of them")
     at_once = argparse.ArgumentParser(add_help=False)
     at_once.add_argument(
         "--workers",
@@ -102,7 +113,8 @@ def some(names: Sequence[object]) -> str:
 
 def options_of(words: argparse.Namespace) -> Options:
     """How the dump is read."""
-    return Options(words.either, words.entries, Asked(words.form, words.by, words.columns))
+    asked = Asked(words.form, words.by, words.columns, words.peers, words.links, tuple(words.up), words.all)
+    return Options(words.either, words.entries, asked)
 
 
 def dump_of(words: argparse.Namespace, is_graph_taken: bool = True) -> Dump:
