@@ -19,6 +19,10 @@ class LibraryMissing(TagzirkError):
     """A library or a program is not there that only what was asked for needs."""
 
 
+class NotWritten(TagzirkError):
+    """A file that was to be written can't be, or what stands there would be lost."""
+
+
 class ViewsDiffer(UserWarning):
     """A warning: some node of a dict of views lists whom lists it not, or whom has no view; or a node of any graph is
     linked to itself, which is passed over. It says how many, and the first ten.

@@ -2,7 +2,6 @@
 
 from __future__ import annotations
 
-import os
 import time
 from dataclasses import dataclass, field
 from typing import Dict, List, Optional, Sequence, Tuple
@@ -10,9 +9,12 @@ from typing import Dict, List, Optional, Sequence, Tuple
 from .dumps import Options, last_change, read_dump
 from .errors import in_words
 from .graphs import shown
+from .outputs import write
 from .programs import Program
 from .reports import analysed
 
+# How a text file of metrics begins.
+MARK = "# HELP tagzirk_"
 # Each metric with its help, in the order in which they are written. All are gauges.
 HELP = {
     "tagzirk_dump_read": "1 if the dump was read and overlay-check confirmed the answer, and else 0",
@@ -56,33 +58,8 @@ class Metrics:
         return "".join(f"{line}\n" for line in lines)
 
     def write(self, file: str) -> None:
-        """Writes the metrics into a file, which has them all or is as it was: by prometheus_client, if it is there."""
-        try:
-            import prometheus_client
-        except ImportError:
-            self.write_plainly(file)
-            return
-        registry = prometheus_client.CollectorRegistry()
-        for name, value in self.values.items():
-            prometheus_client.Gauge(name, HELP[name], registry=registry).set(value)
-        if self.cut:
-            members = prometheus_client.Gauge(
-                "tagzirk_cut_member", HELP["tagzirk_cut_member"], ["host"], registry=registry
-            )
-            for host in self.cut:
-                members.labels(host).set(1)
-        prometheus_client.write_to_textfile(file, registry)
-
-    def write_plainly(self, file: str) -> None:
-        """The same without prometheus_client. The collector of text files passes over a name like that of the part."""
-        part = f"{file}.{os.getpid()}"
-        try:
-            with open(part, "w", encoding="utf-8") as to:
-                to.write(self.text)
-            os.replace(part, file)
-        finally:
-            if os.path.exists(part):
-                os.unlink(part)
+        """Writes the metrics into a file, which has them all or is as it was."""
+        write(file, self.text)
 
 
 def escaped(label: str) -> str:

@@ -4,6 +4,7 @@ from __future__ import annotations
 
 import csv
 import datetime
+import io
 import os
 import re
 from dataclasses import dataclass, field
@@ -12,6 +13,7 @@ from typing import IO, Any, Dict, List, Optional, Sequence, Tuple
 from .dumps import Options, read_dump
 from .errors import LibraryMissing, in_words
 from .graphs import shown
+from .outputs import write
 from .programs import Program
 from .progress import Progress, each_at_once, processors
 from .reports import Report, analysed
@@ -21,6 +23,8 @@ STAMP = re.compile(
     r"(?<!\d)(20\d\d)-?([01]\d)-?([0-3]\d)(?:[T_ .-]?([0-2]\d)[:h._-]?([0-5]\d)(?:[:m._-]?([0-5]\d))?)?" r"(Z)?(?!\d)"
 )
 EPOCH = re.compile(r"(?<!\d)(1\d{9})(?!\d)")
+# How a picture begins; by this line it is known again.
+SVG = '<?xml version="1.0" encoding="utf-8" standalone="no"?><!-- tagzirk history -->'
 COLUMNS = ("time", "nodes", "links", "k", "cut", "one_sided", "without_entry", "file", "fault")
 
 
@@ -157,7 +161,12 @@ def need_matplotlib() -> Any:
 
 
 def draw(moments: Sequence[Moment], file: str) -> None:
-    """Draws a history: the number on top, below it nodes and links, and listings that are not answered."""
+    """Draws a history into a file, as `picture_of` has it."""
+    write(file, picture_of(moments))
+
+
+def picture_of(moments: Sequence[Moment]) -> str:
+    """A history as SVG: the number on top, below it nodes and links, and listings that are not answered."""
     need_matplotlib()
     from matplotlib import dates, pyplot
     from matplotlib.ticker import MaxNLocator
@@ -191,5 +200,7 @@ def draw(moments: Sequence[Moment], file: str) -> None:
         dates.ConciseDateFormatter(axes[-1].xaxis.get_major_locator(), tz=times[0].tzinfo if times else None)
     )
     figure.tight_layout()
-    figure.savefig(file, format="svg")
+    drawn = io.StringIO()
+    figure.savefig(drawn, format="svg")
     pyplot.close(figure)
+    return SVG + re.sub(r"^<\?xml[^>]*>", "", drawn.getvalue())

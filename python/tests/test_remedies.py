@@ -88,7 +88,7 @@ class Mend(Commands):
         self.assertEqual(tagzirk.check(certificate).answer.k, 2)
         self.assertEqual(
             (self.room / "new.graph").read_text(),
-            named_graph([("a", "b"), ("b", "c"), ("c", "d"), ("d", "a")]).text_with_names,
+            "# tagzirk mend --to 2\n" + named_graph([("a", "b"), ("b", "c"), ("c", "d"), ("d", "a")]).text_with_names,
         )
         self.assertEqual(
             self.tagzirk("mend", self.room / "new.graph", "--to", 2), ("", "k is 2 already, so no link is needed\n", 0)

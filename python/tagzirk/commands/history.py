@@ -9,9 +9,9 @@ import sys
 from typing import TYPE_CHECKING, List
 
 from ..errors import BadDump
-from ..histories import draw, history, need_matplotlib, write_rows
+from ..histories import SVG, history, need_matplotlib, picture_of, write_rows
 from ..progress import Progress
-from .words import Parents, command, options_of, told
+from .words import Parents, command, options_of, output, told
 
 if TYPE_CHECKING:
     from .words import Commands
@@ -20,7 +20,7 @@ if TYPE_CHECKING:
 def add(commands: Commands, parents: Parents) -> None:
     """Adds the words of `history`."""
     text = "print a row of CSV for each of many dumps, in the order of time"
-    it = command(commands, "history", run_history, text, parents.dump, parents.at_once, is_of_many=True)
+    it = command(commands, "history", run_history, text, parents.dump, parents.at_once, parents.forced, is_of_many=True)
     it.add_argument("--svg", metavar="PICTURE", help="write a picture too, by matplotlib")
 
 
@@ -36,7 +36,8 @@ def dumps_in(places: List[str]) -> List[str]:
 
 def run_history(words: argparse.Namespace) -> int:
     """Prints the rows, and draws them."""
-    if words.svg:
+    picture = output(words, "--svg", words.svg, SVG) if words.svg else None
+    if picture:
         need_matplotlib()
     with Progress() as progress:
         moments = history(dumps_in(words.files), options_of(words), workers=words.workers, progress=progress)
@@ -44,6 +45,6 @@ def run_history(words: argparse.Namespace) -> int:
     for it in moments:
         if it.fault:
             told(f"tagzirk history: {it.fault}")
-    if words.svg:
-        draw(moments, words.svg)
+    if picture:
+        picture.write(picture_of(moments))
     return 1 if any(it.fault for it in moments) else 0

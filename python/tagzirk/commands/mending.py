@@ -9,16 +9,19 @@ from ..graphs import shown
 from ..mending import Mended, mend
 from ..pages import counted
 from ..progress import Progress
-from .words import Parents, at_least_one, command, dump_of, told, write
+from .words import Parents, at_least_one, command, dump_of, output, told
 
 if TYPE_CHECKING:
     from .words import Commands
+
+# How a graph file begins that this command wrote.
+MARK = "# tagzirk mend"
 
 
 def add(commands: Commands, parents: Parents) -> None:
     """Adds the words of `mend`."""
     text = "find links to add, so that no fewer than K crashes split the overlay"
-    it = command(commands, "mend", run_mend, text, parents.dump)
+    it = command(commands, "mend", run_mend, text, parents.dump, parents.forced)
     it.add_argument("--to", type=at_least_one, metavar="K", required=True, help="how many crashes k is to be")
     it.add_argument("--most-links", type=at_least_one, metavar="D", help="no host gets more than D links by these")
     it.add_argument("--certificate", action="store_true", help="print the certificate of the new k, as the last line")
@@ -27,13 +30,14 @@ def add(commands: Commands, parents: Parents) -> None:
 
 def run_mend(words: argparse.Namespace) -> int:
     """Prints links to add."""
+    written = output(words, "--graph", words.graph, MARK) if words.graph else None
     graph = dump_of(words).graph
     with Progress() as progress:
         mended: Mended[str] = mend(graph, words.to, words.most_links, progress=progress)
     for one, other in mended.links:
         print(f"add\t{shown(one)}\t{shown(other)}")
-    if words.graph:
-        write(words.graph, mended.after.graph_file)
+    if written:
+        written.write(f"{MARK} --to {words.to}\n{mended.after.graph_file}")
     if words.certificate:
         print(mended.after.certificate)
     before, after = mended.before.k, mended.after.k

@@ -3,11 +3,10 @@
 from __future__ import annotations
 
 import argparse
-import sys
 from typing import TYPE_CHECKING
 
-from ..gauges import metrics
-from .words import Parents, command, options_of, told
+from ..gauges import MARK, metrics
+from .words import Parents, command, options_of, output, told
 
 if TYPE_CHECKING:
     from .words import Commands
@@ -15,17 +14,15 @@ if TYPE_CHECKING:
 
 def add(commands: Commands, parents: Parents) -> None:
     """Adds the words of `metrics`."""
-    it = command(commands, "metrics", run_metrics, "write the numbers of a dump for Prometheus", parents.dump)
+    it = command(commands, "metrics", run_metrics, "write the numbers of a dump for Prometheus", parents.dump, parents.forced)
     it.add_argument("--textfile", metavar="TEXTFILE", required=True, help="the file to write; - is standard output")
 
 
 def run_metrics(words: argparse.Namespace) -> int:
     """Writes the metrics, also those that say that there is no answer."""
+    textfile = output(words, "--textfile", words.textfile, MARK)
     made = metrics(words.files or ["-"], options_of(words))
-    if words.textfile == "-":
-        sys.stdout.write(made.text)
-    else:
-        made.write(words.textfile)
+    textfile.write(made.text)
     if made.fault:
         told(f"tagzirk metrics: {made.fault}")
     return 1 if made.fault else 0

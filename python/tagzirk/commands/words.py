@@ -4,8 +4,6 @@ from __future__ import annotations
 
 import argparse
 import contextlib
-import os
-import pathlib
 import sys
 from dataclasses import dataclass
 from typing import TYPE_CHECKING, Callable, Sequence
@@ -14,6 +12,7 @@ from ..asked import Asked
 from ..dumps import Dump, Options, read_dump
 from ..forms import FORMS
 from ..graphs import UNSHOWN, code, shown
+from ..outputs import Output
 
 if TYPE_CHECKING:
     Commands = argparse._SubParsersAction[argparse.ArgumentParser]
@@ -33,10 +32,12 @@ for the dumps in it. Notes on the dumps go to standard error.
 
 @dataclass(frozen=True)
 class Parents:
-    """Words that commands have in common: how a dump is read, and how many questions are asked at once."""
+    """Words that commands have in common: how a dump is read, how many questions are asked at once, and whether a file
+    that is written may be one of somebody else."""
 
     dump: argparse.ArgumentParser
     at_once: argparse.ArgumentParser
+    forced: argparse.ArgumentParser
 
 
 def common_words() -> Parents:
@@ -64,7 +65,9 @@ def common_words() -> Parents:
         metavar="N",
         help="ask so many questions at once; without it, as many as there are processors",
     )
-    return Parents(dump, at_once)
+    forced = argparse.ArgumentParser(add_help=False)
+    forced.add_argument("--force", action="store_true", help="write over a file that this command did not write")
+    return Parents(dump, at_once, forced)
 
 
 def command(
@@ -125,14 +128,8 @@ def dump_of(words: argparse.Namespace, is_graph_taken: bool = True) -> Dump:
     return dump
 
 
-def write(place: str, text: str) -> None:
-    """Writes a file at once, so that it is whole or as it was; `-` is standard output."""
-    if place == "-":
-        sys.stdout.write(text)
-        return
-    part = pathlib.Path(f"{place}.{os.getpid()}.part")
-    try:
-        part.write_text(text, encoding="utf-8", errors="backslashreplace")
-        part.replace(place)
-    finally:
-        part.unlink(missing_ok=True)
+def output(words: argparse.Namespace, option: str, place: str, *marks: str) -> Output:
+    """The file that an option names, at which nothing is lost that the command reads or did not write."""
+    made = Output(words.name, option, place, marks)
+    made.demand_free([*words.files, *([words.racks] if vars(words).get("racks") else [])], words.force)
+    return made
