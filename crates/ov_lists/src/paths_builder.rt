@@ -4,7 +4,7 @@ ghost use Rattle.ov_lists.specs.Building.{Building};
 use crate::path_ends::Ends;
 use crate::path_list::Paths;
 use ov_ids::{NodeId, OutOfMemory};
-use std::alloc::{AllocError, Global};
+use std::alloc::Global;
 use std::marker::Model;
 
 /// Builds a list of paths id by id. Contracts see the paths so far, and the ids of the one that is begun.
