@@ -14,6 +14,7 @@ from .asked import Asked
 from .errors import BadDump, LibraryMissing, Refused
 from .folders import of_hosts
 from .forms import NATIVE, listings_of, of_graphviz, text_of
+from .taken import taken_of
 from .values import Views
 from .graphs import NamedGraph
 from .programs import Program, call, find, refuse
@@ -158,21 +159,21 @@ def read_dump(
     files = contents_of(places)
     views = of_hosts(files, options.asked)
     name = places[0] if len(places) == 1 else f"{len(files)} files"
-    told = notes_on(views, name)
-    if len(places) > 1:
-        told[0] = f"read {views.kind}"
+    told = f"read {views.kind}" if len(places) > 1 else f"{name} was read as {views.kind}"
     try:
-        return imported(json.dumps(views.value).encode(), name, ["--views", *options.words], told, overlay)
-    except Refused as why:
+        return of_views(views, name, options, [told], overlay)
+    except (BadDump, Refused) as why:
         raise named_error(why, name) from None
 
 
-def notes_on(views: Views, name: str) -> List[str]:
-    """How a dump was read, and what is likely to be wrong with that."""
-    notes = [f"{name} was read as {views.kind}"]
+def of_views(views: Views, name: str, options: Options, notes: List[str], overlay: Optional[Program]) -> Dump:
+    """The dump of what hosts list, as far as it is taken; and what is likely to be wrong with it."""
+    views, told = taken_of(views, options.asked)
     if not views.has_known:
-        notes.append("no host that is listed has an entry; --by FIELD names hosts by another field of objects")
-    return notes
+        told.append("no host that is listed has an entry; --by FIELD names hosts by another field of objects")
+    # YAML has names that are dates
+    said = json.dumps({str(host): listed for host, listed in views.value.items()}, default=str)
+    return imported(said.encode(), name, ["--views", *options.words], [*notes, *told], overlay)
 
 
 def named_error(why: Exception, name: str) -> Exception:
@@ -222,10 +223,7 @@ def dump_of(
                 views = of_graphviz(data)
             except (BadDump, LibraryMissing) as other:
                 raise Refused(why.number, why.line, f"{why.reason}\n{other}") from None
-    notes += notes_on(views, name)
-    # YAML has names that are dates
-    said = json.dumps({str(host): listed for host, listed in views.value.items()}, default=str)
-    return imported(said.encode(), name, ["--views", *options.words], notes, overlay)
+    return of_views(views, name, options, [*notes, f"{name} was read as {views.kind}"], overlay)
 
 
 def imported(data: bytes, name: str, words: Sequence[str], notes: Sequence[str], overlay: Optional[Program]) -> Dump:

@@ -4,13 +4,14 @@ from __future__ import annotations
 
 import json
 import pathlib
-from typing import Dict, List
+from typing import Any, Dict
 
 from .asked import Asked
 from .errors import BadDump
 from .forms import decoded, form_of, json_of, text_of, yaml_of
+from .hosts import Entry, enter_all
 from .lines import rows_of
-from .values import NAME_KEYS, PEER_KEYS, Views, is_list_of_names, key_in, name_of, names_of
+from .values import NAME_KEYS, PEER_KEYS, Views, is_list_of_names, key_in, one_of
 
 # Endings of a file's name that are no part of the host's, where each file is of one host.
 ENDINGS = (".json", ".txt", ".yaml", ".yml", ".peers", ".list", ".out")
@@ -44,22 +45,34 @@ def of_hosts(files: Dict[pathlib.Path, bytes], asked: Asked) -> Views:
 
 def hosts_by(files: Dict[pathlib.Path, bytes], asked: Asked) -> Views:
     """The same, with peers by the field that is asked for."""
-    views = Views(f"{len(files)} files, one a host")
+    views, entries = Views(f"{len(files)} files, one a host"), {}  # type: Views, Dict[pathlib.Path, Entry]
     for place, data in files.items():
         host = host_of(place)
         try:
-            if host in views.peers:
+            if any(it.name == host for it in entries.values()):
                 raise BadDump(f"a second file is of the host {host}")
-            views.enter(host)
-            for peer in peers_in(decoded(text_of(data)[0]), host, str(place), asked):
-                views.listing(host, peer)
+            entries[place] = Entry(host, peers_in(decoded(text_of(data)[0]), host, str(place), asked))
         except BadDump as why:
             raise BadDump(f"{place}: {why}") from None
+    try:
+        enter_all(views, list(entries.values()), asked)
+    except BadDump:
+        for place, it in entries.items():
+            demand_readable(place, it, asked)
+        raise
     return views
 
 
-def peers_in(text: str, host: str, place: str, asked: Asked) -> List[str]:
-    """The peers that the file of one host has."""
+def demand_readable(place: pathlib.Path, entry: Entry, asked: Asked) -> None:
+    """Refuses a file that can't be read alone, by its name."""
+    try:
+        enter_all(Views(), [entry], asked)
+    except BadDump as why:
+        raise BadDump(f"{place}: {why}") from None
+
+
+def peers_in(text: str, host: str, place: str, asked: Asked) -> Any:
+    """What the file of one host has: a list of peers, or an object with such a list."""
     form = "json" if place.endswith(".json") and text.strip() else form_of(text, place)
     if form not in ("json", "yaml"):
         rows = rows_of(text)
@@ -76,12 +89,9 @@ def peers_in(text: str, host: str, place: str, asked: Asked) -> List[str]:
         raise BadDump(f"line {why.lineno}: it is no JSON: {why.msg}") from None
     if isinstance(value, dict) and list(value) == [host] and is_list_of_names(value[host]):
         value = value[host]
-    if isinstance(value, dict):
-        key = key_in(value, PEER_KEYS)
-        if not key or "nodes" in value:
-            raise BadDump(
-                "of several files each is of one host, and this is no list of peers, nor an object with the "
-                f"list {', '.join(PEER_KEYS[:-1])} or {PEER_KEYS[-1]}"
-            )
-        value = value[key]
-    return [name_of(value, asked.by)] if isinstance(value, str) else names_of(value, asked.by)
+    if isinstance(value, dict) and not asked.peers and ("nodes" in value or not key_in(value, PEER_KEYS)):
+        raise BadDump(
+            "of several files each is of one host, and this is no list of peers, nor an object with the list "
+            f"{one_of(PEER_KEYS)}; --peers KEY takes another key"
+        )
+    return [value] if isinstance(value, str) else value

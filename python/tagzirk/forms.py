@@ -10,9 +10,10 @@ import subprocess
 from typing import Any, Dict, List, Optional, Tuple
 
 from .asked import Asked
+from .documents import is_views, key_around, views_of
 from .errors import BadDump, LibraryMissing
 from .lines import of_lines
-from .values import PEER_KEYS, Views, is_views, key_around, key_in, views_of
+from .values import PEER_KEYS, Views, key_in
 
 # The forms that can be asked for. Those of `overlay import` are its own.
 NATIVE = ("views", "edges", "dot")
@@ -220,7 +221,7 @@ def listings_of(data: bytes, place: str, asked: Asked) -> Optional[Views]:
     text = decoded(data)
     form = asked.form or form_of(text, place)
     if form == "yaml":
-        return views_of(yaml_of(text), asked.by)
+        return views_of(yaml_of(text), asked)
     if form in ("graphml", "gexf", "gml"):
         return of_networkx(text, {"graphml": "GraphML"}.get(form, form.upper()))
     if form != "json":
@@ -246,4 +247,4 @@ def of_json(text: str, asked: Asked) -> Optional[Views]:
             f"it has the {key_in(value, PEER_KEYS)} of one host, and does not say of which: give the files of "
             "all hosts, or their folder; the name of each is then the host's"
         )
-    return None if is_views(value) else views_of(value, asked.by)
+    return None if is_views(value) else views_of(value, asked)

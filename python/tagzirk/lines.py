@@ -5,27 +5,12 @@ from __future__ import annotations
 
 import csv
 import io
-import itertools
 import re
 from typing import Dict, List, NamedTuple, Optional, Pattern, Tuple
 
 from .errors import BadDump
-from .values import Views
+from .values import LINK_ENDS, LISTING_ENDS, Views
 
-# What both columns of a header are called: of a link, and of a host and a peer that it lists.
-LINK_COLUMNS = (
-    ("source", "target"),
-    ("from", "to"),
-    ("src", "dst"),
-    ("src", "dest"),
-    ("source", "destination"),
-    ("node1", "node2"),
-    ("node_a", "node_b"),
-    ("from_node", "to_node"),
-)
-HOST_COLUMNS = ("host", "hostname", "node", "name", "local")
-PEER_COLUMNS = ("peer", "neighbor", "neighbour", "remote")
-LISTING_COLUMNS = tuple(itertools.product(HOST_COLUMNS, PEER_COLUMNS))
 ARROW = re.compile(r"(\S+?)\s*(<->|->)\s*(\S+?)\s*;?|(\S+)\s+(--)\s+(\S+?)\s*;?")
 # Two names in brackets, with quotes or without; or in quotes alone.
 PAIR = re.compile(r"\(\s*(['\"]?)([^'\",\s()]+)\1\s*,\s*(['\"]?)([^'\",\s()]+)\3\s*\)\s*[,;]?")
@@ -117,10 +102,10 @@ def header_of(text: str, columns: Optional[str]) -> Optional[Table]:
     asked = tuple(it.strip().lower() for it in columns.split(",")) if columns else None
     if asked and (len(asked) != 2 or not set(asked) <= set(names)):
         raise BadDump(f"--columns takes two names of the header, FROM,TO, and the header is: {first.strip()}")
-    for pair in (asked,) if asked else (*LINK_COLUMNS, *LISTING_COLUMNS):
+    for pair in (asked,) if asked else (*LINK_ENDS, *LISTING_ENDS):
         if pair and set(pair) <= set(names):
             ends = names.index(pair[0]), names.index(pair[1])
-            is_listing = pair in LISTING_COLUMNS
+            is_listing = pair in LISTING_ENDS
             kind = f"a row says that {pair[0]} lists {pair[1]}" if is_listing else "each row is a link"
             table = Table(at, between, ends, is_listing, f"a table with the columns {pair[0]} and {pair[1]}: {kind}")
             rows = table_rows(text, table)

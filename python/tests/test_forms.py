@@ -11,7 +11,8 @@ from tagzirk.asked import Asked
 from tagzirk.errors import BadDump, LibraryMissing
 from tagzirk.folders import host_of, of_hosts
 from tagzirk.forms import listings_of, of_graphviz, text_of
-from tagzirk.values import Views, views_of
+from tagzirk.documents import views_of
+from tagzirk.values import Views
 
 try:
     import networkx

@@ -1,0 +1,317 @@
+"""Dumps that are JSON, or another text that says values as JSON does: the shapes in which links stand in it."""
+
+from __future__ import annotations
+
+from typing import Any, Dict, List, NamedTuple, Optional, Tuple
+
+from .asked import Asked
+from .errors import BadDump
+from .hosts import Entry, enter_all
+from .linked import nodes_beside, place_of
+from .values import (
+    LINK_ENDS,
+    LISTING_ENDS,
+    NAME_KEYS,
+    PEER_KEYS,
+    Said,
+    Views,
+    at_path,
+    is_list_of_names,
+    item_of,
+    key_in,
+    name_of,
+    one_of,
+    said_of,
+    short,
+)
+
+# What the links of a graph of nodes and links are called.
+LINK_KEYS = ("links", "edges")
+GRAPH_KEYS = (*LINK_KEYS, "adjacency")
+
+
+class Ends(NamedTuple):
+    """Both ends of a link that a value says, or a host and a peer that it lists; and what stands beside them."""
+
+    one: Any
+    other: Any
+    is_listing: bool
+    said: Said
+
+
+def ends_in(value: Any, asked: Asked = Asked()) -> Optional[Ends]:
+    """Both ends that an object says, by the fields that are asked for or by those that are known.
+
+    >>> ends_in({"source": "a", "target": "b", "state": "up"})
+    Ends(one='a', other='b', is_listing=False, said={'state': 'up'})
+    """
+    inner = value.get("data", value) if isinstance(value, dict) else None
+    if not isinstance(inner, dict):
+        return None
+    around = {} if inner is value else said_of(value, "data")
+    for one, other in asked_ends(asked) or LINK_ENDS:
+        try:
+            ends = at_path(inner, one), at_path(inner, other)
+        except KeyError:
+            continue
+        top = (one.partition(".")[0], other.partition(".")[0])
+        return Ends(*ends, False, {**around, **said_of(inner, *top, one, other)})
+    if not asked.columns and not key_in(inner, PEER_KEYS):
+        for one, other in LISTING_ENDS:
+            if isinstance(inner.get(one), (str, int)) and isinstance(inner.get(other), (str, int)):
+                return Ends(inner[one], inner[other], True, {**around, **said_of(inner, one, other)})
+    return None
+
+
+def asked_ends(asked: Asked) -> Tuple[Tuple[str, str], ...]:
+    """The two fields of ends that are asked for, if any."""
+    if not asked.columns:
+        return ()
+    names = tuple(it.strip() for it in asked.columns.split(","))
+    if len(names) != 2:
+        raise BadDump(f"--columns takes two fields of a link, FROM,TO, and not {asked.columns}")
+    return ((names[0], names[1]),)
+
+
+def is_views(value: Any) -> bool:
+    """Whether `overlay import --views` reads it: an object of lists, or of nothing. One that has nodes and links is
+    no such object, nor one that has nodes alone."""
+    if not isinstance(value, dict) or "nodes" in value and (key_in(value, GRAPH_KEYS) or len(value) == 1):
+        return False
+    return all(it is None or is_list_of_names(it) for it in value.values())
+
+
+def views_of(value: Any, asked: Asked = Asked()) -> Views:
+    """What hosts list by a JSON value, in any form but that of `overlay import --views`.
+
+    >>> views_of({"a": {"peers": ["b"], "port": 655}, "b": {"peers": ["a"]}}).value
+    {'a': ['b'], 'b': ['a']}
+    >>> graph = views_of({"nodes": [{"id": "a"}, {"id": "b"}], "links": [{"source": "a", "target": "b"}]})
+    >>> graph.kind, graph.value
+    ('a graph of nodes and links', {'a': ['b'], 'b': ['a']})
+    """
+    if asked.links:
+        return of_links_below(value, asked)
+    if isinstance(value, dict):
+        return of_object(value, asked)
+    if isinstance(value, list):
+        return of_list(value, asked)
+    raise BadDump(f"{short(value)} is no dump: an object or a list should stand here")
+
+
+def of_object(value: Dict[str, Any], asked: Asked) -> Views:
+    if value.get("type") == "NetworkCollection":
+        collection = value.get("collection")
+        listed = collection if isinstance(collection, list) else []
+        graphs = [it for it in listed if isinstance(it, dict) and it.get("type") == "NetworkGraph"]
+        if len(graphs) != 1:
+            raise BadDump(f"the collection has {len(graphs)} graphs: give a file of one")
+        return of_object(graphs[0], asked)
+    for inner in (value.get("graph"), value.get("elements")):
+        if isinstance(inner, dict) and "nodes" in inner or inner is value.get("elements") and isinstance(inner, list):
+            return views_of(inner, asked)
+    if says_graph(value):
+        return of_graph(value, asked)
+    around = key_around(value)
+    if around:
+        hosts = views_of(value[around], asked)
+        hosts.kind += f", below {around}"
+        return hosts
+    views = Views("objects with peers")
+    enter_all(views, [Entry(name, entry) for name, entry in value.items()], asked)
+    return views
+
+
+def says_graph(value: Any) -> bool:
+    """Whether an object has nodes and links."""
+    return isinstance(value, dict) and "nodes" in value and key_in(value, GRAPH_KEYS) is not None
+
+
+def says_links(key: str, inner: Any) -> bool:
+    """Whether what stands below a key says links of several hosts: hosts with their peers, links, or a graph of nodes
+    and links. A list of the peers of the one host that the key names does not."""
+    if says_graph(inner):
+        return True
+    if has_peers(inner):
+        return False
+    items = list(inner.values()) if isinstance(inner, dict) else inner if isinstance(inner, list) else []
+    if key in PEER_KEYS:
+        return isinstance(inner, list) and any(ends_in(it) for it in items)
+    return any(ends_in(it) or has_peers(it) for it in items)
+
+
+def has_peers(value: Any) -> bool:
+    """Whether it is an object that says the peers of a host."""
+    key = key_in(value, PEER_KEYS) if isinstance(value, dict) else None
+    return key is not None and isinstance(value[key], (dict, list))
+
+
+def key_around(value: Dict[str, Any]) -> Optional[str]:
+    """The one key below which all hosts or links stand, which names no host, then. None if each key names a host.
+    Refused is what says who is there and nobody's peers.
+
+    >>> key_around({"taken": "09:00", "hosts": [{"name": "a", "peers": ["b"]}, {"name": "b", "peers": ["a"]}]})
+    'hosts'
+    >>> key_around({"a": {"peers": ["b"]}, "b": {"peers": ["a"]}}) is None
+    True
+    """
+    nested = [key for key, inner in value.items() if isinstance(inner, (dict, list))]
+    around = next((key for key in nested if says_links(key, value[key])), None)
+    if around and len(nested) > 1:
+        beside = next(key for key in nested if key != around)
+        raise BadDump(f"below {around} stand hosts or links, and {beside} stands beside it: give {around} alone")
+    inner = value[nested[0]] if len(nested) == 1 and not around else None
+    if inner is not None and nested[0] == "nodes":
+        raise BadDump(f"it has nodes, and neither {one_of(GRAPH_KEYS)}, nor peers of each node")
+    if isinstance(inner, list) and inner and all(isinstance(it, dict) for it in inner):
+        raise BadDump(
+            f"its one list, {nested[0]}, has objects without {one_of(PEER_KEYS)}, so nobody lists anybody; if they are "
+            f"links, say --links {nested[0]} --columns FROM,TO by their fields"
+        )
+    if isinstance(inner, dict) and is_views(inner) and inner and any(inner.values()) and len(value) > 1:
+        return nested[0]
+    return around
+
+
+def of_graph(value: Dict[str, Any], asked: Asked) -> Views:
+    """A graph of nodes and links. If it has several lists of links, which one is meant is asked."""
+    nodes = value["nodes"]
+    entries = [{"id": key, **said_in(inner)} for key, inner in nodes.items()] if isinstance(nodes, dict) else nodes
+    if not isinstance(entries, list):
+        raise BadDump("its nodes are no list")
+    lists = [key for key, inner in value.items() if key in LINK_KEYS or key != "nodes" and is_list_of_links(inner)]
+    if len(lists) > 1:
+        raise BadDump(f"{' and '.join(lists)} may each be its links: say --links KEY")
+    if not lists:
+        return of_adjacency(entries, value["adjacency"], asked)
+    return of_nodes(entries, value[lists[0]], bool(value.get("directed")), asked)
+
+
+def said_in(value: Any) -> Said:
+    return said_of(value, "id") if isinstance(value, dict) else {}
+
+
+def is_list_of_links(value: Any) -> bool:
+    """Whether it is a list with links in it."""
+    return isinstance(value, list) and any(ends_in(it) or is_pair(it) for it in value)
+
+
+def is_pair(value: Any) -> bool:
+    """Whether it is a list of two names, with a number or an object behind them or not."""
+    if not isinstance(value, list) or len(value) not in (2, 3) or not is_list_of_names(value[:2]):
+        return False
+    return len(value) == 2 or isinstance(value[2], (int, float, dict)) or value[2] is None
+
+
+def link_in(value: Any, asked: Asked) -> Optional[Ends]:
+    """The link that an object or a list of two names says."""
+    if is_pair(value):
+        third = value[2:]
+        beside = said_of(third[0]) if third and isinstance(third[0], dict) else {"column 3": it for it in third}
+        return Ends(value[0], value[1], False, beside)
+    return ends_in(value, asked)
+
+
+def key_of(node: Any) -> str:
+    """What the ends of links call a node: its id, or if it has none its name."""
+    inner = node.get("data", node) if isinstance(node, dict) else node
+    return name_of(inner["id"]) if isinstance(inner, dict) and "id" in inner else name_of(node)
+
+
+def of_nodes(nodes: List[Any], links: Any, is_directed: bool, asked: Asked) -> Views:
+    """Node-link JSON of networkx, d3, cytoscape or NetJSON. The ends of links are ids, or places among the nodes."""
+    views = Views("a graph of nodes and links" + (", whose directions are listings" if is_directed else ""))
+    names = {key_of(it): name_of(it, asked.by) if asked.by else key_of(it) for it in nodes}
+    if len(set(names.values())) != len(nodes):
+        raise BadDump("two of its nodes have one name")
+    for name, node in zip(names.values(), nodes):
+        views.enter(name, item_of(node, asked.by)[1])
+    listed = links if isinstance(links, list) else [links]
+    said = [link_in(it, asked) for it in listed]
+    if None in said:
+        told = short(listed[said.index(None)])
+        raise BadDump(
+            f"a link should have the fields {' and '.join(asked_ends(asked)[0] if asked.columns else LINK_ENDS[0])}, "
+            f"and this has not: {told}; --columns FROM,TO names other fields"
+        )
+    pairs = [it for it in said if it]
+    ends = [end for it in pairs for end in (it.one, it.other)]
+    unknown = [end for end in ends if key_of(end) not in names]
+    if unknown and all(type(end) is int and 0 <= end < len(nodes) for end in ends):
+        # as older versions of d3 have it
+        names, unknown = {str(at): name for at, name in enumerate(names.values())}, []
+    if unknown:
+        raise BadDump(f"a link has the end {key_of(unknown[0])}, which is no node")
+    for it in pairs:
+        views.edge(names[key_of(it.one)], names[key_of(it.other)], is_directed or it.is_listing, it.said)
+    return views
+
+
+def of_adjacency(nodes: List[Any], lists: Any, asked: Asked) -> Views:
+    """Adjacency JSON of networkx: the list at each place is of the node at this place."""
+    views = Views("adjacency lists of nodes")
+    if not isinstance(lists, list) or len(lists) != len(nodes):
+        raise BadDump("it should have a list of neighbours for each node")
+    enter_all(views, [Entry(name_of(node, asked.by), peers) for node, peers in zip(nodes, lists)], asked)
+    return views
+
+
+def of_list(value: List[Any], asked: Asked) -> Views:
+    """A list of edges, of hosts with their peers, or of both ends' names; or of the elements of cytoscape."""
+    if len(value) == 1 and says_graph(value[0]):
+        return of_object(value[0], asked)
+    views, entries = Views("a list of hosts with peers"), []  # type: Views, List[Entry]
+    for it in value:
+        ends = link_in(it, asked)
+        if ends:
+            views.kind = "a list of links"
+            one, other = name_of(ends.one, asked.by), name_of(ends.other, asked.by)
+            views.listing(one, other, ends.said) if ends.is_listing else views.link(one, other, ends.said)
+        elif asked.columns:
+            raise BadDump(f"{short(it)} is no link with the fields {asked.columns}")
+        elif isinstance(it, list):
+            raise BadDump(f"a link is a list of two names: {short(it)}")
+        elif isinstance(it, dict):
+            entries += entries_in(views, it, asked)
+        else:
+            raise BadDump(f"{short(it)} is neither a link nor a host with its peers")
+    enter_all(views, entries, asked)
+    return views
+
+
+def entries_in(views: Views, it: Dict[str, Any], asked: Asked) -> List[Entry]:
+    """The host that an object of a list says, with its peers; or all hosts, if it has such by their names."""
+    is_named = key_in(it, (asked.by,) if asked.by else NAME_KEYS) or isinstance(it.get("data"), dict)
+    if not is_named and it:
+        return [Entry(name, inner) for name, inner in it.items()]
+    name, said = item_of(it, asked.by)
+    if "data" in it and not key_in(it, PEER_KEYS):
+        views.enter(name, said)
+        return []
+    naming = next(key for key in ((asked.by,) if asked.by else NAME_KEYS) if key in it or "data" in it)
+    return [Entry(name, {key: inner for key, inner in it.items() if key != naming})]
+
+
+def of_links_below(value: Any, asked: Asked) -> Views:
+    """The links below the key that is asked for, with the nodes that stand beside them."""
+    place = place_of(value, asked.links or "")
+    is_directed = bool(place.around.get("directed")) if isinstance(place.around, dict) else False
+    pairs = []
+    for it in place.values:
+        said = link_in(it, asked)
+        if said is None:
+            told = f"it has the fields {', '.join(said_of(it))}" if isinstance(it, dict) else f"it is {short(it)}"
+            raise BadDump(
+                f"below {asked.links} stands what is no link with known ends, and {told}: say --columns FROM,TO"
+            )
+        pairs.append((name_of(said.one), name_of(said.other), said))
+    views = Views(f"links below {asked.links}")
+    nodes = nodes_beside(place, {end for it in pairs for end in it[:2]}, asked)
+    names = {it.end: it.name for it in nodes or ()}
+    if len(set(names.values())) != len(names):
+        raise BadDump(f"two nodes have one name, by {asked.by}")
+    for node in nodes or ():
+        views.enter(node.name, node.said)
+    for one, other, said in pairs:
+        views.edge(names.get(one, one), names.get(other, other), is_directed or said.is_listing, said.said)
+    return views

@@ -1,0 +1,153 @@
+"""Fields that a dump has beside its hosts and links: which values each has, and how often."""
+
+from __future__ import annotations
+
+import collections
+import datetime
+import functools
+import math
+import re
+from dataclasses import dataclass
+from typing import Counter, Dict, List, Optional, Sequence, Set, Tuple
+
+from .values import Said, Scalar, Views
+
+NUMBER = re.compile(r"[-+]?([0-9]+(\.[0-9]*)?|\.[0-9]+)([eE][-+]?[0-9]{1,3})?")
+CLOCK = r"[0-9]{2}:[0-9]{2}(:[0-9]{2})?([.,][0-9]{1,9})?( ?(Z|UTC|[-+][0-9]{2}:?[0-9]{2}))?"
+MOMENT = re.compile(rf"[0-9]{{4}}-[0-9]{{2}}-[0-9]{{2}}([T ]{CLOCK})?")
+SPAN = re.compile(r"(?:[0-9.]+ ?(?:ms|us|s|secs?|seconds?|m|mins?|minutes?|h|hours?|d|days?|w|weeks?)[ ,]*)+(?:ago)?")
+PART = re.compile(r"([0-9.]+) ?([a-z]+)")
+SECONDS = {"u": 1e-6, "ms": 1e-3, "s": 1.0, "m": 60.0, "h": 3600.0, "d": 86400.0, "w": 604800.0}
+# Seconds since 1970 of today's clocks, and what else counts so, by how many of them are a second.
+EPOCHS = (1e9, 4e9)
+PARTS = (1.0, 1e3, 1e6, 1e9)
+WORD = re.compile(r"[A-Z]?[a-z]+|[A-Z]+(?![a-z])|[0-9]+")
+# What is shown of a field that is not there.
+MISSING = "missing"
+
+
+@dataclass(frozen=True)
+class Field:
+    """A field of all hosts or of all listings and links: its name, and what is said in it of each that has it, with the
+    host that it is said of, or the two that are linked. So many lack it."""
+
+    of: str
+    name: str
+    said: Sequence[Tuple[Tuple[str, ...], Scalar]]
+    missing: int
+
+    @functools.cached_property
+    def counts(self) -> Counter[str]:
+        """How often each value is there, as texts. Letters may be capitals or not."""
+        shown: Dict[str, str] = {}
+        found = collections.Counter(shown.setdefault(text_of(it).casefold(), text_of(it)) for _, it in self.said)
+        if self.missing:
+            found[MISSING] += self.missing
+        return found
+
+    @functools.cached_property
+    def words(self) -> Set[str]:
+        """The words of its name."""
+        return words_of(self.name)
+
+    @property
+    def is_of_hosts(self) -> bool:
+        return self.of == "hosts"
+
+
+def words_of(text: str) -> Set[str]:
+    """The words of a name or a value, in small letters.
+
+    >>> sorted(words_of("linkState_v2 isUP")), sorted(words_of("NotReady"))
+    (['2', 'is', 'link', 'state', 'up', 'v'], ['not', 'ready'])
+    """
+    return {it.lower() for it in WORD.findall(text)}
+
+
+def text_of(value: Scalar) -> str:
+    """A value as `--up` names it.
+
+    >>> [text_of(it) for it in (True, None, 3.0, " up ", "")]
+    ['true', 'null', '3', 'up', '']
+    """
+    if isinstance(value, bool):
+        return "true" if value else "false"
+    if isinstance(value, float) and value.is_integer() and abs(value) < 1e15:
+        return str(int(value))
+    return "null" if value is None else str(value).strip()
+
+
+def fields_of(views: Views) -> List[Field]:
+    """The fields of hosts, and those of listings and links."""
+    hosts: Dict[str, Dict[str, Scalar]] = {name: {} for name in views.peers}
+    links: List[Tuple[Tuple[str, ...], Said]] = []
+    for it in views.statements:
+        if it.other is None:
+            hosts[it.one].update(it.said)
+        else:
+            links.append(((it.one, it.other), it.said))
+    kind = "links" if all(it.is_link for it in views.statements if it.other is not None) else "listings"
+    return [*of_kind("hosts", [((name,), said) for name, said in hosts.items()]), *of_kind(kind, links)]
+
+
+def of_kind(kind: str, said: Sequence[Tuple[Tuple[str, ...], Said]]) -> List[Field]:
+    found: Dict[str, List[Tuple[Tuple[str, ...], Scalar]]] = {}
+    for who, beside in said:
+        for name, value in beside.items():
+            found.setdefault(name, []).append((who, value))
+    return [Field(kind, name, values, len(said) - len(values)) for name, values in found.items()]
+
+
+def number_of(value: Scalar) -> Optional[float]:
+    """The number that a value or its text says, if it is a finite one.
+
+    >>> number_of("3.5"), number_of(True), number_of("1e999"), number_of("v3")
+    (3.5, None, None, None)
+    """
+    if isinstance(value, bool) or value is None:
+        return None
+    if isinstance(value, str):
+        text = value.strip()
+        number = float(text) if len(text) < 40 and NUMBER.fullmatch(text) else math.nan
+    else:
+        number = float(value) if abs(value) < 1e300 else math.inf
+    return number if math.isfinite(number) else None
+
+
+def moment_of(value: Scalar) -> Optional[float]:
+    """The seconds since 1970 that a value says, if it is a time: by a date, or by seconds or smaller parts of them.
+
+    >>> moment_of("1970-01-02T00:00:10Z"), moment_of(1764493200), moment_of(1764493200000), moment_of(60)
+    (86410.0, 1764493200.0, 1764493200.0, None)
+    """
+    if isinstance(value, str) and MOMENT.fullmatch(value.strip()):
+        text = re.sub(r"([.,])([0-9]+)", lambda it: f".{it[2][:6]:0<6}", value.strip().replace("UTC", "Z"))
+        zoned = re.sub(r" ?([-+][0-9]{2}):?([0-9]{2})$", r"\1:\2", text) if len(text) > 10 else text
+        text = re.sub(r" ?Z$", "+00:00", zoned)
+        try:
+            moment = datetime.datetime.fromisoformat(text)
+        except ValueError:
+            return None
+        return (moment if moment.tzinfo else moment.replace(tzinfo=datetime.timezone.utc)).timestamp()
+    number = number_of(value)
+    if number is None:
+        return None
+    return next((number / part for part in PARTS if EPOCHS[0] <= number / part < EPOCHS[1]), None)
+
+
+def span_of(value: Scalar) -> Optional[float]:
+    """The seconds that a text with units says.
+
+    >>> span_of("1m30s"), span_of("2 hours ago"), span_of("5"), span_of(5)
+    (90.0, 7200.0, None, None)
+    """
+    text = value.strip().lower() if isinstance(value, str) else ""
+    if len(text) > 60 or not SPAN.fullmatch(text):
+        return None
+    total = 0.0
+    for number, unit in PART.findall(text):
+        try:
+            total += float(number) * SECONDS["ms" if unit == "ms" else unit[0]]
+        except ValueError:
+            return None
+    return total

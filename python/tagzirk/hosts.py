@@ -1,0 +1,170 @@
+"""Hosts with their peers, as values of JSON say them: which list has the peers of a host, and what is said of each."""
+
+from __future__ import annotations
+
+from typing import Any, Dict, List, NamedTuple, Optional, Sequence, Set
+
+from .asked import Asked
+from .errors import BadDump
+from .values import PEER_KEYS, Said, Scalar, Views, is_list_of_names, items_of, one_of, said_of, short
+
+
+class Entry(NamedTuple):
+    """A host, and what stands there of it: the list of its peers, or an object that has it."""
+
+    name: str
+    value: Any
+
+
+class Lists(NamedTuple):
+    """The lists of a host: the key of that which has its peers, or None, if the host has none; further ones that may
+    have them; and further ones that say something of each peer, by its name."""
+
+    key: Optional[str]
+    others: List[str]
+    beside: Dict[str, Dict[str, Scalar]]
+
+
+def enter_all(views: Views, entries: Sequence[Entry], asked: Asked) -> None:
+    """Takes in hosts with their peers. Each host stands there once."""
+    hosts: Set[str] = set()
+    for it in entries:
+        if it.name in hosts:
+            raise BadDump(f"the host {it.name} stands there twice")
+        hosts.add(it.name)
+    if not asked.peers and is_peers_by_peers(entries, hosts):
+        for it in entries:
+            enter(views, it.name, {}, it.value, {}, asked)
+        return
+    said = [lists_of(it, hosts, asked) if isinstance(it.value, dict) else None for it in entries]
+    demand_one_list([it for it in said if it], asked)
+    for it, lists in zip(entries, said):
+        if lists is None:
+            enter(views, it.name, {}, it.value, {}, asked)
+        else:
+            top = {key.partition(".")[0] for key in (lists.key or "", *lists.others, *lists.beside)}
+            of_host = said_of(it.value, *top)
+            enter(views, it.name, of_host, lists_in(it.value)[lists.key] if lists.key else None, lists.beside, asked)
+
+
+def enter(
+    views: Views, name: str, of_host: Said, peers: Any, beside: Dict[str, Dict[str, Scalar]], asked: Asked
+) -> None:
+    """Takes in a host, what is said of it, its list of peers, and what is said of each elsewhere."""
+    if isinstance(peers, (str, int, float)):
+        raise BadDump(f"the entry of {name} is no list of peers: {short(peers)}")
+    views.enter(name, of_host)
+    for peer, said in items_of(peers, asked.by):
+        more = {field: values[peer] for field, values in beside.items() if peer in values}
+        views.listing(name, peer, {**said, **more})
+
+
+def is_peers_by_peers(entries: Sequence[Entry], hosts: Set[str]) -> bool:
+    """Whether each host is an object whose keys are its peers, as networkx writes a dict of dicts: at least half of
+    these keys are hosts, and either all or none of what stands below them are objects or lists."""
+    objects = [it.value for it in entries if it.value is not None]
+    if not all(isinstance(it, dict) and not set(PEER_KEYS) & set(it) for it in objects):
+        return False
+    peers = {peer for it in objects for peer in it}
+    kinds = {isinstance(inner, (dict, list)) for it in objects for inner in it.values() if inner is not None}
+    return bool(peers) and 2 * len(peers & hosts) >= len(peers) and len(kinds) < 2
+
+
+def lists_in(value: Dict[str, Any]) -> Dict[str, Any]:
+    """The lists and objects in an object, by their keys; and the lists in these objects, by both keys with a dot."""
+    found: Dict[str, Any] = {}
+    for key, inner in value.items():
+        if isinstance(inner, (list, dict)) or inner is None and key in PEER_KEYS:
+            found[key] = inner
+        for other, it in inner.items() if isinstance(inner, dict) else ():
+            if isinstance(it, (list, dict)):
+                found[f"{key}.{other}"] = it
+    return found
+
+
+def names_in(value: Any, hosts: Set[str], by: Optional[str]) -> Optional[Set[str]]:
+    """The names in a list or an object. Of objects that have no name, as far as one can know, those texts are names
+    that are hosts; None if there are objects, and none such."""
+    try:
+        return {name for name, _ in items_of(value, by)}
+    except BadDump:
+        texts = {str(text) for it in value if isinstance(it, dict) for text in said_of(it).values()}
+        return texts & hosts or None
+
+
+def lists_of(entry: Entry, hosts: Set[str], asked: Asked) -> Lists:
+    """Which of the lists of a host has its peers: that which is asked for, or the first that is called so. Any other
+    list that names hosts, and not just the same ones, may be meant too."""
+    lists = lists_in(entry.value)
+    names = {key: names_in(it, hosts, asked.by) for key, it in lists.items()}
+    called = [it for key in PEER_KEYS if key in lists for it in opened(key, names, hosts)]
+    key = (asked.peers if asked.peers in lists else None) if asked.peers else called[0] if called else None
+    if not asked.peers and key is None:
+        raise BadDump(without_peers(entry, lists))
+    if key is None:
+        return Lists(None, [], {})
+    peers, others, beside = names[key] or set(), [], {}  # type: Set[str], List[str], Dict[str, Dict[str, Scalar]]
+    for other, inner in lists.items():
+        if other == key or key.startswith(f"{other}.") or other.startswith(f"{key}."):
+            continue
+        of_each = said_of_each(lists[key], inner, peers, names[other], other in PEER_KEYS, asked.by)
+        if of_each is not None:
+            beside.update({f"{other}.{field}" if field else other: it for field, it in of_each.items()})
+        elif other in called or names[other] is not None and (names[other] or set()) & (hosts - {entry.name}):
+            others.append(other)
+    return Lists(key, others, beside)
+
+
+def opened(key: str, names: Dict[str, Optional[Set[str]]], hosts: Set[str]) -> List[str]:
+    """The key of a list of peers; or if it has an object whose keys are no hosts, and lists in it are of hosts, the
+    keys of these lists."""
+    inner = [it for it in names if it.startswith(f"{key}.") and (names[it] or set()) & hosts]
+    return inner if inner and not (names[key] or set()) & hosts else [key]
+
+
+def said_of_each(
+    peers: Any, value: Any, names: Set[str], others: Optional[Set[str]], is_called_peers: bool, by: Optional[str]
+) -> Optional[Dict[str, Dict[str, Scalar]]]:
+    """What a further list says of each peer, by field and name of the peer; None if it is no such list. It is an object
+    with scalars by peers, or names just the same ones, or is as long as the list of peers and names nobody."""
+    if isinstance(value, dict) and names and others and others <= names and (others == names or not is_called_peers):
+        if others == names or not any(isinstance(it, (dict, list)) for it in value.values()):
+            return by_field(items_of(value, by))
+    if names and others == names:
+        return by_field(items_of(value, by)) if not is_list_of_names(value) else {}
+    if is_list_of_names(value) and isinstance(peers, list) and len(value) == len(peers) > 1:
+        if not (others or set()) & names:
+            return {"": {name: it for (name, _), it in zip(items_of(peers, by), value)}}
+    return None
+
+
+def by_field(items: Sequence[Any]) -> Dict[str, Dict[str, Scalar]]:
+    """What is said of each name, by fields. What stands below a key right away has no field."""
+    found: Dict[str, Dict[str, Scalar]] = {}
+    for name, said in items:
+        for field, value in said.items():
+            found.setdefault("" if field == "value" else field, {})[name] = value
+    return found
+
+
+def without_peers(entry: Entry, lists: Dict[str, Any]) -> str:
+    """What is told of a host without a list of peers."""
+    told = ", ".join(map(str, list(entry.value)[:10])) or "nothing"
+    keys = [key for key, it in lists.items() if isinstance(it, (list, dict)) and it]
+    more = f"; --peers KEY takes another key, as {one_of(keys[:6])}" if keys else ""
+    return f"the host {entry.name} should have the list {one_of(PEER_KEYS)}, and it has {told}{more}"
+
+
+def demand_one_list(said: Sequence[Lists], asked: Asked) -> None:
+    """Refuses hosts with several lists, any of which may have the peers; and a key that is asked for and not there."""
+    if asked.peers:
+        if said and all(it.key is None for it in said):
+            raise BadDump(f"no host has the key {asked.peers} that --peers asks for, with a list or an object below it")
+        return
+    keys = {key: None for it in said if it.others for key in (it.key or "", *it.others)}
+    if keys:
+        count = sum(bool(it.others) for it in said)
+        raise BadDump(
+            f"{one_of(list(keys)).replace(' or ', ' and ')} may each be the list of a host's peers, and they differ "
+            f"({count} of {len(said)} hosts have several): say --peers KEY"
+        )

@@ -1,0 +1,211 @@
+"""Whether a field says a state: which hosts, listings or links are down. docs/DUMPS.md tells the rules that stand here.
+
+A dump whose states differ is refused, unless a person said which are up: else a link that is down would count, and k
+would be too high.
+"""
+
+from __future__ import annotations
+
+import enum
+from typing import AbstractSet, Callable, Dict, Optional, Sequence, Set
+
+from .fields import MISSING, Field, moment_of, number_of, span_of, text_of, words_of
+
+# Words of a field's name that say a state, the time of a last contact, or when something began.
+STATE_NAMES = frozenset(
+    """state states status up down connected disconnected alive dead live liveness online offline active inactive
+    passive reachable unreachable reachability enabled disabled healthy unhealthy health established ready
+    failed failing failure fail suspect suspected available unavailable availability valid invalid ok error err
+    errors fault faulty stale expired lost left gone removed deleted closed open phase condition operational
+    oper admin visible invisible broken flag flags alarm working running responsive responding answering drained
+    banned blocked usable carrier synced""".split()
+)
+CONTACT_NAMES = frozenset(
+    """age ago last seen lastseen heard contact handshake handshakes heartbeat heartbeats idle silence silent lastrecv
+    lastsend expires expiry refreshed""".split()
+)
+BEGIN_NAMES = frozenset("since created began begin start started joined first uptime born conntime added".split())
+# Words of a name that say what a link or a host is, or its measure, and not whether it is up.
+KIND_NAMES = frozenset(
+    """region zone dc datacenter rack site city country location version ver release build os arch platform port
+    protocol proto transport interface iface device dev vlan vrf network net family direction directed inbound
+    outbound incoming outgoing initiator index name host hostname address addr ip key id uid uuid comment
+    description note tag tags group cluster type kind role tier model vendor medium cable fiber provider isp asn
+    encrypted tls compressed persistent static dynamic manual local seed relay voter leader whitelisted
+    multigraph title url uri route path""".split()
+)
+MEASURE_NAMES = frozenset(
+    """weight w cost metric distance dist length len hops hop bandwidth bw speed capacity rate mtu priority prio rank
+    preference level order x y z lat lon pos width height size penwidth label""".split()
+)
+# Names of how a link or a host is drawn.
+LOOK_NAMES = frozenset("color colour fillcolor style shape class classes".split())
+# Words of a value that say a state.
+STATE_WORDS = frozenset(
+    """up down connected disconnected connecting disconnecting reconnecting alive dead online offline active inactive
+    passive reachable unreachable enabled disabled healthy unhealthy established estab failed failing fail
+    failure suspect suspected left leaving joining joined gone removed deleted closed closing open opening half
+    stale expired lost timeout refused reset error ok okay bad broken ready unready notready pending idle init
+    initializing loading exstart exchange attempt standby draining drained quarantined banned blocked blocking
+    discarding invis invisible hidden running stopped crashed exited terminated killed unavailable available
+    degraded critical faulty un dn uj ul um serving evicted wait decommissioned maintenance handshake noaddr
+    unknown never absent isolated partitioned""".split()
+)
+# Two values, one of which says no.
+PAIRS = [set(it.split()) for it in ("true false", "yes no", "y n", "t f", "on off", "0 1", "+ -", "✓ ✗")]
+# What stands where there is no value, and numbers that stand for none.
+NOTHING = frozenset(("", *"null none nil nan n/a na - -- inf infinity infinite ? undefined".split()))
+LARGEST = frozenset(float(2**bits - 1) for bits in (16, 24, 31, 32, 63, 64))
+# Values with more different ones than this are no states, and times within so many seconds are of one moment.
+MOST_VALUES, ONE_MOMENT = 12, 60.0
+
+
+class Kind(enum.Enum):
+    """What a field may be: no state, maybe one, which is told, or a state that differs, which is asked about."""
+
+    NONE = 0
+    TOLD = 1
+    ASKED = 2
+
+
+def kind_of(field: Field) -> Kind:
+    """What a field may be, by the first rule that knows.
+
+    >>> said = [(("a", "b"), "up"), (("b", "c"), "down")]
+    >>> kind_of(Field("links", "x", said, 0)), kind_of(Field("links", "x", said[:1], 0))
+    (<Kind.ASKED: 2>, <Kind.TOLD: 1>)
+    """
+    return next((kind for kind in (rule(field) for rule in RULES) if kind is not None), Kind.NONE)
+
+
+def is_named(field: Field, names: AbstractSet[str]) -> bool:
+    return not field.words.isdisjoint(names)
+
+
+def state_words(text: str) -> Set[str]:
+    """The words of a short value that say a state."""
+    return words_of(text) & STATE_WORDS if len(text) <= 60 else set()
+
+
+def by_one_value(field: Field) -> Optional[Kind]:
+    """One value for all says no difference; if it is one of a state, it is told."""
+    if len(field.counts) != 1:
+        return None
+    value = next(iter(field.counts))
+    is_answer = is_pair({value.casefold()}) and not number_of(value) and not is_named(field, KIND_NAMES)
+    return Kind.TOLD if is_named(field, STATE_NAMES) or state_words(value) or is_answer else Kind.NONE
+
+
+def by_contact(field: Field) -> Optional[Kind]:
+    """Ages, and times of a last contact: they differ, unless all are times within a minute."""
+    moments = [moment_of(value) for _, value in field.said]
+    spans = [span_of(value) for _, value in field.said]
+    are_times = 2 * sum(it is not None for it in moments) > len(moments)
+    are_spans = 2 * sum(it is not None for it in spans) > len(spans)
+    if is_named(field, CONTACT_NAMES):
+        are_numbers = 2 * sum(number_of(value) is not None for _, value in field.said) > len(field.said)
+        if not are_times and not are_spans:
+            return Kind.ASKED if are_numbers else None
+    elif not are_times or is_named(field, BEGIN_NAMES):
+        return None
+    seconds = [it for it in (moments if are_times else spans) if it is not None]
+    is_one = len(seconds) == len(field.said) and not field.missing and max(seconds) - min(seconds) <= ONE_MOMENT
+    return Kind.TOLD if is_one or field.is_of_hosts and not is_named(field, CONTACT_NAMES) else Kind.ASKED
+
+
+def by_words(field: Field) -> Optional[Kind]:
+    """Values with words of states. If all have the same such words, as `Up 3 hours` and `Up 2 days`, they are one."""
+    words = {text: frozenset(state_words(text)) for text in field.counts if text != MISSING}
+    with_words = sum(field.counts[text] for text, it in words.items() if it)
+    if not with_words or len(words) > MOST_VALUES and 2 * with_words < len(field.said):
+        return None
+    return Kind.TOLD if len(set(words.values())) == 1 and not field.missing else Kind.ASKED
+
+
+def by_name(field: Field) -> Optional[Kind]:
+    """A name that says a state. With many different numbers the field counts or measures something."""
+    if not is_named(field, STATE_NAMES):
+        return None
+    numbers = [number_of(value) for _, value in field.said]
+    is_measure = None not in numbers and len(set(numbers)) > MOST_VALUES // 2
+    return Kind.TOLD if is_measure else Kind.ASKED
+
+
+def is_pair(values: AbstractSet[str]) -> bool:
+    """Whether values are one or both of a pair such as true and false."""
+    return any(values <= pair for pair in PAIRS)
+
+
+def by_pair(field: Field) -> Optional[Kind]:
+    """Yes or no, in some words; or yes of some, and nothing of others."""
+    values = {it.casefold() for it in field.counts} - NOTHING - {MISSING}
+    if not values or not is_pair(values) or values == {"1"}:
+        return None
+    if is_named(field, KIND_NAMES | BEGIN_NAMES) or field.is_of_hosts:
+        return Kind.TOLD
+    return Kind.ASKED
+
+
+def by_nothing(field: Field) -> Optional[Kind]:
+    """Nothing among values: null, an empty text, a dash, an infinite number, or a negative one among others."""
+    numbers = [number_of(value) for _, value in field.said]
+    found = [it for it in numbers if it is not None]
+    negative = {it for it in found if it < 0}
+    is_for_none = len(negative) == 1 and len(set(found)) > 1 and 2 * sum(it < 0 for it in found) < len(found)
+    if not is_for_none and not any(it.casefold() in NOTHING for it in field.counts):
+        return None
+    return Kind.TOLD if field.is_of_hosts or is_named(field, KIND_NAMES) else Kind.ASKED
+
+
+def by_identity(field: Field) -> Optional[Kind]:
+    """A value of its own for each listing, or for each host that is listed or lists, is a name or an address."""
+    pairs = [(who, text_of(value).casefold()) for who, value in field.said]
+    if len(set(it for _, it in pairs)) < 3:
+        return None
+    for place in range(len(pairs[0][0])):
+        of_host: Dict[str, Set[str]] = {}
+        for who, value in pairs:
+            of_host.setdefault(who[place], set()).add(value)
+        if all(len(it) == 1 for it in of_host.values()) and len(set().union(*of_host.values())) == len(of_host):
+            return Kind.NONE
+    return Kind.NONE if len(set(it for _, it in pairs)) == len(pairs) and not is_numeric(field) else None
+
+
+def is_numeric(field: Field) -> bool:
+    return all(number_of(value) is not None for _, value in field.said)
+
+
+def by_number(field: Field) -> Optional[Kind]:
+    """Numbers: zero among others, or the largest that some counter holds, may stand for a link that is down. Zero right
+    below the two ends, as in a matrix, is no link."""
+    if field.is_of_hosts or not is_numeric(field):
+        return None
+    numbers = [it for it in (number_of(value) for _, value in field.said) if it is not None]
+    if 0 in numbers and len(set(numbers)) > 1 and not is_named(field, KIND_NAMES):
+        return Kind.ASKED if field.name == "value" else Kind.TOLD
+    is_plain = is_named(field, KIND_NAMES | MEASURE_NAMES | BEGIN_NAMES) or len(set(numbers)) > MOST_VALUES // 2
+    if not LARGEST.isdisjoint(numbers) or field.missing and not is_named(field, KIND_NAMES):
+        return Kind.TOLD
+    return Kind.NONE if is_plain else Kind.TOLD
+
+
+def by_few(field: Field) -> Optional[Kind]:
+    """A few texts that say neither a name nor a kind may be states in words that are not known here."""
+    if is_named(field, KIND_NAMES) or len(field.counts) > MOST_VALUES:
+        return None
+    if field.is_of_hosts and not is_named(field, LOOK_NAMES):
+        return None
+    return Kind.TOLD if 2 * len(field.counts) <= len(field.said) + field.missing or field.missing else None
+
+
+RULES: Sequence[Callable[[Field], Optional[Kind]]] = (
+    by_one_value,
+    by_contact,
+    by_words,
+    by_name,
+    by_pair,
+    by_nothing,
+    by_identity,
+    by_number,
+    by_few,
+)

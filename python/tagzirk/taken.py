@@ -1,0 +1,183 @@
+"""Which hosts, listings and links of a dump are taken: those that a person says are up, or all, if nothing says that
+some are down."""
+
+from __future__ import annotations
+
+from typing import Callable, Dict, List, NamedTuple, Optional, Sequence, Set, Tuple
+
+from .asked import Asked
+from .errors import BadDump
+from .fields import MISSING, Field, fields_of, moment_of, number_of, span_of, text_of
+from .states import Kind, kind_of
+from .values import Scalar, Statement, Views
+
+# So many values of a field, and so many fields, are shown.
+MOST_SHOWN = 5
+# How a field of hosts or of links is told from one of the other that has the same name.
+HOST, LINK = "host:", "link:"
+
+
+class Up(NamedTuple):
+    """What a person says is up: the field, and the values that are."""
+
+    field: str
+    values: str
+
+
+def taken_of(views: Views, asked: Asked) -> Tuple[Views, List[str]]:
+    """What is taken of a dump, and what is to be told of it. `BadDump` asks which is up, if that is not clear.
+
+    >>> views = Views()
+    >>> views.link("a", "b", {"state": "up"})
+    >>> views.link("b", "c", {"state": "down"})
+    >>> taken_of(views, Asked(up=("state=up",)))[0].value
+    {'a': ['b'], 'b': ['a'], 'c': []}
+    """
+    notes, settled = [], []
+    for it in map(up_of, asked.up):
+        field = field_of(fields_of(views), it)
+        views, note = only(views, field, it)
+        notes.append(note)
+        settled.append((field.is_of_hosts, field.name))
+    kinds = [(it, kind_of(it)) for it in fields_of(views) if (it.is_of_hosts, it.name) not in settled]
+    differ = [it for it, kind in kinds if kind is Kind.ASKED]
+    if differ and not asked.all:
+        raise BadDump(question(differ))
+    if differ:
+        notes.append(f"taken all the same, as --all asks: {many(differ)}")
+    same = [it for it, kind in kinds if kind is Kind.TOLD and len(it.counts) == 1]
+    notes += [f"{it.name} is {next(iter(it.counts))} of all {len(it.said)} {it.of}" for it in same[:MOST_SHOWN]]
+    maybe = [it for it, kind in kinds if kind is Kind.TOLD and len(it.counts) > 1]
+    if maybe:
+        notes.append(f"passed over, though it may say what is down: {many(maybe)}; --up FIELD=VALUE takes what has it")
+    return views, notes
+
+
+def up_of(text: str) -> Up:
+    """What the words of `--up` say."""
+    name, equals, values = text.partition("=")
+    if not equals or not name:
+        raise BadDump(f"--up takes FIELD=VALUE or FIELD=VALUE,VALUE, and not {text}")
+    return Up(name, values)
+
+
+def field_of(fields: Sequence[Field], up: Up) -> Field:
+    """The field that is meant: of links or of hosts, and if it is of both, the one that is said."""
+    before = next((it for it in (HOST, LINK) if up.field.startswith(it)), "")
+    name = up.field[len(before) :]
+    kinds = [it for it in fields if not before or it.is_of_hosts == (before == HOST)]
+    found = [it for it in kinds if it.name == name] or [it for it in kinds if it.name.casefold() == name.casefold()]
+    if not found:
+        there = list(dict.fromkeys(it.name for it in fields))
+        shown = f"has {', '.join(there[:12])}" if there else "says nothing beside its hosts and links"
+        raise BadDump(f"there is no field {up.field}, that --up asks for: the dump {shown}")
+    if len(found) > 1:
+        raise BadDump(f"{name} is a field of hosts and of {found[-1].of}: say --up {HOST}{name}=.. or {LINK}{name}=..")
+    return found[0]
+
+
+def only(views: Views, field: Field, up: Up) -> Tuple[Views, str]:
+    """What is left of a dump with what has one of these values alone, and how much was left out."""
+    is_up = test_of(field, up)
+    places = [it for it in views.statements if (it.other is None) == field.is_of_hosts]
+    if field.is_of_hosts:
+        said = {who[0]: value for who, value in field.said}
+        hosts = {name: is_up(said.get(name), name in said) for name in views.peers}
+        count, whole = list(hosts.values()).count(False), len(hosts)
+        left = without_hosts(views, {name for name, it in hosts.items() if not it})
+    else:
+        ups = [is_up(it.said.get(field.name), field.name in it.said) for it in places]
+        count, whole = ups.count(False), len(ups)
+        left = without_links(views, [it for it, is_taken in zip(places, ups) if not is_taken])
+    if count == whole:
+        raise BadDump(f"none of {whole} {field.of} has {field.name}={up.values}: {one(field)}")
+    return left, f"left out, as --up {up.field}={up.values} asks: {count} of {whole} {field.of}"
+
+
+def without_hosts(views: Views, down: Set[str]) -> Views:
+    """A dump without some hosts, and without all links and listings of these."""
+    left = Views(views.kind)
+    for it in views.statements:
+        if it.one not in down and it.other not in down:
+            left.take(it)
+    return left
+
+
+def without_links(views: Views, down: Sequence[Statement]) -> Views:
+    """A dump without some links and listings, whose hosts stay."""
+    left, gone = Views(views.kind), set(map(id, down))
+    for it in views.statements:
+        if id(it) not in gone:
+            left.take(it)
+        else:
+            for name in (it.one, it.other) if it.is_link else (it.one,):
+                left.enter(str(name))
+    return left
+
+
+def test_of(field: Field, up: Up) -> Callable[[Scalar, bool], bool]:
+    """Whether a value, or that there is none, is one of those that are up."""
+    low, dots, high = up.values.partition("..")
+    if dots and all(not it or measured(it) is not None for it in (low, high)):
+        return in_range(field, low, high)
+    asked = {up.values.casefold()} if up.values.casefold() in {it.casefold() for it in field.counts} else set()
+    wanted = asked or {it.strip().casefold() for it in up.values.split(",")}
+
+    def is_up(value: Scalar, is_there: bool) -> bool:
+        text = text_of(value).casefold() if is_there else ""
+        return text in wanted or not is_there and MISSING in wanted
+
+    return is_up
+
+
+def measured(value: Scalar) -> Optional[float]:
+    """The number, or the seconds, that a value says."""
+    number = number_of(value)
+    return span_of(value) if number is None else number
+
+
+def in_range(field: Field, low: str, high: str) -> Callable[[Scalar, bool], bool]:
+    """Whether a number lies between two; of times, so many seconds before the newest time in the dump."""
+    moments = [it for it in (moment_of(value) for _, value in field.said) if it is not None]
+    newest = max(moments) if 2 * len(moments) > len(field.said) else None
+    least, most = measured(low), measured(high)
+
+    def is_up(value: Scalar, is_there: bool) -> bool:
+        moment = moment_of(value) if newest is not None else None
+        number = newest - moment if newest is not None and moment is not None else None
+        if newest is None:
+            number = measured(value)
+        return number is not None and (least is None or least <= number) and (most is None or number <= most)
+
+    return is_up
+
+
+def one(field: Field) -> str:
+    """A field, with its values and how often each is there; or with the least and the greatest of many."""
+    counts = field.counts.most_common()
+    if len(counts) <= MOST_SHOWN:
+        return f"{field.name} is {', '.join(f'{value} ({number})' for value, number in counts)}"
+    moments = sorted(it for it in (moment_of(value) for _, value in field.said) if it is not None)
+    texts = {moment_of(value) or number_of(value): text_of(value) for _, value in field.said}
+    numbers = moments if 2 * len(moments) > len(field.said) else sorted(it for it in texts if it is not None)
+    if 2 * len(numbers) > len(counts):
+        return f"{field.name} is {texts[numbers[0]]} to {texts[numbers[-1]]}"
+    first = ", ".join(f"{value} ({number})" for value, number in counts[:MOST_SHOWN])
+    return f"{field.name} is {first} and {len(counts) - MOST_SHOWN} more values"
+
+
+def many(fields: Sequence[Field]) -> str:
+    """Several fields with their values."""
+    kinds: Dict[str, List[str]] = {}
+    for it in fields[:MOST_SHOWN]:
+        kinds.setdefault(f"{sum(it.counts.values())} {it.of}", []).append(one(it))
+    more = f", and {len(fields) - MOST_SHOWN} more fields" if len(fields) > MOST_SHOWN else ""
+    return "; ".join(f"of {kind} {'; '.join(said)}" for kind, said in kinds.items()) + more
+
+
+def question(fields: Sequence[Field]) -> str:
+    """What a person is asked of fields that may say what is down."""
+    name = fields[0].name
+    is_time = any(it.isdigit() for it in name) or fields[0].counts and len(fields[0].counts) > MOST_SHOWN
+    example = f"--up {name}=LOW..HIGH" if is_time else f"--up {name}=VALUE[,VALUE]"
+    return f"which of it is up is not clear: {many(fields)}. Say {example} for what is up, or --all to take it all"
