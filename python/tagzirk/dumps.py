@@ -18,6 +18,7 @@ from .taken import taken_of
 from .values import Views
 from .graphs import NamedGraph
 from .programs import Program, call, find, refuse
+from .slips import of_contents
 
 GRAPH_FILE = re.compile(r"(?:[ \t\r]*(?:#[^\n]*)?\n)*[ \t\r]*(?:node|link) +\d")
 NAME = re.compile(r"# ([0-9]+) (.*)")
@@ -63,6 +64,11 @@ class Dump:
     def graph(self) -> NamedGraph[str]:
         """The graph, by the names of its hosts."""
         return read_graph_file(self.graph_file)
+
+    @property
+    def has_nodes(self) -> bool:
+        """Whether there is any host in it."""
+        return re.search(r"^[ \t]*node", self.graph_file, re.MULTILINE) is not None
 
 
 def read_graph_file(text: str) -> NamedGraph[str]:
@@ -152,10 +158,14 @@ def read_dump(
     """
     if len(places) == 1 and not os.path.isdir(places[0]):
         ((place, data),) = contents_of(places).items()
+        what = of_contents(data)
+        if what and not options.asked.form:
+            raise BadDump(f"{place} is no dump: it is {what}")
         try:
             return dump_of(data, str(place), options, is_graph_taken, overlay)
         except (BadDump, LibraryMissing, Refused) as why:
-            raise named_error(why, str(place)) from None
+            what = of_contents(data, is_surely=False)
+            raise BadDump(f"{place} is no dump: it is {what}") if what else named_error(why, str(place)) from None
     files = contents_of(places)
     views = of_hosts(files, options.asked)
     name = places[0] if len(places) == 1 else f"{len(files)} files"

@@ -8,6 +8,7 @@ import pathlib
 import sys
 from typing import TYPE_CHECKING, Dict, List, Optional
 
+from .. import slips
 from ..crashes import Crash, each, racks_of
 from ..errors import BadDump
 from ..graphs import NamedGraph, shown
@@ -73,13 +74,18 @@ def write_crashes(crashes: List[Crash[str]], kind: str) -> None:
 
 def racks_in(place: str, graph: NamedGraph[str]) -> Dict[str, List[str]]:
     """The racks that a file names. Who is in none is told."""
+    data = pathlib.Path(place).read_bytes()
+    swapped = f"\ntip: the dump is named without an option, and racks by one: tagzirk each {place} --racks RACKS"
     try:
-        text = pathlib.Path(place).read_bytes().decode("utf-8-sig")
+        racks = racks_of(data.decode("utf-8-sig"), place)
     except UnicodeDecodeError:
         raise BadDump(f"{place}: it is not UTF-8") from None
-    racks = racks_of(text, place)
+    except BadDump as why:
+        raise BadDump(f"{why}{swapped if slips.is_dump(data) else ''}") from None
     if not racks:
         raise BadDump(f"{place}: it names no rack; a line is HOST RACK")
+    if all(rack in graph.ids and hosts != [rack] for rack, hosts in racks.items()):
+        raise BadDump(f"{place}: each rack in it has the name of a host, so it is likely to be the dump{swapped}")
     known = {host for hosts in racks.values() for host in hosts}
     lost = [host for host in graph.ids if host not in known]
     if lost:

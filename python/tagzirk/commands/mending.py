@@ -3,7 +3,10 @@
 from __future__ import annotations
 
 import argparse
-from typing import TYPE_CHECKING
+import os
+import stat
+import sys
+from typing import IO, TYPE_CHECKING
 
 from ..graphs import shown
 from ..mending import Mended, mend
@@ -28,6 +31,14 @@ def add(commands: Commands, parents: Parents) -> None:
     it.add_argument("--graph", metavar="GRAPHFILE", help="write the graph file with these links too")
 
 
+def is_pipe(stream: IO[str]) -> bool:
+    """Whether another program reads what is printed."""
+    try:
+        return stat.S_ISFIFO(os.fstat(stream.fileno()).st_mode)
+    except OSError:
+        return False
+
+
 def run_mend(words: argparse.Namespace) -> int:
     """Prints links to add."""
     written = output(words, "--graph", words.graph, MARK) if words.graph else None
@@ -41,6 +52,8 @@ def run_mend(words: argparse.Namespace) -> int:
     if words.certificate:
         print(mended.after.certificate)
     before, after = mended.before.k, mended.after.k
+    if words.certificate and mended.links and is_pipe(sys.stdout):
+        told("the certificate is the last line: | tail -n 1 | overlay-check")
     if mended.links:
         told(f"k is {before}, and {after} with {counted(len(mended.links), 'more link')}")
     else:

@@ -6,7 +6,7 @@ import argparse
 from typing import TYPE_CHECKING
 
 from ..gauges import MARK, metrics
-from .words import Parents, command, options_of, output, told
+from .words import Parents, command, fault, options_of, output
 
 if TYPE_CHECKING:
     from .words import Commands
@@ -14,7 +14,8 @@ if TYPE_CHECKING:
 
 def add(commands: Commands, parents: Parents) -> None:
     """Adds the words of `metrics`."""
-    it = command(commands, "metrics", run_metrics, "write the numbers of a dump for Prometheus", parents.dump, parents.forced)
+    text = "write the numbers of a dump for Prometheus"
+    it = command(commands, "metrics", run_metrics, text, parents.dump, parents.forced)
     it.add_argument("--textfile", metavar="TEXTFILE", required=True, help="the file to write; - is standard output")
 
 
@@ -24,5 +25,5 @@ def run_metrics(words: argparse.Namespace) -> int:
     made = metrics(words.files or ["-"], options_of(words))
     textfile.write(made.text)
     if made.fault:
-        told(f"tagzirk metrics: {made.fault}")
+        fault(words, made.fault)
     return 1 if made.fault else 0

@@ -8,11 +8,13 @@ import sys
 from dataclasses import dataclass
 from typing import TYPE_CHECKING, Callable, Sequence
 
+from .. import slips
 from ..asked import Asked
 from ..dumps import Dump, Options, read_dump
 from ..forms import FORMS
 from ..graphs import UNSHOWN, code, shown
 from ..outputs import Output
+from ..proofs import strangers
 
 if TYPE_CHECKING:
     Commands = argparse._SubParsersAction[argparse.ArgumentParser]
@@ -125,7 +127,15 @@ def dump_of(words: argparse.Namespace, is_graph_taken: bool = True) -> Dump:
     dump = read_dump(words.files or ["-"], options_of(words), is_graph_taken=is_graph_taken)
     for note in dump.notes:
         told(note)
+    if not words.files and not dump.has_nodes:
+        told(f"no FILE was named, so standard input was read: tagzirk {words.name} FILE")
     return dump
+
+
+def fault(words: argparse.Namespace, text: str) -> None:
+    """Says what could not be done, and what may help."""
+    tips = [*slips.of_files(words.files, words.name), *strangers()]
+    told("\n".join([f"tagzirk {words.name}: {text}", *(f"tip: {it}" for it in tips)]))
 
 
 def output(words: argparse.Namespace, option: str, place: str, *marks: str) -> Output:

@@ -1,0 +1,93 @@
+"""Which programs are asked, and whether they are proved, as far as this machine knows."""
+
+from __future__ import annotations
+
+import hashlib
+import os
+import pathlib
+import re
+from typing import Dict, List, NamedTuple, Optional
+
+from .errors import ProgramMissing, TagzirkError
+from .programs import CHECKOUT, Program, call, find
+
+VERSION = "1.0"
+# Where bin/install tells of the programs that it put into PREFIX/bin, as seen from that folder.
+RECORD = pathlib.Path("..", "share", "tagzirk", "programs")
+LINE = re.compile(r"([0-9a-f]{64}) (proved|unproved) (\S+)")
+NAMES = {"overlay": "overlay", "overlay_check": "overlay-check"}
+
+
+class Known(NamedTuple):
+    """A program that is asked: its path, and whether it is proved; None if nothing says so."""
+
+    place: str
+    is_proved: Optional[bool]
+
+    def __str__(self) -> str:
+        words = {True: "proved", False: "NOT PROVED", None: "not known whether it is proved"}
+        return f"{self.place}: {words[self.is_proved]}"
+
+
+def programs(overlay: Optional[Program] = None, overlay_check: Optional[Program] = None) -> Dict[str, Known]:
+    """Both programs, by their names. One that is not there is left out."""
+    found = {}
+    for crate, given in ("overlay", overlay), ("overlay_check", overlay_check):
+        try:
+            place = find(crate, given)
+        except ProgramMissing:
+            continue
+        found[NAMES[crate]] = Known(place, is_proved(pathlib.Path(place), crate))
+    return found
+
+
+def is_proved(place: pathlib.Path, crate: str) -> Optional[bool]:
+    """Whether a program is proved: by where it lies in a checkout, or by what bin/install wrote when it put it there,
+    as long as the program is still the same."""
+    place = place.resolve()
+    if place == CHECKOUT / "crates" / crate / "out" / crate:
+        return True
+    if "unproved" in place.parts:
+        return False
+    try:
+        record = (place.parent / RECORD).read_text()
+        checksum = hashlib.sha256(place.read_bytes()).hexdigest()
+    except OSError:
+        return None
+    for said in LINE.finditer(record):
+        if (said[1], said[3]) == (checksum, NAMES[crate]):
+            return said[2] == "proved"
+    return None
+
+
+def versions() -> str:
+    """The version of the package, and the programs that it asks, a line each."""
+    found = programs()
+    lines = [f"tagzirk {VERSION}"]
+    for crate, name in NAMES.items():
+        if name in found:
+            said = re.search(rf"^{name} (\d[^\s,]*)", what_it_says(found[name].place), re.MULTILINE)
+            lines.append(f"{name}{f' {said[1]}' if said else ''}, {found[name]}")
+        else:
+            lines.append(f"{name} was not found: the variable TAGZIRK_{crate.upper()} names it")
+    return "".join(f"{line}\n" for line in lines)
+
+
+def what_it_says(place: str) -> str:
+    """What a program says of its version, or nothing."""
+    try:
+        ended = call(place, ["--version"], b"")
+    except TagzirkError:
+        return ""
+    return f"{ended.out}\n{ended.err}"
+
+
+def strangers() -> List[str]:
+    """What is said of a program that does not call itself as the one whose place it takes."""
+    told = []
+    for name, known in programs().items():
+        if not re.search(rf"\b{name}(?!-)\b", what_it_says(known.place)):
+            variable = f"TAGZIRK_{name.replace('-', '_').upper()}"
+            by = f", which {variable} names," if os.environ.get(variable) else ""
+            told.append(f"{known.place}{by} does not say that it is {name}: `tagzirk --version` tells both programs")
+    return told

@@ -1,0 +1,261 @@
+"""Slips: what somebody may have meant by words that the command does not have, and by files that are no dump."""
+
+from __future__ import annotations
+
+import difflib
+import os
+import pathlib
+import re
+from typing import Dict, Iterable, List, Mapping, Optional, Sequence, Tuple
+
+# Words of other programs, or of people, that are no command here: what is meant.
+OTHER_COMMANDS: Dict[str, str] = {
+    "analyze": "`tagzirk status FILE` tells k and the cut of a dump",
+    "k": "`tagzirk status FILE` tells k and the cut of a dump",
+    "connectivity": "`tagzirk status FILE` tells k and the cut of a dump",
+    "cut": "`tagzirk status FILE` tells k and the cut of a dump",
+    "run": "`overlay run FILE` runs a scenario; `tagzirk status FILE` tells k and the cut of a dump",
+    "check": "`overlay-check FILE` checks a certificate file; `tagzirk status FILE` tells k and the cut of a dump",
+    "overlay-check": "`overlay-check FILE` is a program of its own, which checks a certificate file",
+    "verify": "`overlay-check FILE` checks a certificate file",
+    "overlay": "`overlay` is a program of its own: `overlay help` has its commands",
+    "picture": "`overlay picture CERTIFICATE > net.svg` draws a certificate file; `tagzirk report FILE` has a picture",
+    "draw": "`tagzirk report FILE` has a picture of a dump; `tagzirk history FILE.. --svg PICTURE` draws many",
+    "plot": "`tagzirk history FILE.. --svg PICTURE` draws a history; `tagzirk report FILE` has a picture of a dump",
+    "graph": "`overlay graph CERTIFICATE` prints the graph of a certificate; `tagzirk import FILE` that of a dump",
+    "grow": "`overlay grow` grows an overlay and prints its scenario",
+    "sweep": "`overlay sweep` grows many overlays, and prints a row for each",
+    "read": "`tagzirk import FILE` makes a graph file of a dump",
+    "convert": "`tagzirk import FILE` makes a graph file of a dump",
+    "export": "`tagzirk import FILE` makes a graph file of a dump",
+    "html": "`tagzirk report FILE > report.html` makes a page",
+    "page": "`tagzirk report FILE > report.html` makes a page",
+    "fix": "`tagzirk mend FILE --to K` finds links to add",
+    "repair": "`tagzirk mend FILE --to K` finds links to add",
+    "improve": "`tagzirk mend FILE --to K` finds links to add",
+    "prometheus": "`tagzirk metrics FILE --textfile TEXTFILE` writes the numbers for Prometheus",
+    "alarm": "`tagzirk status FILE --at-least K` has a status for alarms, and `tagzirk metrics` numbers for Prometheus",
+    "racks": "`tagzirk each FILE --racks RACKS` tells what the crash of each rack does",
+    "hosts": "`tagzirk each FILE` tells what the crash of each host does",
+    "compare": "`tagzirk diff OLD NEW` tells what changed between two dumps",
+    "tinc": "`tagzirk collect tinc` makes a dump of tinc",
+    "yggdrasil": "`tagzirk collect yggdrasil` makes a dump of Yggdrasil",
+}
+# Options of other commands, of `overlay`, or of habit: what is meant.
+OTHER_OPTIONS: Dict[str, str] = {
+    "--views": "--form views says that the dump is views in JSON",
+    "--edges": "--form edges says that each line of the dump is a link",
+    "--dot": "--form dot says that the dump is DOT",
+    "--json": "--form json says that the dump is JSON; `tagzirk status` and `tagzirk diff` print JSON by their --json",
+    "--yaml": "--form yaml says that the dump is YAML",
+    "--csv": "`tagzirk each` prints CSV by its --csv; `tagzirk history` prints CSV always",
+    "--html": "`tagzirk report FILE > report.html` makes a page",
+    "--names": "tagzirk speaks in names always, so --names can be left out",
+    "--explain": "tagzirk says its answers in words always, so --explain can be left out",
+    "--progress": "how far a command is stands on a terminal by itself, so --progress can be left out",
+    "--certificate": "`tagzirk mend` prints a certificate; the page of `tagzirk report` has one; else "
+    "`tagzirk import FILE | overlay analyse --certificate | tail -n 1`",
+    "--without": "`tagzirk status FILE --without HOST,HOST` tells what is without some hosts",
+    "--group": "`tagzirk status FILE --group HOST,HOST` tells what parts some hosts",
+    "--at-least": "`tagzirk status FILE --at-least K` has a status that says whether k is high enough",
+    "--racks": "`tagzirk each FILE --racks RACKS` tells what the crash of each rack does",
+    "--to": "`tagzirk mend FILE --to K` finds links to add, and `tagzirk report FILE --to K` has them on its page",
+    "--svg": "`tagzirk history FILE.. --svg PICTURE` draws a history; the page of `tagzirk report` has a picture",
+    "--picture": "the page of `tagzirk report` has a picture, and `tagzirk history` takes --svg PICTURE",
+    "--textfile": "`tagzirk metrics FILE --textfile TEXTFILE` writes the numbers for Prometheus",
+    "--graph": "`tagzirk import FILE > GRAPHFILE` writes a graph file, and `tagzirk mend FILE --graph GRAPHFILE` too",
+    "--output": "what is printed goes to a file by `> FILE`",
+    "--out": "what is printed goes to a file by `> FILE`",
+    "-o": "what is printed goes to a file by `> FILE`",
+    "--file": "a file is named without an option",
+    "--input": "a file is named without an option",
+    "-f": "a file is named without an option; --form says its form",
+    "-i": "a file is named without an option",
+    "--threads": "--workers N asks so many questions at once",
+    "--jobs": "--workers N asks so many questions at once",
+    "-j": "--workers N asks so many questions at once",
+    "-w": "--workers N asks so many questions at once",
+    "-k": "K is a number behind --to, or behind --at-least of `tagzirk status`",
+    "--k": "K is a number behind --to, or behind --at-least of `tagzirk status`",
+    "--host": "--without and --group of `tagzirk status` name hosts; --by FIELD says which field names a host",
+    "--key": "--by FIELD says which field names a host",
+    "--name": "--by FIELD says which field names a host",
+    "--header": "--columns FROM,TO names the columns of both ends by their header",
+    "--source": "--columns FROM,TO names the columns of both ends",
+    "--target": "--columns FROM,TO names the columns of both ends",
+    "--overwrite": "--force writes over a file that this command did not write",
+    "--yes": "--force writes over a file that this command did not write",
+    "--overlay": "the variable TAGZIRK_OVERLAY names the program overlay",
+    "--overlay-check": "the variable TAGZIRK_OVERLAY_CHECK names the program overlay-check",
+    "-v": "`tagzirk --version` prints the version; there is no --verbose",
+    "--verbose": "notes on the dump go to standard error always",
+    "-q": "notes on the dump go to standard error: 2> notes.txt keeps them apart",
+    "--quiet": "notes on the dump go to standard error: 2> notes.txt keeps them apart",
+    "--version": "`tagzirk --version` prints the version",
+    "-V": "`tagzirk --version` prints the version",
+}
+# How a file begins, behind blanks, that is surely no dump: what it is, and what is done with it.
+NO_DUMPS: Tuple[Tuple[bytes, str], ...] = (
+    (rb"<(?:!doctype )?html", "a page of HTML; that of `tagzirk report` has the graph as a file to save"),
+    (rb"<(?:\?xml|!--|!doctype svg|svg)[^\x00]*?<svg|<svg", "a picture"),
+    (rb"\x89png|\xff\xd8\xff|gif8", "a picture"),
+    (rb"%pdf", "a document in PDF"),
+    (rb"\x7felf", "a program"),
+    (rb"#!", "a script"),
+    (rb"pk\x03\x04", "a zip archive: unpack it first"),
+    (rb"\xfd7zxz", "packed by xz: `xzcat FILE | tagzirk COMMAND` reads it"),
+    (rb"bzh", "packed by bzip2: `bzcat FILE | tagzirk COMMAND` reads it"),
+    (rb"\x28\xb5\x2f\xfd", "packed by zstd: `zstdcat FILE | tagzirk COMMAND` reads it"),
+    (rb"sqlite format 3", "a database of SQLite: a query to it can print rows of two names"),
+    (rb"# (?:help|type) ", "a file of metrics for Prometheus, which `tagzirk metrics` makes of a dump"),
+    (rb"\[unit\]", "a unit of systemd"),
+    (rb"report \d+ (?:split|linked|alone)", "an answer of `overlay analyse`, whose last line may be a certificate"),
+    (rb"(?:holds|fails) \d+ (?:split|linked|alone)", "an answer of `overlay-check`"),
+    (rb"time,nodes,links,k,cut,", "a table of `tagzirk history`"),
+    (rb"(?:host|rack),hosts,k,all_linked,", "a table of `tagzirk each --csv`"),
+    (rb"add\t[^\t\n]+\t[^\t\n]+\n", "links to add; `tagzirk mend --graph GRAPHFILE` writes the graph with them"),
+)
+# How a file begins that could not be read, and may be something else.
+PERHAPS: Tuple[Tuple[bytes, str], ...] = (
+    (rb"\x1f\x8b", "packed by gzip: `zcat FILE | tagzirk COMMAND` reads it"),
+    (rb"groups:[ \t\r]*\n[ \t]*- name:", "rules for Prometheus"),
+)
+# Options and words that a command can't do without: how they are given.
+REQUIRED: Dict[str, str] = {
+    "--to": "--to 3 asks for links so that no fewer than 3 crashes split the overlay",
+    "--textfile": "--textfile FILE.prom writes into the folder of a collector, and --textfile - prints",
+    "FILE": "name the dumps, or the folder that they are in",
+}
+# So many bytes of a file are looked at.
+FIRST = 4096
+# How the names of files end that commands write.
+OUTPUT_ENDINGS = (".html", ".htm", ".svg", ".png", ".csv", ".graph", ".prom", ".pdf")
+
+
+def of_command(word: str, rest: Sequence[str], commands: Sequence[str]) -> List[str]:
+    """What is said of a first word that is no command."""
+    said = f"tagzirk has no command {word!r}"
+    if word.startswith("-"):
+        behind = next((it for it in rest if it in commands), "COMMAND")
+        return [f"tagzirk has no option {word.partition('=')[0]!r} before its command: tagzirk {behind} {word} .."]
+    key = word.lower()
+    if key in commands:
+        return [said, f"commands are written in small letters: tagzirk {key}"]
+    if key in OTHER_COMMANDS:
+        return [said, OTHER_COMMANDS[key]]
+    like = nearest(word, commands, OTHER_COMMANDS)
+    if like and not os.path.exists(word):
+        return [said, f"did you mean `tagzirk {like}`?" if like in commands else OTHER_COMMANDS[like]]
+    if os.path.exists(word) or pathlib.PurePath(word).suffix:
+        return [
+            f"tagzirk needs a command before the file {word}",
+            f"`tagzirk status {word}` tells k and the cut, and `tagzirk report {word} > report.html` makes a page",
+        ]
+    return [said]
+
+
+def of_option(word: str, command: str, options: Mapping[str, Sequence[str]]) -> List[str]:
+    """What is said of an option that a command does not have. `options` has those of each command."""
+    name = word.partition("=")[0]
+    said = f"there is no option {name}"
+    if os.path.exists(word):
+        return [said, f"a file whose name begins with - is named ./{word}"]
+    own = options[command]
+    if f"-{name}" in own:
+        return [said, f"did you mean -{name}, with two dashes?"]
+    theirs = {it: other for other, its in options.items() for it in its if it not in own}
+    like = nearest(name, own, OTHER_OPTIONS, theirs)
+    if like in own:
+        return [said, f"did you mean {like}?"]
+    if like in OTHER_OPTIONS:
+        return [said, OTHER_OPTIONS[like]]
+    return [said, f"`tagzirk {theirs[like]}` has {like}"] if like else [said]
+
+
+def nearest(word: str, *known: Iterable[str]) -> str:
+    """The word that is most like another, of several lists, the first of which goes before the others; or an empty one.
+
+    >>> nearest("--sorce", ["--source"], ["--force"]), nearest("--x", ["--entries"])
+    ('--source', '')
+    """
+    words = ((it, -at) for at, its in enumerate(known) for it in its)
+    found = ((difflib.SequenceMatcher(None, word.lower(), it.lower()).ratio(), place, it) for it, place in words)
+    ratio, _, like = max(found, default=(0.0, 0, ""))
+    return like if ratio >= 0.7 else ""
+
+
+def of_fault(message: str) -> List[str]:
+    """What argparse says of words, with what is to be done.
+
+    >>> of_fault("the following arguments are required: --to")[1][:8]
+    '--to 3 a'
+    """
+    missing = message.partition("required: ")[2].split(", ")
+    return [message, *(REQUIRED[it] for it in missing if it in REQUIRED)]
+
+
+def of_contents(data: bytes, is_surely: bool = True) -> Optional[str]:
+    """What a file is that is surely no dump, or with `is_surely` false perhaps none, by how it begins; None if nothing
+    is known of it.
+
+    >>> of_contents(b"<!DOCTYPE html>")[:14], of_contents(b"oslo rome")
+    ('a page of HTML', None)
+    """
+    begin = without_mark(data)
+    for pattern, what in NO_DUMPS if is_surely else (*NO_DUMPS, *PERHAPS):
+        if re.match(pattern, begin, re.IGNORECASE):
+            return what
+    if is_surely:
+        return None
+    strange = sum(it < 9 or 13 < it < 32 or it == 127 for it in begin)
+    return "no text" if strange * 20 > len(begin) and not is_utf_16(begin) else None
+
+
+def is_utf_16(data: bytes) -> bool:
+    """Whether bytes are likely to be text in UTF-16: zeros stand in one half of the places."""
+    zeros = data[::2].count(0), data[1::2].count(0)
+    return min(zeros) * 8 < max(zeros)
+
+
+def without_mark(data: bytes) -> bytes:
+    """How a file begins, without a mark of byte order and blanks."""
+    return data[:FIRST].removeprefix(b"\xef\xbb\xbf").lstrip()
+
+
+def of_files(places: Sequence[str], command: str) -> List[str]:
+    """What is said of files that are not there."""
+    missing = [it for it in places if it != "-" and not os.path.lexists(it)]
+    if not missing:
+        return []
+    for begin in range(len(places)):
+        for end in range(len(places), begin + 1, -1):
+            name = " ".join(places[begin:end])
+            if os.path.exists(name):
+                return [f"a name with blanks is one word in quotes: '{name}'"]
+    return [it for place in missing for it in of_missing(place, command)]
+
+
+def of_missing(place: str, command: str) -> List[str]:
+    """What is said of a file that is not there: names of others that are like it, or where output goes."""
+    if "=" in place and os.path.exists(place.partition("=")[2]):
+        return [f"a file is named alone: {place.partition('=')[2]}"]
+    if place.endswith(OUTPUT_ENDINGS):
+        return [f"{place} is not there; if it is to be written: tagzirk {command} .. > {place}"]
+    if place.startswith("@"):
+        return [f"a dump is named without @: {place[1:]}"]
+    if place.startswith(("http://", "https://")):
+        return [f"addresses are not fetched: curl -s {place} | tagzirk {command}"]
+    if "*" in place or "?" in place:
+        return [f"no file has a name like {place}"]
+    folder, name = os.path.split(place)
+    if folder and not os.path.isdir(folder):
+        return [f"there is no folder {folder}"]
+    like = nearest(name, [it.name for it in pathlib.Path(folder or ".").iterdir()])
+    return [f"did you mean {os.path.join(folder, like)}?"] if like else []
+
+
+def is_dump(data: bytes) -> bool:
+    """Whether a file that is to be lines `HOST RACK` is a dump: JSON, a graph file, DOT or XML."""
+    lines = (line.strip() for line in without_mark(data).split(b"\n"))
+    first = next((line for line in lines if line and not line.startswith(b"#")), b"")
+    return re.match(rb"[\[{<]|(?:node|link) \d|(?:strict |di)*graph\b", first) is not None
