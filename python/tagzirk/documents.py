@@ -17,6 +17,7 @@ from .values import (
     Views,
     at_path,
     is_list_of_names,
+    is_yes,
     item_of,
     key_in,
     name_of,
@@ -184,7 +185,7 @@ def of_graph(value: Dict[str, Any], asked: Asked) -> Views:
         raise BadDump(f"{' and '.join(lists)} may each be its links: say --links KEY")
     if not lists:
         return of_adjacency(entries, value["adjacency"], asked)
-    return of_nodes(entries, value[lists[0]], bool(value.get("directed")), asked)
+    return of_nodes(entries, value[lists[0]], is_yes(value.get("directed")), asked)
 
 
 def said_in(value: Any) -> Said:
@@ -295,7 +296,7 @@ def entries_in(views: Views, it: Dict[str, Any], asked: Asked) -> List[Entry]:
 def of_links_below(value: Any, asked: Asked) -> Views:
     """The links below the key that is asked for, with the nodes that stand beside them."""
     place = place_of(value, asked.links or "")
-    is_directed = bool(place.around.get("directed")) if isinstance(place.around, dict) else False
+    is_directed = is_yes(place.around.get("directed")) if isinstance(place.around, dict) else False
     pairs = []
     for it in place.values:
         said = link_in(it, asked)

@@ -13,7 +13,9 @@ from typing import Dict, List, NamedTuple, Optional, Sequence, Tuple
 from .asked import Asked
 from .errors import BadDump, LibraryMissing, Refused
 from .folders import of_hosts
-from .forms import NATIVE, listings_of, of_graphviz, text_of
+from .dot import of_dot
+from .forms import NATIVE, form_of, listings_of
+from .texts import decoded, text_of
 from .taken import taken_of
 from .values import Views
 from .graphs import NamedGraph
@@ -29,8 +31,8 @@ HEADER = re.compile(r"^(line \d+: (\S+) and (\S+) stand in no other line; if it 
 FIRST_LINE = re.compile(r"line 1 is no pair of names: `.* stands behind them")
 # What overlay says of this command, which is no advice here.
 OF_THIS = re.compile(r"; `tagzirk import` of the Python package reads (?:it|more forms)$", re.MULTILINE)
-# The words of a refusal of DOT that Graphviz may read all the same.
-BY_GRAPHVIZ = ("in place of a subgraph", "an HTML text")
+# The words of a refusal of DOT that is read here all the same.
+OF_DOT = ("in place of a subgraph", "an HTML text", "several words to DOT")
 
 
 class Options(NamedTuple):
@@ -181,9 +183,7 @@ def of_views(views: Views, name: str, options: Options, notes: List[str], overla
     views, told = taken_of(views, options.asked)
     if not views.has_known:
         told.append("no host that is listed has an entry; --by FIELD names hosts by another field of objects")
-    # YAML has names that are dates
-    said = json.dumps({str(host): listed for host, listed in views.value.items()}, default=str)
-    return imported(said.encode(), name, ["--views", *options.words], [*notes, *told], overlay)
+    return imported(json.dumps(views.value).encode(), name, ["--views", *options.words], [*notes, *told], overlay)
 
 
 def named_error(why: Exception, name: str) -> Exception:
@@ -213,7 +213,7 @@ def dump_of(
     >>> dump.notes
     ('net.json was read as a graph of nodes and links',)
     """
-    data, told = text_of(data)
+    data, told = text_of(data, options.asked.skip)
     notes = [f"{name}: {it}" for it in told]
     if is_graph_taken and not options.asked.form and GRAPH_FILE.match(data.decode(errors="replace")):
         # overlay says what is wrong with it; what it accepts is read here
@@ -225,15 +225,31 @@ def dump_of(
     if views is None:
         form = [f"--{options.asked.form}"] if options.asked.form in NATIVE else []
         try:
-            return imported(data, name, [*form, *options.words], notes, overlay)
+            dump = imported(data, name, [*form, *options.words], notes, overlay)
         except Refused as why:
-            if not any(it in why.reason for it in BY_GRAPHVIZ):
+            if not any(it in why.reason for it in OF_DOT):
                 raise
-            try:
-                views = of_graphviz(data)
-            except (BadDump, LibraryMissing) as other:
-                raise Refused(why.number, why.line, f"{why.reason}\n{other}") from None
+            views = of_dot(decoded(data))
+        else:
+            views = more_in_dot(data, dump, options, overlay)
+        if views is None:
+            return dump
     return of_views(views, name, options, [*notes, f"{name} was read as {views.kind}"], overlay)
+
+
+def more_in_dot(data: bytes, dump: Dump, options: Options, overlay: Optional[Program]) -> Optional[Views]:
+    """What a dump in DOT that `overlay import` read says beside its links; or None if it says no more, or is no DOT.
+    Both readings have to give one graph."""
+    text = decoded(data)
+    if (options.asked.form or form_of(text, dump.name)) != "dot":
+        return None
+    views = of_dot(text)
+    if not any(it.said for it in views.statements):
+        return None
+    words = ["--views", *options.words]
+    if imported(json.dumps(views.value).encode(), dump.name, words, (), overlay).graph_file != dump.graph_file:
+        raise BadDump("two readers of DOT read another graph each: write all names in quotes")
+    return views
 
 
 def imported(data: bytes, name: str, words: Sequence[str], notes: Sequence[str], overlay: Optional[Program]) -> Dump:

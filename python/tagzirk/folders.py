@@ -8,10 +8,13 @@ from typing import Any, Dict
 
 from .asked import Asked
 from .errors import BadDump
-from .forms import decoded, form_of, json_of, text_of, yaml_of
+from .forms import form_of
 from .hosts import Entry, enter_all
-from .lines import rows_of
+from .json_files import json_of
+from .rows import rows_of
+from .texts import decoded, text_of
 from .values import NAME_KEYS, PEER_KEYS, Views, is_list_of_names, key_in, one_of
+from .yaml_files import yaml_of
 
 # Endings of a file's name that are no part of the host's, where each file is of one host.
 ENDINGS = (".json", ".txt", ".yaml", ".yml", ".peers", ".list", ".out")

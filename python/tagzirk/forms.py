@@ -2,214 +2,87 @@
 
 from __future__ import annotations
 
-import io
 import json
 import re
-import shutil
-import subprocess
-from typing import Any, Dict, List, Optional, Tuple
+from typing import Callable, Dict, Optional
 
 from .asked import Asked
 from .documents import is_views, key_around, views_of
-from .errors import BadDump, LibraryMissing
+from .errors import BadDump
+from .gml import gml_graph
+from .graph_files import Graph
+from .json_files import Twice, json_of
 from .lines import of_lines
+from .matrices import graph6_of, matrix_graph, matrix_of
+from .neighbours import lgl, metis, multiline
+from .rows import rows_of
+from .sections import dimacs, gdf, is_tgf, leda, lemon, matrix_market, pajek, plain, tgf
+from .texts import decoded
 from .values import PEER_KEYS, Views, key_in
+from .xml_graphs import XML, xml_graph
+from .yaml_files import begins_yaml, yaml_of
 
-# The forms that can be asked for. Those of `overlay import` are its own.
+
+def square(text: str) -> Optional[Graph]:
+    """The graph of a text that is to be an adjacency matrix, however small."""
+    matrix = matrix_of(text, 1)
+    return matrix_graph(matrix) if matrix else None
+
+
+# The forms that can be asked for: those of `overlay import`, which are its own; those of lines and of values; and those
+# of graph files, each with its reader, which may find that a text is none.
 NATIVE = ("views", "edges", "dot")
-FORMS = (*NATIVE, "json", "yaml", "graphml", "gexf", "gml", "csv", "weighted", "adjacency")
+GRAPHS: Dict[str, Callable[[str], Optional[Graph]]] = {
+    "graphml": xml_graph,
+    "gexf": xml_graph,
+    "gml": gml_graph,
+    "pajek": pajek,
+    "lemon": lemon,
+    "leda": leda,
+    "gdf": gdf,
+    "tgf": tgf,
+    "plain": plain,
+    "dimacs": dimacs,
+    "matrixmarket": matrix_market,
+    "metis": metis,
+    "lgl": lgl,
+    "multiline": lambda text: multiline(rows_of(text)),
+    "graph6": graph6_of,
+    "matrix": square,
+}
+FORMS = (*NATIVE, "json", "yaml", "csv", "weighted", "adjacency", *GRAPHS)
+# How a text begins in a form, where this leaves no doubt.
 GML = re.compile(
     r"(?:\s*#[^\n]*\n|\s*(?:creator|version|comment|directed|label)\b[^\n]*\n)*\s*graph\s*\[", re.IGNORECASE
 )
-XML = re.compile(r"\s*<(?:\?xml\b|!--|graphml\b|gexf\b|!doctype\b)", re.IGNORECASE)
-# The first line of YAML, where the file's name does not say that it is YAML: an item of a list; a key with a list or an
-# object in brackets, which may go on in the next line; an object whose first key has no quotes.
-YAML = re.compile(r"- .*|[^\s\[{#].*?:\s*[\[{](?:.*[\]},\[{])?|\{\s*[^\s\"'{}\[\],:]+\s*:(?:\s.*)?")
-# How files begin that are no text.
-PACKED = (
-    (b"\x1f\x8b", "gzip: `zcat` unpacks it"),
-    (b"PK\x03\x04", "zip: `unzip` unpacks it"),
-    (b"\xfd7zXZ", "xz: `xzcat` unpacks it"),
-    (b"(\xb5/\xfd", "zstd: `zstdcat` unpacks it"),
-    (b"%PDF", "PDF"),
-    (b"\x89PNG", "PNG"),
+BEGINS = (
+    ("graphml", XML),
+    ("gml", GML),
+    ("plain", re.compile(r"graph(?: [0-9.]+){3}\s*\nnode ")),
+    ("dot", re.compile(r'(?:/\*|(?://[^\n]*\n\s*)*(?:strict|graph|digraph)(?=[\s{"<]))', re.IGNORECASE)),
+    ("matrixmarket", re.compile("%%MatrixMarket", re.IGNORECASE)),
+    ("pajek", re.compile(r"(?:%[^\n]*\n\s*)*\*(?:vertices|network)\b", re.IGNORECASE)),
+    ("lemon", re.compile(r"(?:#[^\n]*\n\s*)*@nodes\b")),
+    ("leda", re.compile(r"(?:#[^\n]*\n\s*)*LEDA\.GRAPH\b")),
+    ("gdf", re.compile("nodedef>", re.IGNORECASE)),
+    ("dimacs", re.compile(r"(?:c(?:[ \t][^\n]*)?\n\s*)*p[ \t]+[a-z]+[ \t]+[0-9]+[ \t]+[0-9]+\s*\n")),
+    ("graph6", re.compile(">>graph6<<")),
 )
-
-
-def text_of(data: bytes) -> Tuple[bytes, List[str]]:
-    """The bytes of a dump in UTF-8, and what is to be told: UTF-16 that begins with its mark is turned into UTF-8."""
-    for begin, told in PACKED:
-        if data.startswith(begin):
-            raise BadDump(f"it is no text, and looks like {told}")
-    if data[:2] in (b"\xff\xfe", b"\xfe\xff"):
-        try:
-            return data.decode("utf-16").encode(), ["it was read as UTF-16"]
-        except UnicodeError:
-            raise BadDump("it begins like UTF-16, and can't be read so") from None
-    if b"\0" in data[:4]:
-        raise BadDump(
-            "it has zero bytes, as UTF-16 without a mark has: `iconv -f UTF-16LE -t UTF-8` turns it into UTF-8"
-        )
-    return data, []
-
-
-def decoded(data: bytes) -> str:
-    try:
-        return data.decode("utf-8-sig")
-    except UnicodeDecodeError as why:
-        line = data[: why.start].count(b"\n") + 1
-        raise BadDump(f"line {line} is not UTF-8") from None
-
-
-class Twice(BadDump):
-    """An object of JSON has a key twice."""
-
-
-def no_twice(pairs: List[Tuple[str, Any]]) -> Dict[str, Any]:
-    """An object of JSON, in which no key stands twice."""
-    found = dict(pairs)
-    if len(found) < len(pairs):
-        keys = [key for key, _ in pairs]
-        raise Twice(f"an object has the key {next(it for it in keys if keys.count(it) > 1)} twice")
-    return found
-
-
-def json_of(text: str) -> Any:
-    """The value that a text of JSON says; or the list of those on its lines, if its first line is one."""
-    try:
-        return json.loads(text, object_pairs_hook=no_twice)
-    except RecursionError:
-        raise BadDump("its JSON is nested too deep") from None
-    except Twice:
-        raise
-    except json.JSONDecodeError as why:
-        numbered = [(at, line) for at, line in enumerate(text.split("\n"), 1) if line.strip()]
-        if len(numbered) < 2 or not is_json(numbered[0][1]):
-            raise
-        for at, line in numbered:
-            if not is_json(line):
-                raise BadDump(f"line {at} is no JSON, and the first line is") from why
-        return [json.loads(line, object_pairs_hook=no_twice) for _, line in numbered]
-    except ValueError as why:
-        # of a number with more digits than Python reads
-        raise BadDump(f"its JSON can't be read: {why}") from None
-
-
-def is_json(text: str) -> bool:
-    try:
-        json.loads(text)
-    except (ValueError, RecursionError):
-        return False
-    return True
-
-
-def yaml_of(text: str) -> Any:
-    try:
-        import yaml
-    except ImportError:
-        raise LibraryMissing(
-            "YAML is read by Python's library yaml, which is not there (Debian: python3-yaml)"
-        ) from None
-    try:
-        return yaml.safe_load(text)
-    except yaml.YAMLError as why:
-        raise BadDump(f"it is no YAML: {why}") from None
-
-
-def of_networkx(text: str, form: str) -> Views:
-    """What GraphML, GEXF or GML says, as networkx reads it."""
-    try:
-        import networkx
-    except ImportError:
-        raise LibraryMissing(f"{form} is read by networkx, which is not there (Debian: python3-networkx)") from None
-    try:
-        if form == "GML":
-            graph = read_gml(networkx, text)
-        elif form == "GEXF":
-            graph = networkx.read_gexf(io.BytesIO(text.encode()))
-        else:
-            graph = networkx.parse_graphml(text)
-    except Exception as why:
-        raise BadDump(f"networkx reads no {form} in it: {why}") from None
-    is_directed = graph.is_directed()
-    views = Views(form + (", whose directions are listings" if is_directed else ""))
-    for name in graph.nodes():
-        views.enter(str(name))
-    for one, other in graph.edges():
-        views.edge(str(one), str(other), is_directed)
-    return views
-
-
-def read_gml(networkx: Any, text: str) -> Any:
-    """The graph of GML, by its labels, or if it lacks some by its ids."""
-    lines = text.split("\n")
-    try:
-        return networkx.parse_gml(lines)
-    except networkx.NetworkXError as why:
-        if "label" not in str(why):
-            raise
-        return networkx.parse_gml(lines, label="id")
-
-
-def of_graphviz(data: bytes) -> Views:
-    """What a text of DOT says, as Graphviz reads it: with subgraphs as ends, HTML texts and so on."""
-    program = shutil.which("dot")
-    if not program:
-        raise LibraryMissing("Graphviz reads it, whose program dot is not there (Debian: graphviz)")
-    # dot_json is what Graphviz read, without any drawing
-    ended = subprocess.run([program, "-Tdot_json"], input=data, stdout=subprocess.PIPE, stderr=subprocess.PIPE)
-    told = ended.stderr.decode(errors="replace").strip()
-    if ended.returncode or told:
-        raise BadDump(f"Graphviz does not read it either: {told}")
-    said = json.loads(ended.stdout.decode(errors="replace"))
-    views = Views("DOT, by Graphviz" + (", whose arrows are listings" if said["directed"] else ""))
-    names = {
-        it["_gvid"]: it["name"]
-        for it in said.get("objects", [])
-        if "nodes" not in it
-        and "subgraphs" not in it
-        and not it["name"].startswith("%")
-        and it["_gvid"] >= said["_subgraph_cnt"]
-    }
-    for name in names.values():
-        if re.match(r"-|\.\d", name):
-            raise BadDump(f"DOT reads a node {name} in it: a name as oslo-1 or 10.0.0.1 needs quotes")
-        views.enter(name)
-    for edge in said.get("edges", []):
-        views.edge(names[edge["tail"]], names[edge["head"]], said["directed"])
-    return views
-
-
-def begins_yaml(text: str) -> bool:
-    """Whether a text begins like YAML, and like no other form.
-
-    >>> begins_yaml("{a: [b], b: [a]}"), begins_yaml("a: [b, c]\\n"), begins_yaml("a:\\n  - b\\n")
-    (True, True, True)
-    >>> begins_yaml('{"a": ["b"]}'), begins_yaml("a: b c\\n"), begins_yaml("a b\\n")
-    (False, False, False)
-    """
-    lines = [line for line in map(str.strip, text.split("\n")) if line and line[0] != "#"][:2]
-    if not lines:
-        return False
-    return bool(YAML.fullmatch(lines[0])) or lines[0].endswith(":") and len(lines) > 1 and lines[1].startswith("- ")
 
 
 def form_of(text: str, place: str) -> str:
     """Which form a dump has, of those above; `edges` stands for all lines, and `json` for all JSON."""
     begin = text.lstrip()
-    if XML.match(text):
-        return "gexf" if "<gexf" in text[:2000].lower() else "graphml"
     if place.endswith((".yaml", ".yml")) or begin.startswith(("---\n", "%YAML")):
         return "yaml"
-    if GML.match(text):
-        return "gml"
-    if re.match(r'(?://|/\*|(?:strict|graph|digraph)(?=[\s{"<]))', begin, re.IGNORECASE):
-        return "dot"
+    for form, begins in BEGINS:
+        if begins.match(begin):
+            return form
     if begins_yaml(text):
         return "yaml"
     if begin.startswith("{") or re.match(r'\[(?:["\[{\]\s]|$)', begin):
         return "json"
-    return "edges"
+    return "tgf" if is_tgf(text) else "edges"
 
 
 def listings_of(data: bytes, place: str, asked: Asked) -> Optional[Views]:
@@ -222,8 +95,11 @@ def listings_of(data: bytes, place: str, asked: Asked) -> Optional[Views]:
     form = asked.form or form_of(text, place)
     if form == "yaml":
         return views_of(yaml_of(text), asked)
-    if form in ("graphml", "gexf", "gml"):
-        return of_networkx(text, {"graphml": "GraphML"}.get(form, form.upper()))
+    if form in GRAPHS:
+        graph = GRAPHS[form](text)
+        if not graph:
+            raise BadDump(f"it does not have the form {form}")
+        return graph.views(asked.by)
     if form != "json":
         return of_lines(text, asked.form, asked.columns)
     return of_json(text, asked)

@@ -22,6 +22,9 @@ LINK_ENDS = (
     ("node1", "node2"),
     ("node_a", "node_b"),
     ("from_node", "to_node"),
+    ("source_id", "target_id"),
+    ("from_id", "to_id"),
+    (":start_id", ":end_id"),
 )
 HOST_FIELDS = ("host", "hostname", "node", "name", "local")
 PEER_FIELDS = ("peer", "neighbor", "neighbour", "remote")
@@ -198,6 +201,15 @@ def at_path(value: Any, path: str) -> Any:
     if not dot or not isinstance(value, dict) or first not in value:
         raise KeyError(path)
     return at_path(value[first], rest)
+
+
+def is_yes(value: Any) -> bool:
+    """Whether a value says yes, also as a text, as YAML has it here.
+
+    >>> is_yes(True), is_yes("false"), is_yes(None)
+    (True, False, False)
+    """
+    return bool(value) and str(value).lower() not in ("false", "no", "off", "0")
 
 
 def is_list_of_names(value: Any) -> bool:

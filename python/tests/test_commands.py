@@ -127,11 +127,10 @@ class Import(Commands):
             told = "lists itself: 1\n1 lists itself\na link of a name to itself is passed over\n"
             self.assertTrue(err.endswith(told) and "one end only" not in err, err)
 
-    @unittest.skipUnless(shutil.which("dot"), "Graphviz is not there")
     def test_subgraphs(self):
         out, err, status = self.tagzirk("import", self.file("net.dot", "graph { a -- {b c} }"))
         self.assertEqual((out, status), (named_graph([("a", "b"), ("a", "c")]).text_with_names, 0))
-        self.assertIn("by Graphviz", err)
+        self.assertIn("was read as DOT", err)
 
     def test_slips(self):
         empty, graph = self.file("empty", ""), self.file("net.graph", "node 1\nnode 2\nlink 1 2\n")
@@ -150,7 +149,7 @@ class Import(Commands):
             (["import", self.file("h", "from_host to_host\na b\nb c\n")], "say --columns from_host,to_host\n", 0),
             (["import", empty, self.file("y", "a,b\n")], "line 1 has several words", 1),
             (["import", self.file("u", "a b\n".encode("utf-16-le"))], "UTF-16", 1),
-            (["import", self.file("z", b"\x1f\x8b\0")], "zcat", 1),
+            (["import", self.file("z", b"\x1f\x8b\0")], "gzip", 1),
             (["import", DUMPS / "certificate.json"], "certificate", 1),
             (["import", "--form", "csv", graph], "no known header", 1),
             (["each", self.file("bad.graph", "node 1\nlink 1 2\n")], "link 1 2", 1),

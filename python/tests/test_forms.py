@@ -10,7 +10,9 @@ from tagzirk.dumps import read_graph_file
 from tagzirk.asked import Asked
 from tagzirk.errors import BadDump, LibraryMissing
 from tagzirk.folders import host_of, of_hosts
-from tagzirk.forms import listings_of, of_graphviz, text_of
+from tagzirk.dot import of_dot
+from tagzirk.forms import listings_of
+from tagzirk.texts import text_of
 from tagzirk.documents import views_of
 from tagzirk.values import Views
 
@@ -360,26 +362,140 @@ class Networkx(unittest.TestCase):
         text = 'Creator "by hand"\nVersion 1\ngraph [\n node [ id 3 ]\n node [ id 5 ]\n edge [ source 3 target 5 ]\n]\n'
         self.assertEqual(views(text), {"3": {"5"}, "5": {"3"}})
 
-    def test_what_networkx_refuses(self):
-        for text, told in ("<?xml version='1.0'?><svg/>", "no GraphML"), ("graph [ node ]", "no GML"):
-            with self.assertRaisesRegex(BadDump, told):
+
+class OfGraphs(unittest.TestCase):
+    def test_each_host_of_xml(self):
+        whole = '<node id="a"/><node id="b"/><edge source="a" target="b"/>'
+        for text, told in (
+            ("<?xml version='1.0'?><svg/>", "no graph of nodes and edges: its first element is svg"),
+            (f"<graphml><graph>{whole}</graph><graph><node id='c'/></graph></graphml>", "a second graph"),
+            (f"<graphml><graph>{whole}<node id='c'><graph><node id='d'/></graph></node></graph></graphml>", "a graph in it"),
+            (f"<gexf><graph>{whole}<node id='c'><nodes><node id='d'/></nodes></node></graph></gexf>", "groups of hosts"),
+            (f"<graphml><graph>{whole}<node id='a'/></graph></graphml>", "line 1: the host a stands there twice"),
+            (f"<graphml><graph>{whole}<edge source='a' target='c'/></graph></graphml>", "the end c, which is no node"),
+            (f"<graphml><graph>{whole}<node/></graph></graphml>", "a node has no id"),
+            (f"<graphml><graph>{whole}<edge source='a'/></graph></graphml>", "source and target"),
+            (f"<graphml><graph>{whole}<hyperedge/></graph></graphml>", "more than two hosts"),
+            (f"<graphml><graph/>{whole}", "no XML"),
+            (f"<graphml>{whole}</graphml>", "outside of a graph"),
+            ("<graphml>" * 200, "more than 100 deep"),
+            ('<!DOCTYPE x [<!ENTITY y "z">]><graphml/>', "declares the entity y"),
+        ):
+            with self.assertRaisesRegex(BadDump, told, msg=text):
                 views(text)
+
+    def test_what_xml_says_beside_links(self):
+        key = '<key id="d0" for="edge" attr.name="state"><default>up</default></key>'
+        graphml = (
+            f'<graphml>{key}<graph edgedefault="undirected"><node id="a"/><node id="b"/><node id="c"/>'
+            '<edge source="a" target="b"/><edge source="b" target="c"><data key="d0">down</data></edge></graph></graphml>'
+        )
+        gexf = (
+            '<gexf version="1.3"><graph><attributes class="edge"><attribute id="0" title="state"><default>up</default>'
+            '</attribute></attributes><nodes><node id="a"/><node id="b"/><node id="c"/></nodes><edges><edge source="a" '
+            'target="b"/><edge source="b" target="c"><attvalues><attvalue for="0" value="down"/></attvalues></edge>'
+            "</edges></graph></gexf>"
+        )
+        for text in graphml, gexf:
+            found = listings_of(text.encode(), "net", Asked())
+            said = [(it.one, it.other, dict(it.said)) for it in found.statements if it.other]
+            self.assertEqual(said, [("a", "b", {"state": "up"}), ("b", "c", {"state": "down"})], text)
+            self.assertEqual(views(text), PATH)
+
+    def test_directions_of_xml(self):
+        whole = '<node id="a"/><node id="b"/><edge source="a" target="b"/>'
+        typed = whole.replace("target", 'type="directed" target')
+        for text in (
+            f'<graphml><graph edgedefault="directed">{whole}</graph></graphml>',
+            f'<gexf><graph defaultedgetype="directed">{whole}</graph></gexf>',
+            f'<gexf><graph>{typed}</graph></gexf>',
+            f'<graph directed="1">{whole}</graph>',
+            f"<gxl><graph>{whole.replace('source', 'from').replace('target', 'to')}</graph></gxl>",
+        ):
+            self.assertEqual(views(text), {"a": {"b"}, "b": set()}, text)
+
+    def test_names_of_graph_files(self):
+        xml = '<graphml><graph><node id="0" label="a"/><node id="1" label="b"/><edge source="0" target="1"/></graph></graphml>'
+        gml = 'graph [ node [ id 0 label "a" ] node [ id 1 label "b" ] edge [ source 0 target 1 ] ]'
+        ids, labels = {"0": {"1"}, "1": {"0"}}, {"a": {"b"}, "b": {"a"}}
+        for text, by, wanted in (
+            (xml, None, ids),
+            (xml, "label", labels),
+            (gml, None, labels),
+            (gml, "id", ids),
+            (gml.replace('label "b"', ""), None, ids),
+        ):
+            self.assertEqual(views(text, by=by), wanted, (text, by))
+        for text, by, told in (
+            (xml, "site", "the host 0 has no field site; it has the fields label"),
+            (xml.replace('"b"', '"a"'), "label", "the hosts 0 and 1 have the label a both: --by id"),
+            (gml.replace('"a"', "7").replace('"b"', '"7"'), None, "the hosts 0 and 1 have the label 7 both"),
+        ):
+            with self.assertRaisesRegex(BadDump, told):
+                views(text, by=by)
+
+    def test_gml_that_is_refused(self):
+        for text, told in (
+            ("graph [ node ]", "no GML"),
+            ("graph [ node [ id 1 ] node [ id 1 ] ]", "the host 1 stands there twice"),
+            ("graph [ node [ id 1 ] ] graph [ ]", "2 graphs"),
+            ('graph [ node [ id 1 label "a ] ]', "has no end"),
+            ("graph [ node [ id 1 ]", "is it torn"),
+            ("graph [ node [ label 1 ] ]", "needs id"),
+            ("graph [ node [ id 1 graph [ node [ id 2 ] ] ] ]", "has a graph in it"),
+            ("graph [ " * 200, "more than 100 deep"),
+        ):
+            with self.assertRaisesRegex(BadDump, told, msg=text):
+                views(text)
+
+
+class Dot(unittest.TestCase):
+    def test_subgraphs(self):
+        for text, wanted in (
+            ('graph { subgraph cluster_x { a; "d" } a -- {b c} b -- c }', TRIANGLE),
+            ("digraph { a -> {b c} -> a }", {"a": {"b", "c"}, "b": {"a"}, "c": {"a"}}),
+            ("graph { subgraph x {a}; subgraph x {c}; subgraph x -- b }", PATH),
+            ("strict graph { a -- b -- c // late\n}", PATH),
+            ('graph { "a":p:n -- b:q; node [x=1]; graph [y=2]; z = 3\n# by hand\nb -- "c" [label=<<b>x</b>>] }', PATH),
+            ('graph { "%a"; b -- c; {x} -- {b}; c -- x }', {"%a": set(), "b": {"c", "x"}, "c": {"b", "x"}, "x": {"b", "c"}}),
+            ('graph { "a"+"b" -- "c\\"d" }', {"ab": {'c"d'}, 'c"d': {"ab"}}),
+            ("digraph { a -> b }", {"a": {"b"}}),
+        ):
+            found = of_dot(text)
+            self.assertEqual({name: set(peers) for name, peers in found.peers.items()}, wanted, text)
+
+    def test_what_stands_beside(self):
+        found = of_dot('graph { edge [style=invis]; a -- b; edge [style=""]; b -- c [label=down]; a [site=x] }')
+        said = [(it.one, it.other, dict(it.said)) for it in found.statements]
+        links = [("a", "b", {"style": "invis"}), ("b", "c", {"style": "", "label": "down"})]
+        self.assertEqual(said, [("a", None, {"site": "x"}), *links])
+
+    def test_what_is_refused(self):
+        for text, told in (
+            ("graph { oslo-1 -- {a b} }", "several words"),
+            ("graph { 10.0.0.1 -- {a b} }", "several words"),
+            ("graph { 5f3a -- {a b} }", "several words"),
+            ("graph { a -- {b", "the end"),
+            ("graph { a -- b } graph { c }", "a file of one graph"),
+            ("graph { a -> b }", "DOT needs --"),
+            ("graph { oslo:1 -- rome:2; oslo:3 -- bern:4 }", "are one node to DOT"),
+            ("graph { node -- a }", "a host of this name needs quotes"),
+            ('graph { "a', "has no end"),
+            ("graph { a -- <b", "has no end"),
+            ('graph { <a> -- {"a"} }', "the same text in quotes"),
+            ("graph { " + "{" * 200, "more than 100 deep"),
+            ("digraph { {" + " ".join(map("a{}".format, range(400))) + "} -> {" + " ".join(map("b{}".format, range(400))) + "} }",
+             "subgraphs as ends"),
+        ):
+            with self.assertRaisesRegex(BadDump, told, msg=text[:80]):
+                of_dot(text)
 
 
 class Libraries(unittest.TestCase):
     def test_what_is_told_of_a_missing_library(self):
-        for text, place, told in (
-            ("<graphml/>", "a", "python3-networkx"),
-            ("graph [\n]\n", "a", "python3-networkx"),
-            ("a: [b]\n", "a.yaml", "python3-yaml"),
-        ):
-            with mock.patch.dict("sys.modules", {"networkx": None, "yaml": None}):
-                with self.assertRaisesRegex(LibraryMissing, told):
-                    views(text, place)
-        with mock.patch("shutil.which", lambda _: None), self.assertRaisesRegex(LibraryMissing, "Debian: graphviz"):
-            of_graphviz(b"graph { a -- {b c} }")
+        with mock.patch.dict("sys.modules", {"yaml": None}), self.assertRaisesRegex(LibraryMissing, "python3-yaml"):
+            views("a: [b]\n", "a.yaml")
 
-    @unittest.skipUnless(yaml, "yaml is not there")
     @unittest.skipUnless(yaml, "yaml is not there")
     def test_yaml_without_a_name(self):
         for text in (
@@ -401,20 +517,30 @@ class Libraries(unittest.TestCase):
         with self.assertRaisesRegex(BadDump, "no YAML"):
             views("a: [", "net.yml")
 
-    @unittest.skipUnless(shutil.which("dot"), "Graphviz is not there")
-    def test_subgraphs(self):
-        found = of_graphviz(b'graph { subgraph cluster_x { a; "d" } a -- {b c} b -- c }')
-        self.assertEqual({name: set(peers) for name, peers in found.peers.items()}, TRIANGLE)
-        found = of_graphviz(b"digraph { a -> {b c} -> a }")
-        self.assertEqual(found.value, {"a": ["b", "c"], "b": ["a"], "c": ["a"]})
-        for text in (
-            b"graph { oslo-1 -- {a b} }",
-            b"graph { 10.0.0.1 -- {a b} }",
-            b"graph { a -- {b",
-            b"graph { 5f3a -- {a b} }",
-        ):
-            with self.assertRaises(BadDump, msg=text):
-                of_graphviz(text)
+    @unittest.skipUnless(yaml, "yaml is not there")
+    def test_scalars_of_yaml(self):
+        # whatever YAML 1.1 makes of 010, 1.10 or no; what stands for nothing is nobody
+        self.assertEqual(views("010: [x]\n8: [x]\nx: [010, 8]\n", "a.yaml"), {"010": {"x"}, "8": {"x"}, "x": {"010", "8"}})
+        text = "a: [1.10, no, 10:20:30, 2001-99-99, ~, true]\n1.1:\n'8': null\n"
+        wanted = {"a": {"1.10", "no", "10:20:30", "2001-99-99", "true"}, "1.1": set(), "8": set()}
+        self.assertEqual(views(text, "a.yaml"), wanted)
+        self.assertEqual(views("a: &x [b, c]\nd: *x\n", "a.yaml"), {"a": {"b", "c"}, "d": {"b", "c"}})
+        for slow in False, True:
+            with mock.patch("yaml.__with_libyaml__", yaml.__with_libyaml__ and not slow):
+                for text, told in (
+                    ("a: [b]\na: [c]\n", "line 2: the key a stands twice"),
+                    ("8: [b]\n'8': [c]\n", "line 2: the key 8 stands twice"),
+                    ("a: [b]\n---\nc: [d]\n", "a second document"),
+                    ("a: *x\n", "names nothing"),
+                    ("<<: {a: [b]}\n", "write them out"),
+                    ("a: !!python/object/apply:os.system [x]\n", "the tag .* is not read"),
+                    ("[a]: b\n", "no name of a host"),
+                    ("[" * 2000, "more than 100 deep"),
+                    ("a: [" + "9" * 5000 + ", {", "no YAML"),
+                    ("a: [", "no YAML"),
+                ):
+                    with self.assertRaisesRegex(BadDump, told, msg=text[:80]):
+                        views(text, "a.yaml")
 
 
 class GraphFiles(unittest.TestCase):

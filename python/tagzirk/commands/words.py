@@ -49,7 +49,7 @@ def common_words() -> Parents:
     dump.add_argument("--entries", action="store_true", help="leave out names that others list, and that have no entry")
     dump.add_argument("--form", choices=FORMS, help="the form of the dump; without it the dump itself decides")
     dump.add_argument("--by", metavar="FIELD", help="the field of an object that names its host")
-    dump.add_argument("--columns", metavar="FROM,TO", help="the columns or fields that are both ends of a link")
+    dump.add_argument("--columns", metavar="FROM,TO", help="the columns or fields that are both ends of a link, by name, or of a table by number, as 1,3")
     dump.add_argument("--peers", metavar="KEY", help="the key below which the peers of each host stand in JSON")
     dump.add_argument("--links", metavar="KEY", help="the key below which all links stand in JSON")
     dump.add_argument(
@@ -59,6 +59,7 @@ def common_words() -> Parents:
         metavar="FIELD=VALUE[,VALUE]",
         help="take only what has one of these values in this field, and leave out what is down; may be repeated",
     )
+    dump.add_argument("--skip", type=at_least_one, default=0, metavar="N", help="pass over the first N lines")
     dump.add_argument("--all", action="store_true", help="take all listings and links, whatever state is said of them")
     at_once = argparse.ArgumentParser(add_help=False)
     at_once.add_argument(
@@ -118,7 +119,7 @@ def some(names: Sequence[object]) -> str:
 
 def options_of(words: argparse.Namespace) -> Options:
     """How the dump is read."""
-    asked = Asked(words.form, words.by, words.columns, words.peers, words.links, tuple(words.up), words.all)
+    asked = Asked(words.form, words.by, words.columns, words.peers, words.links, tuple(words.up), words.all, words.skip)
     return Options(words.either, words.entries, asked)
 
 

@@ -1,0 +1,62 @@
+"""How much a dump may ask for. A graph has at most 1,024 hosts; what asks for far more is refused before it takes much
+time or memory, and not read half."""
+
+from __future__ import annotations
+
+import zlib
+
+from .errors import BadDump
+
+# How many hosts, links or listings are taken in. A graph of 1,024 hosts has fewer links.
+MOST = 600_000
+# How many links, hosts or values a short text may stand for: by subgraphs as ends in DOT, by aliases in YAML, by a
+# count of hosts.
+MOST_IMPLIED = 100_000
+# How many bytes a packed dump may have when it is unpacked.
+MOST_UNPACKED = 4_000_000
+# How many bytes of YAML are read where libyaml is not there, in Python alone.
+MOST_SLOW_YAML = 300_000
+# How deep values may be nested.
+DEEPEST = 100
+
+GZIP = b"\x1f\x8b"
+
+
+def need_few(count: int, kind: str) -> None:
+    """Refuses more hosts or links than any graph has that can be analysed."""
+    if count >= MOST:
+        raise BadDump(f"it has more than {MOST:,} {kind}; a graph has at most 1,024 hosts")
+
+
+def need_few_implied(count: int, what: str) -> None:
+    """Refuses what a short text stands for, if that is too much."""
+    if count > MOST_IMPLIED:
+        raise BadDump(f"its {what}, more than {MOST_IMPLIED:,}: write them out")
+
+
+def need_declarable(count: int) -> None:
+    """Refuses a number of hosts that a file declares in a few bytes, if it is far too large."""
+    if not 0 <= count <= MOST_IMPLIED:
+        raise BadDump(f"it declares {count:,} hosts; a graph has at most 1,024")
+
+
+def unpacked(data: bytes) -> bytes:
+    """What gzip has packed, of one file or of several, one behind the other.
+
+    >>> import gzip
+    >>> unpacked(gzip.compress(b"a b") + gzip.compress(b" c"))
+    b'a b c'
+    """
+    found = bytearray()
+    try:
+        while data:
+            packer = zlib.decompressobj(16 + zlib.MAX_WBITS)
+            found += packer.decompress(data, MOST_UNPACKED + 1 - len(found))
+            if len(found) > MOST_UNPACKED:
+                raise BadDump(f"gzip unpacks it to more than {MOST_UNPACKED:,} bytes: unpack it by `zcat` first")
+            if not packer.eof:
+                raise BadDump("it is packed by gzip, and torn")
+            data = packer.unused_data.lstrip(b"\0")
+    except zlib.error as why:
+        raise BadDump(f"it begins like gzip, and can't be unpacked: {why}") from None
+    return bytes(found)

@@ -1,0 +1,132 @@
+"""Lists of neighbours: lines of a host and its neighbours, and the forms of METIS, LGL and networkx."""
+
+from __future__ import annotations
+
+import re
+from typing import Dict, List, Optional, Set, Tuple
+
+from .errors import BadDump
+from .graph_files import Graph
+from .limits import need_declarable
+from .rows import LIST, Row
+from .values import Views
+
+
+def is_adjacency(rows: List[Row]) -> bool:
+    """Whether lines as `a b c` are lists of neighbours: some line is not two words, each host has one line, and every
+    neighbour has one too."""
+    heads = [row.words[0] for row in rows]
+    peers = {peer for row in rows for peer in row.words[1:]}
+    is_short = all(len(row.words) == 2 for row in rows)
+    return not is_short and len(set(heads)) == len(heads) > 1 and set() < peers <= set(heads)
+
+
+def of_adjacency(rows: List[Row]) -> Views:
+    """Each line is a host and those that it lists. If no listing is answered, and no line has a `:`, each is a link, as
+    networkx writes undirected graphs."""
+    has_colons = all(LIST.fullmatch(row.text) for row in rows)
+    views, lists = Views("lists of neighbours"), {}  # type: Views, Dict[str, List[str]]
+    for row in rows:
+        said = LIST.fullmatch(row.text) if has_colons else None
+        name, *peers = [said[1], *re.split(r"\s*,\s*|\s+", said[2] or "")] if said else row.words
+        if name in lists:
+            raise BadDump(f"line {row.number}: {name} has a list already")
+        lists[name] = [it for it in peers if it]
+    sets = {name: set(peers) for name, peers in lists.items()}
+    is_answered = any(name in sets.get(peer, ()) for name, peers in lists.items() for peer in peers)
+    is_each_once = not has_colons and not is_answered
+    for name, peers in lists.items():
+        views.enter(name)
+        for peer in peers:
+            views.edge(name, peer, not is_each_once) if peer in lists else views.listing(name, peer)
+    if is_each_once and any(lists.values()):
+        views.kind += ", in which each link stands once, as networkx writes them"
+    return views
+
+
+def multiline(rows: List[Row]) -> Optional[Graph]:
+    """What networkx writes as lists of many lines: a host and the number of its neighbours, and below it a line for each
+    of these. None if the lines are none."""
+    graph, at, is_long = Graph("lists of neighbours, each on a line of its own", is_open=True), 0, False
+    while at < len(rows):
+        words = rows[at].words
+        count = int(words[1]) if len(words) == 2 and re.fullmatch("[0-9]{1,6}", words[1]) else -1
+        peers = rows[at + 1 : at + 1 + count] if count >= 0 else []
+        if len(peers) != count or any(len(it.words) != 1 for it in peers):
+            return None
+        graph.hosts.setdefault(words[0], {})
+        for it in peers:
+            graph.link(words[0], it.text)
+            is_long = True
+        at += 1 + count
+    return graph if is_long else None
+
+
+def lgl(text: str) -> Optional[Graph]:
+    """LGL: a line `# HOST`, and below it a line for each of its neighbours, with a weight or without. None if the text
+    is none: several lines are `# HOST`, the first one is, and no weight is a host."""
+    graph, host, weights, heads = Graph("LGL", is_open=True), "", set(), 0  # type: Graph, str, Set[str], int
+    for line in text.split("\n"):
+        words = line.split()
+        is_host = words[:1] == ["#"]
+        if is_host and len(words) == 2:
+            host, heads = words[1], heads + 1
+            graph.hosts.setdefault(host, {})
+        elif is_host or words and (not host or len(words) > 2 or words[0][0] == "#"):
+            return None
+        elif words:
+            weights.update(words[1:])
+            graph.link(host, words[0], False, {"2": words[1]} if len(words) > 1 else {})
+    has_weights = all(re.fullmatch(r"-?[0-9.]+(?:[eE][-+]?[0-9]+)?", it) for it in weights)
+    return graph if heads > 1 and graph.links and has_weights and weights.isdisjoint(graph.hosts) else None
+
+
+def metis(text: str) -> Graph:
+    """METIS: the numbers of hosts and links, and a line of neighbours for each host 1, 2, 3 and so on; with weights as
+    the third number says. Empty lines count.
+
+    >>> metis("3 2\\n2\\n1 3\\n2\\n").views().value
+    {'1': ['2'], '2': ['1', '3'], '3': ['2']}
+    """
+    lines = [line.split() for line in text.split("\n") if not line.startswith("%")]
+    begin = next((at for at, words in enumerate(lines) if words), 0)
+    head, lists = lines[begin], lines[begin + 1 :]
+    if not 2 <= len(head) <= 4 or not all(re.fullmatch("[0-9]{1,9}", it) for words in lines for it in words):
+        raise BadDump("METIS is lines of whole numbers, the first of which has those of hosts and links")
+    count, links = int(head[0]), int(head[1])
+    need_declarable(count)
+    while len(lists) > count and not lists[-1]:
+        lists.pop()
+    if len(lists) != count:
+        raise BadDump(f"it declares {count} hosts, and has lists of {len(lists)}: is it torn?")
+    form = (head[2] if len(head) > 2 else "").zfill(3)
+    before = (form[-3] == "1") + (int(head[3]) if len(head) > 3 else 1) * (form[-2] == "1")
+    has_weights = form[-1] == "1"
+    pairs = weights_of([words[before:] for words in lists], has_weights)
+    if len(pairs) != 2 * links or any((other, one) not in pairs for one, other in pairs):
+        raise BadDump(f"it declares {links} links, and has {len(pairs)} neighbours; each link stands at both its ends")
+    graph = Graph("METIS")
+    for at in range(1, count + 1):
+        graph.host(str(at))
+    for (one, other), weight in pairs.items():
+        if one <= other:
+            graph.link(str(one), str(other), False, {"weight": weight} if has_weights else {})
+    return graph
+
+
+def weights_of(lists: List[List[str]], has_weights: bool) -> Dict[Tuple[int, int], str]:
+    """The weight of each neighbour in lists of these, by the numbers of both; without weights nothing."""
+    step, found = 2 if has_weights else 1, {}
+    for at, words in enumerate(lists, 1):
+        for place in range(0, len(words), step):
+            found[at, int(words[place])] = words[place + 1] if place + 1 < len(words) and has_weights else ""
+    return found
+
+
+def is_metis(text: str) -> bool:
+    """Whether a text is as METIS says beyond doubt: it has as many lists, and each link at both ends, as it declares."""
+    try:
+        metis(text)
+    except BadDump:
+        return False
+    return True

@@ -1,0 +1,63 @@
+"""Lines of text as rows of words, for the forms of dumps that are lines."""
+
+from __future__ import annotations
+
+import re
+from typing import List, NamedTuple
+
+# A host and those that it lists, behind a colon.
+LIST = re.compile(r"(\S+):(?:\s+(.*))?")
+NUMBER = re.compile(r"[-+]?(?:\d+(?:\.\d*)?|\.\d+)(?:[eE][-+]?\d+)?")
+# A comment, and how what networkx writes behind an edge begins.
+COMMENT, ATTRIBUTES = re.compile(r"(^|\s)#.*"), re.compile(r"\s\{")
+# What begins a line that is a comment in some forms, if white space follows, and no word.
+MARKS = ("//", "%", ";", "--")
+# A word, or a text in quotes; with what may stand between two.
+WORD = re.compile(r"\"([^\"]*)\"(?=[\s,;]|$)|'([^']*)'(?=[\s,;]|$)|([^\s,;\"'][^\s,;]*)")
+
+
+class Row(NamedTuple):
+    """A line that is not skipped: its number, and its text without a comment."""
+
+    number: int
+    text: str
+
+    @property
+    def words(self) -> List[str]:
+        """Its words, with white space or one comma between two."""
+        return re.split(r"\s*,\s*|\s+", self.text)
+
+
+def is_comment(line: str) -> bool:
+    """Whether a line is a comment by another mark than `#`, with white space or nothing behind it."""
+    return line.split(None, 1)[0] in MARKS
+
+
+def rows_of(text: str) -> List[Row]:
+    """The lines of a text but those that are blank or comments, without the attributes that networkx writes.
+
+    >>> [row.text for row in rows_of("# seen\\n% at noon\\na b {}\\n\\nb c # late\\n")]
+    ['a b', 'b c']
+    """
+    rows = []
+    for number, line in enumerate(text.split("\n"), 1):
+        bare = COMMENT.sub("", line).strip()
+        attributes = ATTRIBUTES.search(bare) if bare.endswith("}") else None
+        if bare and not is_comment(bare):
+            rows.append(Row(number, bare[: attributes.start()].rstrip() if attributes else bare))
+    return rows
+
+
+def unquoted(text: str) -> List[str]:
+    """The words of a line, without the quotes around some. Nothing, if quotes stand elsewhere.
+
+    >>> unquoted('"oslo 1",rome,5'), unquoted('"a"b c')
+    (['oslo 1', 'rome', '5'], [])
+    """
+    words, at = [], 0
+    for found in WORD.finditer(text):
+        if text[at : found.start()].strip(" \t,;"):
+            return []
+        words.append(next(it for it in found.groups() if it is not None))
+        at = found.end()
+    return [] if text[at:].strip(" \t,;") or any(it[:1] in "\"'" and it for it in words) else words

@@ -1,0 +1,261 @@
+"""Graph files in sections of lines, the hosts first and then the links: Pajek, LEMON, LEDA, GDF, TGF, what Graphviz
+writes as `plain`, and DIMACS and Matrix Market, which number their hosts."""
+
+from __future__ import annotations
+
+import csv
+import re
+from typing import Dict, Iterator, List, NamedTuple, Optional, Sequence
+
+from .errors import BadDump
+from .graph_files import Graph
+from .limits import need_declarable
+from .values import Scalar
+
+# A word, or a text in quotes.
+WORD = re.compile(r'"[^"]*"|[^\s"]+')
+
+
+class Line(NamedTuple):
+    """A line that is not blank: its number and its text."""
+
+    number: int
+    text: str
+
+    @property
+    def words(self) -> List[str]:
+        """Its words; texts in quotes are one word each, without these."""
+        if self.text.count('"') % 2:
+            raise BadDump(f"{self.place}a text in quotes has no end: {self.text[:60]}")
+        return [it[1:-1] if it[0] == '"' else it for it in WORD.findall(self.text)]
+
+    @property
+    def place(self) -> str:
+        """How a message on it begins."""
+        return f"line {self.number}: "
+
+    def numbers(self, least: int = 0, most: Optional[int] = None) -> List[int]:
+        """Its first words as whole numbers, at least and at most so many."""
+        words = self.words[:most]
+        if len(words) < least or not all(re.fullmatch(r"-?[0-9]{1,9}", it) for it in words):
+            raise BadDump(f"{self.place}numbers should stand here: {self.text[:60]}")
+        return [int(it) for it in words]
+
+
+def lines_of(text: str, comment: str = "\n") -> Iterator[Line]:
+    """The lines of a text but those that are blank or begin with the mark of a comment."""
+    for number, line in enumerate(text.split("\n"), 1):
+        bare = line.strip()
+        if bare and not bare.startswith(comment):
+            yield Line(number, bare)
+
+
+def number_hosts(graph: Graph, count: int) -> None:
+    """Declares hosts 1, 2, 3 and so on, as many as a file declares."""
+    need_declarable(count)
+    for at in range(1, count + 1):
+        graph.host(str(at))
+
+
+def rest(words: Sequence[str], names: Sequence[str] = ()) -> Dict[str, Scalar]:
+    """What stands behind a link: by the names of columns, or by the number of the word on its line, from 3 on."""
+    return {names[at] if at < len(names) else str(at + 3): word for at, word in enumerate(words)}
+
+
+def need_words(line: Line, count: int) -> List[str]:
+    words = line.words
+    if len(words) < count:
+        raise BadDump(f"{line.place}{count} words should stand here: {line.text[:60]}")
+    return words
+
+
+def pajek(text: str) -> Graph:
+    """Pajek: `*Vertices`, then `*Edges` for links, `*Arcs` for listings; or both as lists. Labels are names."""
+    graph, section = Graph("Pajek", label="label"), ""
+    for line in lines_of(text, "%"):
+        if line.text.startswith("*"):
+            section = line.words[0].lower()
+            if section == "*vertices":
+                counts = Line(line.number, line.text[len(section) :]).numbers(1)
+                if len(counts) > 1 or graph.hosts:
+                    raise BadDump(f"{line.place}its hosts are of two kinds: such networks are not read")
+                number_hosts(graph, counts[0])
+                for key, said in graph.hosts.items():
+                    said["label"] = key
+            elif section not in ("*network", "*edges", "*arcs", "*edgeslist", "*arcslist"):
+                raise BadDump(f"{line.place}the section {section[:40]} is not read")
+            continue
+        words = line.words
+        if section == "*vertices":
+            if words[0] not in graph.hosts:
+                raise BadDump(f"{line.place}{words[0][:40]} is not one of the {len(graph.hosts)} vertices")
+            graph.hosts[words[0]].update({"label": words[1]} if len(words) > 1 else {}, **rest(words[2:]))
+        elif section in ("*edges", "*arcs"):
+            words = need_words(line, 2)
+            graph.link(words[0], words[1], section == "*arcs", rest(words[2:]))
+        elif section in ("*edgeslist", "*arcslist"):
+            for other in words[1:]:
+                graph.link(words[0], other, section == "*arcslist")
+        else:
+            raise BadDump(f"{line.place}a line of Pajek stands before any section")
+    return graph
+
+
+def lemon(text: str) -> Graph:
+    """LEMON: `@nodes`, `@arcs` and `@edges`, each a table with a header. The column `label` has the keys of hosts."""
+    graph, section = Graph("LEMON"), ""
+    header: Optional[List[str]] = None
+    for line in lines_of(text, "#"):
+        words = line.words
+        if line.text.startswith("@"):
+            section, header = words[0].lower(), None
+        elif section not in ("@nodes", "@arcs", "@edges"):
+            continue
+        elif header is None:
+            header = words
+            if section == "@nodes" and "label" not in header:
+                raise BadDump(f"{line.place}the nodes of LEMON should have a column label")
+        elif section == "@nodes":
+            said = dict(zip(header, need_words(line, len(header))))
+            graph.host(said.pop("label"), said, line.place)
+        else:
+            words = need_words(line, 2)
+            graph.link(words[0], words[1], section == "@arcs", rest(words[2:], header))
+    return graph
+
+
+def leda(text: str) -> Graph:
+    """LEDA: a head of three lines, or of four that say the direction; the hosts, and the links by their numbers."""
+    graph, lines = Graph("LEDA", label="label"), [*lines_of(text, "#")]
+    at = 4 if len(lines) > 3 and lines[3].text in ("-1", "-2") else 3
+    is_directed = not (at == 4 and lines[3].text == "-2")
+    if len(lines) <= at:
+        raise BadDump("its LEDA has a head alone: is it torn?")
+    count = lines[at].numbers(1, 1)[0]
+    need_declarable(count)
+    for number, line in enumerate(lines[at + 1 : at + 1 + count], 1):
+        label = line.text[2:-2] if line.text.startswith("|{") and line.text.endswith("}|") else ""
+        graph.host(str(number), {"label": label or str(number)})
+    links = lines[at + 1 + count :]
+    for line in links[1:]:
+        words = need_words(line, 2)
+        graph.link(words[0], words[1], is_directed, rest(words[3:]))
+    graph.need_counts(count, links[0].numbers(1, 1)[0] if links else None)
+    if not links:
+        raise BadDump("its LEDA ends before its links: is it torn?")
+    return graph
+
+
+def gdf(text: str) -> Graph:
+    """GDF: `nodedef>` and `edgedef>`, each a table of CSV whose header has types."""
+    graph = Graph("GDF")
+    names: List[str] = []
+    is_nodes = True
+    for line in lines_of(text, "#"):
+        head = re.match("(nodedef|edgedef)>", line.text, re.IGNORECASE)
+        if head:
+            is_nodes = head[1].lower() == "nodedef"
+            names = [it.split()[0] if it.split() else "" for it in line.text[head.end() :].split(",")]
+            continue
+        try:
+            cells = next(csv.reader([line.text], strict=True, skipinitialspace=True))
+        except csv.Error as why:
+            raise BadDump(f"{line.place}it is no row of GDF: {why}") from None
+        said: Dict[str, Scalar] = dict(zip(names, (it.strip().strip("'") for it in cells)))
+        keys = names[:1] if is_nodes else names[:2]
+        ends = [str(said.pop(key, "")) for key in keys]
+        if not all(ends) or len(ends) < (1 if is_nodes else 2):
+            raise BadDump(f"{line.place}it lacks a name")
+        if is_nodes:
+            graph.host(ends[0], said, line.place)
+        else:
+            graph.link(ends[0], ends[1], str(said.pop("directed", "")).lower() in ("true", "1"), said)
+    return graph
+
+
+def tgf(text: str) -> Graph:
+    """TGF: lines of a number and a label, a line `#`, and lines of two numbers and a label."""
+    graph, is_links = Graph("TGF", label="label"), False
+    for line in lines_of(text):
+        key, _, label = line.text.partition(" ")
+        if line.text == "#":
+            is_links = True
+        elif is_links:
+            words = line.text.split(None, 2)
+            if len(words) < 2:
+                raise BadDump(f"{line.place}two numbers of hosts should stand here")
+            graph.link(words[0], words[1], False, {"label": words[2]} if len(words) > 2 else {})
+        else:
+            graph.host(key, {"label": label.strip() or key}, line.place)
+    graph.kind += ", each line a link, since it does not say directions"
+    return graph
+
+
+def is_tgf(text: str) -> bool:
+    """Whether a text is TGF: one line is # alone, hosts with labels stand above it, and links of these alone below."""
+    lines = [line.text for line in lines_of(text)]
+    if lines.count("#") != 1:
+        return False
+    at = lines.index("#")
+    keys = [line.split()[0] for line in lines[:at]]
+    labels = {line.partition(" ")[2].strip() for line in lines[:at]}
+    ends = [line.split(None, 2)[:2] for line in lines[at + 1 :]]
+    return bool(ends) and not labels <= set(keys) and len(set(keys)) == len(keys) and all(len(it) == 2 and set(it) <= set(keys) for it in ends)
+
+
+def plain(text: str) -> Graph:
+    """What `dot -Tplain` writes: where each node stands, and each edge."""
+    graph = Graph("Graphviz' plain text, each edge a link, since it does not say directions")
+    for line in lines_of(text):
+        words = line.words
+        if words[0] == "node":
+            words = need_words(line, 11)
+            graph.host(words[1], dict(zip(("label", "style", "shape", "color", "fillcolor"), words[6:])), line.place)
+        elif words[0] == "edge":
+            words = need_words(line, 4)
+            graph.link(words[1], words[2], False, dict(zip(("style", "color"), words[-2:])))
+        elif words[0] == "stop":
+            return graph
+        elif words[0] != "graph":
+            raise BadDump(f"{line.place}a line of such a text begins with node, edge or stop")
+    raise BadDump("its last line, stop, is missing: is it torn?")
+
+
+def dimacs(text: str) -> Graph:
+    """DIMACS: `p edge NODES EDGES`, `e A B` for links, and `a A B WEIGHT` for listings."""
+    graph, counts = Graph("DIMACS"), []  # type: Graph, List[int]
+    for line in lines_of(text):
+        words = line.words
+        if words[0] == "p" and not counts:
+            counts = Line(line.number, " ".join(words[2:])).numbers(2)
+            number_hosts(graph, counts[0])
+        elif words[0] in ("e", "a"):
+            words = need_words(line, 3)
+            graph.link(words[1], words[2], words[0] == "a", rest(words[3:]))
+        elif words[0] not in ("c", "n", "d", "v", "x"):
+            raise BadDump(f"{line.place}no line of DIMACS begins with {words[0][:40]}")
+    if not counts:
+        raise BadDump("its line `p edge NODES EDGES` is missing")
+    # some programs count each link twice
+    if len(graph.links) * 2 != counts[1]:
+        graph.need_counts(links=counts[1])
+    return graph
+
+
+def matrix_market(text: str) -> Graph:
+    """Matrix Market's coordinates: ROW COLUMN of each entry. A symmetric matrix has links, and another one listings."""
+    kinds = text.split("\n", 1)[0].lower().split()[1:]
+    if len(kinds) < 4 or kinds[:2] != ["matrix", "coordinate"]:
+        raise BadDump("of Matrix Market the kind `matrix coordinate` is read")
+    graph, counts = Graph("Matrix Market"), []  # type: Graph, List[int]
+    for line in lines_of(text, "%"):
+        if not counts:
+            counts = line.numbers(3, 3)
+            if counts[0] != counts[1]:
+                raise BadDump(f"{line.place}its matrix is not square")
+            number_hosts(graph, counts[0])
+            continue
+        words = need_words(line, 2)
+        graph.link(words[0], words[1], kinds[3] == "general", rest(words[2:]))
+    graph.need_counts(links=counts[2] if counts else 0)
+    return graph

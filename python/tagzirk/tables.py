@@ -1,0 +1,232 @@
+"""Tables: CSV and the like, and those that psql, mysql, sqlite or a text in Markdown show, with a header or without."""
+
+from __future__ import annotations
+
+import csv
+import io
+import itertools
+import re
+from typing import Dict, Iterable, List, NamedTuple, Optional, Sequence, Tuple
+
+from .errors import BadDump
+from .limits import need_few
+from .rows import rows_of
+from .values import HOST_FIELDS, LINK_ENDS, LISTING_ENDS, Scalar, Views
+
+# What a column is called that has all peers of a host in one cell.
+MANY_FIELDS = ("peers", "neighbors", "neighbours", "links", "connections", "active_view")
+MANY_ENDS = tuple(itertools.product(HOST_FIELDS, MANY_FIELDS))
+# What stands between two columns, in the order in which it is looked for.
+BETWEEN = ("\t", ";", ",", "|")
+# The characters that draw a table, as those of ASCII.
+DRAWN = {ord(it): drawn for drawn, all_such in (("|", "│┃║"), ("-", "─━═")) for it in all_such}
+DRAWN.update(dict.fromkeys(map(ord, "┼╪╬├╞╠┤╡╣┌╒╔┐╕╗└╘╚┘╛╝┬╤╦┴╧╩╭╮╯╰"), "+"))
+OF_RULES = frozenset("-+|: \t\r")
+FOOTER = re.compile(r"\(?\d+ rows?\b.*|Time:.*|\(?(?:no|empty) (?:rows?|set)\b.*", re.IGNORECASE)
+
+
+class Table(NamedTuple):
+    """A table: what it is called, the names of its columns, if it has a header, and its rows with their lines."""
+
+    kind: str
+    header: List[str]
+    rows: List[Tuple[int, List[str]]]
+
+
+class Ends(NamedTuple):
+    """Which two columns are both ends; whether a row is a listing, and whether it names many peers."""
+
+    places: Tuple[int, int]
+    is_listing: bool = False
+    is_many: bool = False
+
+
+def ends_by_name(header: Sequence[str], columns: Optional[str]) -> Optional[Ends]:
+    """Which columns of a header are both ends: those that are asked for, or known ones."""
+    names = [it.lower() for it in header]
+    asked = tuple(it.strip().lower() for it in columns.split(",")) if columns else None
+    if asked and (len(asked) != 2 or not set(asked) <= set(names)):
+        return None
+    for pair in (asked,) if asked else (*LINK_ENDS, *LISTING_ENDS, *MANY_ENDS):
+        if pair and set(pair) <= set(names):
+            places = names.index(pair[0]), names.index(pair[1])
+            is_many = pair in MANY_ENDS
+            return Ends(places, pair in LISTING_ENDS or is_many, is_many)
+    return None
+
+
+def ends_by_number(columns: Optional[str]) -> Optional[Ends]:
+    """Which columns are both ends, by their numbers from 1."""
+    found = re.fullmatch(r"\s*([1-9][0-9]{0,2})\s*,\s*([1-9][0-9]{0,2})\s*", columns or "")
+    return Ends((int(found[1]) - 1, int(found[2]) - 1)) if found and found[1] != found[2] else None
+
+
+def is_rule(line: str) -> bool:
+    """Whether a line is one between two rows, with marks where columns meet."""
+    return set(line) <= OF_RULES and any(it in line for it in ("-+", "+-", "-|", "|-", ":|", "|:", "- |"))
+
+
+def split_drawn(line: str, is_framed: bool) -> List[str]:
+    """The cells of a row between `|`, of which one stands at each end too, if the table has a frame."""
+    bare = line.strip()
+    inner = bare[1:-1] if is_framed and len(bare) > 1 and bare[0] == bare[-1] == "|" else line
+    return [it.strip() for it in inner.split("|")]
+
+
+def drawn_table(text: str) -> Optional[Table]:
+    """The table that a program shows with lines between rows and columns, or None if there is none. What stands above
+    it and has no columns is a title; below it a count of its rows may stand.
+
+    >>> drawn_table(" a  | b\\n----+----\\n n1 | n2\\n(1 row)\\n").rows
+    [(3, ['n1', 'n2'])]
+    """
+    if "|" not in text and "\u2502" not in text and "\u2551" not in text and "\u2503" not in text:
+        return None
+    lines = [(at, line) for at, line in enumerate(text.translate(DRAWN).split("\n"), 1) if line.strip()]
+    rules = {place for place, (_, line) in enumerate(lines) if is_rule(line)}
+    head = next((place for place, (_, line) in enumerate(lines) if "|" in line and place not in rules), None)
+    if not rules or head is None or head + 1 not in rules:
+        return None
+    is_framed = lines[head][1].strip()[0] == lines[head][1].strip()[-1] == "|"
+    table, is_below = Table("a table", split_drawn(lines[head][1], is_framed), []), False
+    for place in range(head + 1, len(lines)):
+        number, line = lines[place]
+        if place in rules:
+            continue
+        if "|" not in line and FOOTER.fullmatch(line.strip()):
+            is_below = True
+            continue
+        cells = split_drawn(line, is_framed)
+        if is_below or len(cells) != len(table.header):
+            raise BadDump(f"line {number} is no row of the table above it: {line.strip()[:60]}")
+        table.rows.append((number, cells))
+    return table
+
+
+def between_columns(line: str) -> str:
+    """What stands between two columns of a table whose header or first row this is."""
+    return next((it for it in BETWEEN if it in line), " ")
+
+
+def parsed_rows(text: str, begin: int, between: str) -> List[Tuple[int, List[str]]]:
+    """The rows of CSV below some line, with the numbers of their lines, without those that are blank."""
+    below = io.StringIO(text.split("\n", begin)[-1] if begin else text, newline="")
+    reader = csv.reader(below, delimiter=between, skipinitialspace=True, strict=True)
+    rows: List[Tuple[int, List[str]]] = []
+    try:
+        for row in reader:
+            cells = [it.strip() for it in row if between != " " or it]
+            if any("\n" in it for it in cells):
+                raise csv.Error("a text in quotes goes on in the next line")
+            if any(cells):
+                need_few(len(rows), "rows")
+                rows.append((begin + reader.line_num, cells))
+    except csv.Error as why:
+        raise BadDump(f"line {begin + reader.line_num}: it is no row of a table: {why}") from None
+    return rows
+
+
+def with_header(text: str, columns: Optional[str]) -> Optional[Tuple[Table, Ends]]:
+    """The table whose first line that is no comment is a header: one that names two columns that are known or were
+    asked for. No row below has these names, but for the whole header, which `cat` may repeat."""
+    lines = text.split("\n")
+    begin = next((at for at, line in enumerate(lines) if line.strip() and not line.lstrip().startswith("#")), 0)
+    between = between_columns(lines[begin])
+    header = [it.strip().strip('"') for it in lines[begin].split(between) if it.strip() or between != " "]
+    ends = ends_by_name(header, columns)
+    if not ends:
+        return None
+    table = Table("a table", header, parsed_rows(text, begin + 1, between))
+    names = {header[it].lower() for it in ends.places}
+    others = (row for _, row in table.rows if row != header)
+    is_name = not columns and any(cell.lower() in names for row in others for cell in cells_at(row, ends))
+    return None if is_name else (table, ends)
+
+
+def without_header(text: str) -> Table:
+    """The table whose lines are all rows, but for comments."""
+    rows = [(row.number, row.text) for row in rows_of(text)]
+    between = between_columns(rows[0][1]) if rows else ","
+    found = []
+    for number, line in rows:
+        try:
+            cells = next(csv.reader([line], delimiter=between, skipinitialspace=True, strict=True))
+        except csv.Error as why:
+            raise BadDump(f"line {number}: it is no row of a table: {why}") from None
+        found.append((number, [it.strip() for it in cells if between != " " or it.strip()]))
+    return Table("a table without a header", [], found)
+
+
+def cells_at(row: Sequence[str], ends: Ends) -> Iterable[str]:
+    return (row[it] for it in ends.places if it < len(row))
+
+
+def table_of(text: str, columns: Optional[str]) -> Optional[Tuple[Table, Ends]]:
+    """The table that a text is, and its columns of both ends; or None if it is none."""
+    drawn = drawn_table(text)
+    if drawn:
+        ends = ends_by_name(drawn.header, columns) or ends_by_number(columns)
+        if ends and max(ends.places) < len(drawn.header):
+            return drawn, ends
+        told = ", ".join(drawn.header)
+        raise BadDump(f"--columns FROM,TO names the columns of both ends, and the header is: {told}")
+    found = with_header(text, columns)
+    ends = ends_by_number(columns)
+    if found or not columns:
+        return found
+    if ends:
+        return without_header(text), ends
+    first = next((line.strip() for line in text.split("\n") if line.strip() and line.lstrip()[0] != "#"), "")
+    raise BadDump(
+        f"--columns takes two names of the header, FROM,TO, and the header is: {first[:200]}; or the numbers of two "
+        "columns, as 1,3, where there is no header"
+    )
+
+
+def of_table(table: Table, ends: Ends) -> Views:
+    """What hosts list by a table."""
+    views, repeated = Views(told_of(table, ends)), 0
+    for number, cells in table.rows:
+        if cells == table.header:
+            repeated += 1
+            continue
+        if len(cells) <= max(ends.places):
+            raise BadDump(f"line {number} has {len(cells)} columns, and column {max(ends.places) + 1} is an end")
+        if table.header and any(cells[len(table.header) :]):
+            raise BadDump(f"line {number} has {len(cells)} columns, and the header has {len(table.header)}")
+        one, other = cells_at(cells, ends)
+        said = said_in(cells, table.header, ends)
+        if one and not other and ends.is_listing:
+            views.enter(one, said)
+        elif not one or not other:
+            raise BadDump(f"line {number} lacks a name")
+        elif ends.is_many:
+            enter_many(views, one, other, said)
+        elif ends.is_listing:
+            views.listing(one, other, said)
+        else:
+            views.link(one, other, said)
+    if repeated:
+        views.kind += f"; the header stands {repeated + 1} times"
+    return views
+
+
+def enter_many(views: Views, name: str, cell: str, said: Dict[str, Scalar]) -> None:
+    """A host with all peers in one cell, as `n2;n3`, `{n2,n3}` or `["n2", "n3"]`."""
+    views.enter(name, said)
+    for peer in re.split(r"[\s,;|]+", cell.strip("[]{}()")):
+        if peer.strip("\"'"):
+            views.listing(name, peer.strip("\"'"))
+
+
+def said_in(cells: Sequence[str], header: Sequence[str], ends: Ends) -> Dict[str, Scalar]:
+    """What the other columns say, by their names, or by their numbers where there is no header."""
+    others = (it for it in range(len(cells)) if it not in ends.places)
+    return {header[it] if it < len(header) else str(it + 1): cells[it] for it in others}
+
+
+def told_of(table: Table, ends: Ends) -> str:
+    """How a table was read."""
+    one, other = (f"{table.header[it]}" if table.header else str(it + 1) for it in ends.places)
+    kind = f"a row says that {one} lists {other}" if ends.is_listing else "each row is a link"
+    return f"{table.kind} with the columns {one.lower()} and {other.lower()}: {kind}"
