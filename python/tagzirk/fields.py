@@ -54,6 +54,31 @@ class Field:
     def is_of_hosts(self) -> bool:
         return self.of == "hosts"
 
+    @functools.cached_property
+    def numbers(self) -> List[Optional[float]]:
+        """The number that each value says, if it is one."""
+        return [number_of(value) for _, value in self.said]
+
+    @functools.cached_property
+    def moments(self) -> List[float]:
+        """The times that values say, if most of them are times; a zero among them is a time before all others."""
+        found = [moment_of(value) for _, value in self.said]
+        if not any(found):
+            return []
+        moments = [0.0 if moment is None and number == 0 else moment for moment, number in zip(found, self.numbers)]
+        return most_of(moments)
+
+    @functools.cached_property
+    def spans(self) -> List[float]:
+        """The seconds that values say by units, if most of them do."""
+        return most_of([span_of(value) for _, value in self.said])
+
+
+def most_of(values: Sequence[Optional[float]]) -> List[float]:
+    """The numbers among values, if they are more than half of them."""
+    found = [it for it in values if it is not None]
+    return found if 2 * len(found) > len(values) else []
+
 
 def words_of(text: str) -> Set[str]:
     """The words of a name or a value, in small letters.

@@ -9,7 +9,7 @@ from typing import Any, Dict
 from .asked import Asked
 from .errors import BadDump
 from .forms import form_of
-from .hosts import Entry, enter_all
+from .hosts import Entry, SeveralLists, enter_all
 from .json_files import json_of
 from .rows import rows_of
 from .texts import decoded, text_of
@@ -59,6 +59,8 @@ def hosts_by(files: Dict[pathlib.Path, bytes], asked: Asked) -> Views:
             raise BadDump(f"{place}: {why}") from None
     try:
         enter_all(views, list(entries.values()), asked)
+    except SeveralLists:
+        raise
     except BadDump:
         for place, it in entries.items():
             demand_readable(place, it, asked)

@@ -9,6 +9,10 @@ from .errors import BadDump
 from .values import PEER_KEYS, Said, Scalar, Views, is_list_of_names, items_of, one_of, said_of, short
 
 
+class SeveralLists(BadDump):
+    """Hosts have several lists, any of which may have their peers."""
+
+
 class Entry(NamedTuple):
     """A host, and what stands there of it: the list of its peers, or an object that has it."""
 
@@ -164,7 +168,7 @@ def demand_one_list(said: Sequence[Lists], asked: Asked) -> None:
     keys = {key: None for it in said if it.others for key in (it.key or "", *it.others)}
     if keys:
         count = sum(bool(it.others) for it in said)
-        raise BadDump(
+        raise SeveralLists(
             f"{one_of(list(keys)).replace(' or ', ' and ')} may each be the list of a host's peers, and they differ "
-            f"({count} of {len(said)} hosts have several): say --peers KEY"
+            f"(in {count} of {len(said)} hosts): say --peers KEY"
         )

@@ -9,7 +9,7 @@ from __future__ import annotations
 import enum
 from typing import AbstractSet, Callable, Dict, Optional, Sequence, Set
 
-from .fields import MISSING, Field, moment_of, number_of, span_of, text_of, words_of
+from .fields import MISSING, Field, most_of, number_of, text_of, words_of
 
 # Words of a field's name that say a state, the time of a last contact, or when something began.
 STATE_NAMES = frozenset(
@@ -98,19 +98,14 @@ def by_one_value(field: Field) -> Optional[Kind]:
 
 def by_contact(field: Field) -> Optional[Kind]:
     """Ages, and times of a last contact: they differ, unless all are times within a minute."""
-    moments = [moment_of(value) for _, value in field.said]
-    spans = [span_of(value) for _, value in field.said]
-    are_times = 2 * sum(it is not None for it in moments) > len(moments)
-    are_spans = 2 * sum(it is not None for it in spans) > len(spans)
-    if is_named(field, CONTACT_NAMES):
-        are_numbers = 2 * sum(number_of(value) is not None for _, value in field.said) > len(field.said)
-        if not are_times and not are_spans:
-            return Kind.ASKED if are_numbers else None
-    elif not are_times or is_named(field, BEGIN_NAMES):
+    is_contact = is_named(field, CONTACT_NAMES)
+    if not field.moments and (not is_contact or not field.spans):
+        return Kind.ASKED if is_contact and most_of(field.numbers) else None
+    if not is_contact and is_named(field, BEGIN_NAMES):
         return None
-    seconds = [it for it in (moments if are_times else spans) if it is not None]
+    seconds = field.moments or field.spans
     is_one = len(seconds) == len(field.said) and not field.missing and max(seconds) - min(seconds) <= ONE_MOMENT
-    return Kind.TOLD if is_one or field.is_of_hosts and not is_named(field, CONTACT_NAMES) else Kind.ASKED
+    return Kind.TOLD if is_one or field.is_of_hosts and not is_contact else Kind.ASKED
 
 
 def by_words(field: Field) -> Optional[Kind]:
@@ -126,8 +121,7 @@ def by_name(field: Field) -> Optional[Kind]:
     """A name that says a state. With many different numbers the field counts or measures something."""
     if not is_named(field, STATE_NAMES):
         return None
-    numbers = [number_of(value) for _, value in field.said]
-    is_measure = None not in numbers and len(set(numbers)) > MOST_VALUES // 2
+    is_measure = is_numeric(field) and len(set(field.numbers)) > MOST_VALUES // 2
     return Kind.TOLD if is_measure else Kind.ASKED
 
 
@@ -148,10 +142,8 @@ def by_pair(field: Field) -> Optional[Kind]:
 
 def by_nothing(field: Field) -> Optional[Kind]:
     """Nothing among values: null, an empty text, a dash, an infinite number, or a negative one among others."""
-    numbers = [number_of(value) for _, value in field.said]
-    found = [it for it in numbers if it is not None]
-    negative = {it for it in found if it < 0}
-    is_for_none = len(negative) == 1 and len(set(found)) > 1 and 2 * sum(it < 0 for it in found) < len(found)
+    numbers = {it for it in field.numbers if it is not None}
+    is_for_none = sum(it < 0 for it in numbers) == 1 < len(numbers)
     if not is_for_none and not any(it.casefold() in NOTHING for it in field.counts):
         return None
     return Kind.TOLD if field.is_of_hosts or is_named(field, KIND_NAMES) else Kind.ASKED
@@ -172,7 +164,7 @@ def by_identity(field: Field) -> Optional[Kind]:
 
 
 def is_numeric(field: Field) -> bool:
-    return all(number_of(value) is not None for _, value in field.said)
+    return None not in field.numbers
 
 
 def by_number(field: Field) -> Optional[Kind]:
@@ -180,10 +172,10 @@ def by_number(field: Field) -> Optional[Kind]:
     below the two ends, as in a matrix, is no link."""
     if field.is_of_hosts or not is_numeric(field):
         return None
-    numbers = [it for it in (number_of(value) for _, value in field.said) if it is not None]
-    if 0 in numbers and len(set(numbers)) > 1 and not is_named(field, KIND_NAMES):
+    numbers = {it for it in field.numbers if it is not None}
+    if 0 in numbers and len(numbers) > 1 and not is_named(field, KIND_NAMES):
         return Kind.ASKED if field.name == "value" else Kind.TOLD
-    is_plain = is_named(field, KIND_NAMES | MEASURE_NAMES | BEGIN_NAMES) or len(set(numbers)) > MOST_VALUES // 2
+    is_plain = is_named(field, KIND_NAMES | MEASURE_NAMES | BEGIN_NAMES) or len(numbers) > MOST_VALUES // 2
     if not LARGEST.isdisjoint(numbers) or field.missing and not is_named(field, KIND_NAMES):
         return Kind.TOLD
     return Kind.NONE if is_plain else Kind.TOLD

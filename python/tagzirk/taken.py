@@ -7,9 +7,9 @@ from typing import Callable, Dict, List, NamedTuple, Optional, Sequence, Set, Tu
 
 from .asked import Asked
 from .errors import BadDump
-from .fields import MISSING, Field, fields_of, moment_of, number_of, span_of, text_of
+from .fields import MISSING, Field, fields_of, moment_of, most_of, number_of, span_of, text_of
 from .states import Kind, kind_of
-from .values import Scalar, Statement, Views
+from .values import Scalar, Statement, Views, one_of
 
 # So many values of a field, and so many fields, are shown.
 MOST_SHOWN = 5
@@ -49,7 +49,7 @@ def taken_of(views: Views, asked: Asked) -> Tuple[Views, List[str]]:
     notes += [f"{it.name} is {next(iter(it.counts))} of all {len(it.said)} {it.of}" for it in same[:MOST_SHOWN]]
     maybe = [it for it, kind in kinds if kind is Kind.TOLD and len(it.counts) > 1]
     if maybe:
-        notes.append(f"passed over, though it may say what is down: {many(maybe)}; --up FIELD=VALUE takes what has it")
+        notes.append(f"taken all, though some may be down: {many(maybe)}; --up FIELD=VALUE takes what has this value")
     return views, notes
 
 
@@ -138,8 +138,7 @@ def measured(value: Scalar) -> Optional[float]:
 
 def in_range(field: Field, low: str, high: str) -> Callable[[Scalar, bool], bool]:
     """Whether a number lies between two; of times, so many seconds before the newest time in the dump."""
-    moments = [it for it in (moment_of(value) for _, value in field.said) if it is not None]
-    newest = max(moments) if 2 * len(moments) > len(field.said) else None
+    newest = max(field.moments) if field.moments else None
     least, most = measured(low), measured(high)
 
     def is_up(value: Scalar, is_there: bool) -> bool:
@@ -156,10 +155,10 @@ def one(field: Field) -> str:
     """A field, with its values and how often each is there; or with the least and the greatest of many."""
     counts = field.counts.most_common()
     if len(counts) <= MOST_SHOWN:
-        return f"{field.name} is {', '.join(f'{value} ({number})' for value, number in counts)}"
-    moments = sorted(it for it in (moment_of(value) for _, value in field.said) if it is not None)
-    texts = {moment_of(value) or number_of(value): text_of(value) for _, value in field.said}
-    numbers = moments if 2 * len(moments) > len(field.said) else sorted(it for it in texts if it is not None)
+        return f"{field.name} is {one_of([f'{quoted(value)} ({number})' for value, number in counts])}"
+    way = moment_of if field.moments else measured
+    texts = {number: text_of(value) for number, value in ((way(value), value) for _, value in field.said)}
+    numbers = sorted(it for it in texts if it is not None)
     if 2 * len(numbers) > len(counts):
         return f"{field.name} is {texts[numbers[0]]} to {texts[numbers[-1]]}"
     first = ", ".join(f"{value} ({number})" for value, number in counts[:MOST_SHOWN])
@@ -177,7 +176,14 @@ def many(fields: Sequence[Field]) -> str:
 
 def question(fields: Sequence[Field]) -> str:
     """What a person is asked of fields that may say what is down."""
-    name = fields[0].name
-    is_time = any(it.isdigit() for it in name) or fields[0].counts and len(fields[0].counts) > MOST_SHOWN
-    example = f"--up {name}=LOW..HIGH" if is_time else f"--up {name}=VALUE[,VALUE]"
-    return f"which of it is up is not clear: {many(fields)}. Say {example} for what is up, or --all to take it all"
+    first = fields[0]
+    is_range = first.moments or first.spans or len(first.counts) > 2 and most_of(first.numbers)
+    word = f"{first.name}={'LOW..HIGH' if is_range else 'VALUE[,VALUE]'}"
+    unit = ", in seconds before the newest," if first.moments else ""
+    word = f'"{word}"' if " " in word else word
+    return f"some may be down: {many(fields)}; say --up {word}{unit} to take those that are up, or --all to take all"
+
+
+def quoted(value: str) -> str:
+    """A value as it is shown: nothing is shown as two quotes."""
+    return value or '""'

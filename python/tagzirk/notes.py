@@ -1,0 +1,168 @@
+"""What is likely to be a fault of a dump, or to be meant otherwise, by its graph and its lines. Nothing of it changes
+how the dump is read."""
+
+from __future__ import annotations
+
+import collections
+import re
+import unicodedata
+from typing import Callable, Counter, Dict, List, NamedTuple, Sequence, Set, Tuple
+
+from .graphs import NamedGraph, shown
+
+# So many names, or pairs of names, are told.
+MOST_TOLD = 3
+# Words of a line that counts what the others have.
+COUNTING = frozenset("total sum count links edges nodes hosts rows lines records entries peers".split())
+PORT = re.compile(r"(.+):[0-9]{1,5}")
+ADDRESS = re.compile(r"[0-9.]+")
+
+
+class Line(NamedTuple):
+    """A line of a dump: its number, and its words."""
+
+    number: int
+    words: List[str]
+
+
+def lines_in(text: str) -> List[Line]:
+    """The lines of a text that are no comments and not blank."""
+    found = []
+    for number, line in enumerate(text.split("\n"), 1):
+        bare = line.strip()
+        if bare and bare[0] != "#":
+            found.append(Line(number, [it.strip("\"'") for it in re.split(r"[\s,;]+", bare) if it]))
+    return found
+
+
+def notes_on(graph: NamedGraph[str], lines: Sequence[Line] = (), without_entry: int = 0) -> List[str]:
+    """The notes on a dump that was read as this graph, and on its lines if it is a text of lines."""
+    told = [*without_links(graph, without_entry), *alike(graph)]
+    if len(lines) > 3:
+        told += [*parted(graph, lines), *counting(graph, lines), *marked(graph, lines), *in_two_columns(graph, lines)]
+    return told
+
+
+def some(names: Sequence[str]) -> str:
+    """The first names of several, and how many more there are."""
+    first = ", ".join(map(shown, names[:MOST_TOLD]))
+    return first if len(names) <= MOST_TOLD else f"{first} and {len(names) - MOST_TOLD} more"
+
+
+def without_links(graph: NamedGraph[str], without_entry: int) -> List[str]:
+    """Hosts without any link, beside others that are linked. Those that are listed without an entry are told before."""
+    lone = [name for name, place in graph.ids.items() if not graph.peers[place]]
+    if not graph.links or len(lone) <= without_entry:
+        return []
+    return [f"without any link, though others are linked: {len(lone)} of {len(graph.ids)} hosts: {some(lone)}"]
+
+
+def bare(name: str) -> str:
+    """A name without characters that nobody sees, and with such of one look alike.
+
+    >>> bare("n1\\u200b") == "n1"
+    True
+    """
+    return "".join(it for it in unicodedata.normalize("NFKC", name) if unicodedata.category(it)[0] != "C").strip()
+
+
+def without_port(name: str) -> str:
+    found = PORT.fullmatch(name)
+    return found[1] if found else name
+
+
+# What names may differ in alone, though they may be of one host.
+ALIKE: Sequence[Tuple[str, Callable[[str], str]]] = (
+    ("capitals", str.casefold),
+    ("a dot at their end", lambda name: name.rstrip(".") or name),
+    ("characters that are not seen", bare),
+    ("a port", without_port),
+)
+
+
+def alike(graph: NamedGraph[str]) -> List[str]:
+    """Names that differ in so little that they may be of one host. Several ports at each address are several hosts."""
+    told = []
+    for what, way in ALIKE:
+        groups = grouped(graph, way)
+        several = [it for it in groups if len(it) > 1]
+        if several and not (what == "a port" and len(several) == len(groups)):
+            told.append(differing(what, several))
+    labels = {name: name.partition(".")[0] for name in graph.ids if not ADDRESS.fullmatch(name)}
+    domains = [[label, name] for name, label in labels.items() if label != name.rstrip(".") and label in graph.ids]
+    return told + [differing("a domain", domains)] if domains else told
+
+
+def grouped(graph: NamedGraph[str], way: Callable[[str], str]) -> List[List[str]]:
+    """The names that are the same in this way, together."""
+    found: Dict[str, List[str]] = {}
+    for name in graph.ids:
+        found.setdefault(way(name), []).append(name)
+    return list(found.values())
+
+
+def differing(what: str, groups: Sequence[Sequence[str]]) -> str:
+    """What is told of names that differ in this alone."""
+    pairs = some([" and ".join(it[:2]) for it in groups])
+    return f"names that differ in {what} alone, and are hosts of their own here: {pairs}"
+
+
+def parted(graph: NamedGraph[str], lines: Sequence[Line]) -> List[str]:
+    """Two names that are linked to each other alone, beside at least three others: a header or a footer may say them.
+    What the first line says so once is told by `overlay import`; and a word that counts, in the last line alone."""
+    told = []
+    if len(graph.ids) >= 5:
+        pairs = [it for it in graph.pieces() if len(it) == 2 and graph.peers[it[0]]]
+        for pair in pairs[:MOST_TOLD]:
+            names = {graph.names[it] for it in pair}
+            at = [it.number for it in lines if set(it.words[:2]) == names]
+            if at and at != [lines[0].number]:
+                told.append(f"{in_lines(at)}: {' and '.join(sorted(names))} stand in no other line: a header or a footer?")
+    words = set(map(str.casefold, lines[-1].words[:2])) & COUNTING
+    once = [it for it in words if sum(it in map(str.casefold, line.words) for line in lines) == 1]
+    if once and not told:
+        told.append(f"line {lines[-1].number}: {once[0]} stands in no other line: is it a footer?")
+    return told
+
+
+def in_lines(numbers: Sequence[int]) -> str:
+    if len(numbers) == 1:
+        return f"line {numbers[0]}"
+    return f"lines {', '.join(map(str, numbers[:-1]))} and {numbers[-1]}"
+
+
+def counting(graph: NamedGraph[str], lines: Sequence[Line]) -> List[str]:
+    """A first line of two or three numbers that are just those of the hosts and of the lines below it."""
+    first, below = lines[0], lines[1:]
+    if len(first.words) not in (2, 3) or not all(it.isdigit() and len(it) < 10 for it in first.words):
+        return []
+    hosts = {name for it in below for name in it.words[:2]}
+    if int(first.words[0]) != len(hosts) or int(first.words[-1]) != len(below) or first.words[0] not in graph.ids:
+        return []
+    return [
+        f"line {first.number}: {' '.join(first.words)} may be how many hosts and links there are: --skip "
+        f"{first.number} passes it over"
+    ]
+
+
+def marked(graph: NamedGraph[str], lines: Sequence[Line]) -> List[str]:
+    """One word that begins each line of three or more, and is linked to all others here."""
+    mark = lines[0].words[0]
+    if mark not in graph.ids or any(len(it.words) < 3 or it.words[0] != mark for it in lines):
+        return []
+    if len(graph.peers[graph.ids[mark]]) < len(graph.ids) - 1:
+        return []
+    return [f"each line begins with {mark}, which is a host here: --columns 2,3 takes the words behind it"]
+
+
+def in_two_columns(graph: NamedGraph[str], lines: Sequence[Line]) -> List[str]:
+    """Lines of two columns or more without a name that stands in both."""
+    if any(len(it.words) < 2 for it in lines):
+        return []
+    columns: List[Set[str]] = [{it.words[at] for it in lines} for at in range(2)]
+    if columns[0] & columns[1] or not columns[0] | columns[1] <= set(graph.ids):
+        return []
+    most: Counter[str] = collections.Counter(it.words[1] for it in lines)
+    return [
+        f"no name stands in both columns, as {lines[0].words[0]} and {most.most_common(1)[0][0]}: are these links?"
+    ]
