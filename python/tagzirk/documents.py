@@ -208,7 +208,7 @@ def link_in(value: Any, asked: Asked) -> Optional[Ends]:
     """The link that an object or a list of two names says."""
     if is_pair(value):
         third = value[2:]
-        beside = said_of(third[0]) if third and isinstance(third[0], dict) else {"column 3": it for it in third}
+        beside = said_of(third[0]) if third and isinstance(third[0], dict) else {"3": it for it in third}
         return Ends(value[0], value[1], False, beside)
     return ends_in(value, asked)
 

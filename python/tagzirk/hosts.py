@@ -155,7 +155,8 @@ def without_peers(entry: Entry, lists: Dict[str, Any]) -> str:
     """What is told of a host without a list of peers."""
     told = ", ".join(map(str, list(entry.value)[:10])) or "nothing"
     keys = [key for key, it in lists.items() if isinstance(it, (list, dict)) and it]
-    more = f"; --peers KEY takes another key, as {one_of(keys[:6])}" if keys else ""
+    told_keys = f"; --peers KEY takes another key, as {one_of(keys[:6])}, and --links KEY takes links below one"
+    more = told_keys if keys else ""
     return f"the host {entry.name} should have the list {one_of(PEER_KEYS)}, and it has {told}{more}"
 
 

@@ -6,6 +6,7 @@ from __future__ import annotations
 import re
 from typing import Dict, List, NamedTuple, Optional
 
+from .beside import with_what_is_behind
 from .errors import BadDump
 from .graph_files import Graph
 from .matrices import graph6_of, matrix_graph, matrix_of
@@ -77,7 +78,7 @@ def of_shape(text: str, rows: List[Row]) -> Optional[Views]:
     has_comments = any(is_comment(line) for line in text.split("\n") if line.strip())
     if is_weighted(rows) or has_comments and all(len(row.words) == 2 for row in rows):
         return of_weighted(rows)
-    return None
+    return with_what_is_behind(text, rows)
 
 
 def graph_of(text: str, rows: List[Row]) -> Optional[Graph]:

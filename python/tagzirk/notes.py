@@ -117,7 +117,8 @@ def parted(graph: NamedGraph[str], lines: Sequence[Line]) -> List[str]:
             names = {graph.names[it] for it in pair}
             at = [it.number for it in lines if set(it.words[:2]) == names]
             if at and at != [lines[0].number]:
-                told.append(f"{in_lines(at)}: {' and '.join(sorted(names))} stand in no other line: a header or a footer?")
+                both = " and ".join(sorted(names))
+                told.append(f"{in_lines(at)}: {both} stand in no other line: a header or a footer?")
     words = set(map(str.casefold, lines[-1].words[:2])) & COUNTING
     once = [it for it in words if sum(it in map(str.casefold, line.words) for line in lines) == 1]
     if once and not told:

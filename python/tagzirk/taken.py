@@ -154,15 +154,16 @@ def in_range(field: Field, low: str, high: str) -> Callable[[Scalar, bool], bool
 def one(field: Field) -> str:
     """A field, with its values and how often each is there; or with the least and the greatest of many."""
     counts = field.counts.most_common()
+    name = f"column {field.name}" if field.name.isdigit() else field.name
     if len(counts) <= MOST_SHOWN:
-        return f"{field.name} is {one_of([f'{quoted(value)} ({number})' for value, number in counts])}"
+        return f"{name} is {one_of([f'{quoted(value)} ({number})' for value, number in counts])}"
     way = moment_of if field.moments else measured
     texts = {number: text_of(value) for number, value in ((way(value), value) for _, value in field.said)}
     numbers = sorted(it for it in texts if it is not None)
     if 2 * len(numbers) > len(counts):
-        return f"{field.name} is {texts[numbers[0]]} to {texts[numbers[-1]]}"
+        return f"{name} is {texts[numbers[0]]} to {texts[numbers[-1]]}"
     first = ", ".join(f"{value} ({number})" for value, number in counts[:MOST_SHOWN])
-    return f"{field.name} is {first} and {len(counts) - MOST_SHOWN} more values"
+    return f"{name} is {first} and {len(counts) - MOST_SHOWN} more values"
 
 
 def many(fields: Sequence[Field]) -> str:

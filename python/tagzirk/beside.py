@@ -1,0 +1,54 @@
+"""What stands behind two names on a line: attributes in brackets, as networkx writes them, and a comment."""
+
+from __future__ import annotations
+
+import ast
+from typing import Dict, List, Optional
+
+from .fields import fields_of
+from .rows import ATTRIBUTES, COMMENT, Row
+from .states import Kind, kind_of, state_words
+from .values import Said, Scalar, Views, said_of
+
+# Brackets with more than this are not read.
+MOST_LONG = 4096
+
+
+def attributes_in(line: str) -> Dict[str, Scalar]:
+    """The attributes in brackets at the end of a line.
+
+    >>> attributes_in("a b {'state': 'down', 'weight': 3}")
+    {'state': 'down', 'weight': 3}
+    >>> attributes_in("a b {down}")
+    {'attributes': '{down}'}
+    """
+    found = ATTRIBUTES.search(line) if line.endswith("}") else None
+    text = line[found.start() :].strip() if found else ""
+    if not text or text.replace(" ", "") == "{}":
+        return {}
+    try:
+        value = ast.literal_eval(text) if len(text) <= MOST_LONG else None
+    except (ValueError, SyntaxError, MemoryError, RecursionError):
+        value = None
+    return said_of(value) if isinstance(value, dict) else {"attributes": text[:MOST_LONG]}
+
+
+def said_behind(line: str) -> Said:
+    """What stands behind the names on a line."""
+    bare = COMMENT.sub("", line).strip()
+    found = COMMENT.search(line)
+    comment = found[0].strip().lstrip("#").strip() if found else ""
+    return {**attributes_in(bare), **({"comment": comment} if state_words(comment) else {})}
+
+
+def with_what_is_behind(text: str, rows: List[Row]) -> Optional[Views]:
+    """The links that lines of two names say, with what stands behind them; None if no state may stand there, or if
+    lines are others. Comments count if one has a word of a state."""
+    lines = text.split("\n")
+    said = [said_behind(lines[row.number - 1]) for row in rows]
+    if not any(said) or not all(len(row.words) == 2 and all(row.words) for row in rows):
+        return None
+    views = Views("lines of two names, each a link")
+    for row, beside in zip(rows, said):
+        views.link(row.words[0], row.words[1], beside)
+    return views if any(kind_of(it) is not Kind.NONE for it in fields_of(views)) else None
