@@ -53,7 +53,8 @@ class Dump:
     """A dump that was read: the graph file that `overlay import` made of it, and what is to be told of it.
 
     `one_sided` is how many listings the other end does not answer, and `without_entry` how many names are listed and
-    have no entry; both are None of a graph file, which does not say so.
+    have no entry; both are None of a graph file, which does not say so. `given` is what `overlay import` was given, and
+    its words.
     """
 
     name: str
@@ -61,6 +62,7 @@ class Dump:
     notes: Tuple[str, ...] = field(repr=False)
     one_sided: Optional[int]
     without_entry: Optional[int]
+    given: Tuple[bytes, Tuple[str, ...]] = field(default=(b"", ()), repr=False, compare=False)
 
     @property
     def graph(self) -> NamedGraph[str]:
@@ -257,6 +259,8 @@ def imported(data: bytes, name: str, words: Sequence[str], notes: Sequence[str],
     ended = call(find("overlay", overlay), ["import", *words], data)
     if ended.status != 0:
         refuse(*ended.err.partition("\n")[::2])
-    counts = [int(said[1]) if said else 0 for said in (ONE_SIDED.search(ended.err), WITHOUT_ENTRY.search(ended.err))]
+    one_sided, lost = (
+        int(said[1]) if said else 0 for said in (ONE_SIDED.search(ended.err), WITHOUT_ENTRY.search(ended.err))
+    )
     told = HEADER.sub(r"\1, or say --columns \2,\3", OF_THIS.sub("", ended.err))
-    return Dump(name, ended.out, (*notes, *told.splitlines()), *counts)
+    return Dump(name, ended.out, (*notes, *told.splitlines()), one_sided, lost, (data, tuple(words)))

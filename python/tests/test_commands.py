@@ -266,6 +266,8 @@ class ForPrometheus(Commands):
         changed = os.stat(DUMPS / "cluster.json").st_mtime
         self.assertEqual((out, status, found.pop("tagzirk_dump_timestamp_seconds")), ("", 0, int(changed)))
         self.assertLess(abs(found.pop("tagzirk_run_timestamp_seconds") - datetime.datetime.now().timestamp()), 60)
+        for program in "overlay", "overlay-check":
+            self.assertIn(found.pop(f'tagzirk_program_proved{{program="{program}"}}'), (0, 1))
         self.assertEqual(
             found,
             {
@@ -274,10 +276,19 @@ class ForPrometheus(Commands):
                 "tagzirk_links": 14,
                 "tagzirk_connectivity": 2,
                 "tagzirk_all_linked": 0,
+                "tagzirk_pieces": 2,
+                "tagzirk_largest_piece": 3,
+                "tagzirk_hosts_cut_off": 3,
                 "tagzirk_one_sided_listings": 3,
                 "tagzirk_listed_without_entry": 1,
                 'tagzirk_cut_member{host="relay-1"}': 1,
                 'tagzirk_cut_member{host="relay-2"}': 1,
+                # oslo-2 and oslo-3 list oslo-4, which is dead, and berlin-3 lists oslo-1
+                'tagzirk_host_one_sided_listings{host="oslo-4"}': 2,
+                'tagzirk_host_one_sided_listings{host="berlin-3"}': 1,
+                'tagzirk_host_one_sided_listings{host="oslo-1"}': 1,
+                'tagzirk_host_one_sided_listings{host="oslo-2"}': 1,
+                'tagzirk_host_one_sided_listings{host="oslo-3"}': 1,
             },
         )
 

@@ -1,0 +1,37 @@
+"""Which hosts have listings that the other end does not answer: `one_sided`."""
+
+from __future__ import annotations
+
+from collections import Counter
+from typing import Dict, FrozenSet, Optional, Sequence, Set
+
+from .dumps import Dump, read_graph_file
+from .programs import Program, call, demand_end, find
+
+
+def one_sided(dump: Dump, overlay: Optional[Program] = None) -> Dict[str, int]:
+    """Of how many listings, which the other end does not answer, each host is an end; the most first. Of a dead or
+    stale host they are many, and of each of its neighbours one.
+
+    `overlay import` is asked for the links that one end is enough for, and for those that both ends say: what stands
+    between is listed by one end only.
+
+    >>> from tagzirk.dumps import dump_of
+    >>> one_sided(dump_of(b'{"a": ["b", "c"], "b": ["a"], "c": []}', "net.json"))
+    {'a': 1, 'c': 1}
+    """
+    if not dump.one_sided:
+        return {}
+    data, words = dump.given
+    form = [it for it in words if it not in ("--either", "--entries")]
+    by_one, by_both = links_in(data, [*form, "--either"], overlay), links_in(data, form, overlay)
+    number = Counter(host for pair in by_one - by_both for host in pair)
+    return {host: number[host] for host in sorted(number, key=lambda it: (-number[it], it))}
+
+
+def links_in(data: bytes, words: Sequence[str], overlay: Optional[Program]) -> Set[FrozenSet[str]]:
+    """The links that `overlay import` finds in a dump, by names."""
+    ended = call(find("overlay", overlay), ["import", *words], data)
+    demand_end(ended)
+    graph = read_graph_file(ended.out)
+    return {frozenset(graph.names[it] for it in link) for link in graph.links}
