@@ -1,8 +1,8 @@
 """How many crashes an overlay survives: a package over the programs overlay and overlay-check of Tagzirk.
 
 `analyse` finds the fewest crashes that split a graph, `check` asks about a certificate, and `run` runs a scenario of a
-simulated world. `mend` finds links to add, `each` tells what each single crash does, and `widest` which crashes cut off
-more than one host. `read_dump` reads what a cluster says of its links, and `history`, `metrics` and `page` tell of
+simulated world. `mend` finds links to add, `each` tells what each single crash does, `worst` which of the smallest cuts
+cut off most, and `widest` which crashes cut off more than one host. `status` says of a dump what is asked first. `read_dump` reads what a cluster says of its links, and `history`, `metrics` and `page` tell of
 dumps. The command tagzirk calls these.
 
 >>> import tagzirk
@@ -51,7 +51,9 @@ from .scenarios import (
     View,
     run,
 )
+from .status import Status, status
 from .wide import Wide, widest
+from .worst import Cut, Worst, worst
 
 __all__ = [
     "Answer",
@@ -61,6 +63,7 @@ __all__ = [
     "Certificate",
     "Change",
     "Crash",
+    "Cut",
     "Delivery",
     "Dump",
     "Entry",
@@ -81,11 +84,13 @@ __all__ = [
     "Report",
     "Run",
     "Sections",
+    "Status",
     "TagzirkError",
     "Verdict",
     "View",
     "ViewsDiffer",
     "Wide",
+    "Worst",
     "analyse",
     "check",
     "each",
@@ -95,5 +100,7 @@ __all__ = [
     "page",
     "read_dump",
     "run",
+    "status",
     "widest",
+    "worst",
 ]

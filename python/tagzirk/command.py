@@ -12,13 +12,13 @@ import threading
 from typing import Dict, Iterator, List, NoReturn, Optional, Sequence, Tuple
 
 from . import slips
-from .commands import each, history, importing, mending, metrics, report
+from .commands import each, history, importing, mending, metrics, report, status
 from .commands.words import READS, common_words, fault, told
 from .errors import TagzirkError, in_words
 from .proofs import versions
 
 # The commands, in the order in which help shows them.
-COMMANDS = (importing, mending, each, history, metrics, report)
+COMMANDS = (status, importing, mending, each, history, metrics, report)
 DESCRIPTION = "From a dump of a running overlay to answers that overlay-check confirmed, and to remedies."
 START = """Start here: `tagzirk status FILE` tells in names how few crashes split the overlay of which FILE is a dump,
 and `tagzirk report FILE > report.html` makes a page of it. `tagzirk COMMAND --help` has the options of a command,
@@ -121,18 +121,25 @@ def main(given: Optional[Sequence[str]] = None) -> int:
         if isinstance(stream, io.TextIOWrapper):
             # as the programs print, whatever the system prefers
             stream.reconfigure(encoding="utf-8", errors="backslashreplace", newline="\n")
+    given = sys.argv[1:] if given is None else given
     with ended_in_order():
-        return ended(asked(sys.argv[1:] if given is None else given), closed)
+        try:
+            words = asked(given)
+        except SystemExit as end:
+            if end.code and status.is_alarm(given):
+                return status.unknown("these words are wrong, as standard error says")
+            raise
+        return ended(words, closed)
 
 
 def ended(words: argparse.Namespace, closed: Optional[io.StringIO]) -> int:
     """Does what the words ask for. `closed` stands in the place of a standard output that is closed."""
     try:
-        status: int = words.run(words)
+        reached: int = words.run(words)
         sys.stdout.flush()
         if closed and closed.getvalue():
             raise OSError("standard output is closed")
-        return status
+        return reached
     except BrokenPipeError:
         # nobody reads standard output any more, and Python is not to try again
         os.dup2(os.open(os.devnull, os.O_WRONLY), sys.stdout.fileno())

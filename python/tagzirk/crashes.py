@@ -2,16 +2,21 @@
 
 from __future__ import annotations
 
-import csv
-import json
+import itertools
 from dataclasses import dataclass
-from typing import Any, Dict, Generic, Iterable, List, Mapping, Optional, Set, Tuple
+from typing import Any, Dict, Generic, Iterable, List, Mapping, Optional, Sequence, Set, Tuple
 
-from .errors import BadDump, BadGraph
-from .graphs import Graph, NamedGraph, Node, is_name, named_graph, shown
+from .bits import Bits, Hosts
+from .bounds import Number, number_in, numbers_after, numbers_after_two
+from .errors import BadGraph
+from .graphs import Graph, NamedGraph, Node, named_graph
 from .programs import Program
-from .progress import Progress, each_at_once, processors
-from .reports import analysed
+from .progress import Progress, processors
+from .racks import ids_of_rack
+from .reports import Report, analysed
+
+# Every two of so many hosts or racks at most are crashed together.
+MOST_PAIRED = 400
 
 
 @dataclass(frozen=True)
@@ -19,8 +24,9 @@ class Crash(Generic[Node]):
     """What the crash of a host or a rack does: `name`, that of the host or the rack, and the hosts that it has.
 
     `k` is how few further crashes of hosts split what is left, and `is_linked` says that none do, as every two hosts
-    that are left are linked. Both were confirmed by overlay-check; `k` is None if no host is left. `cut_off` has the
-    hosts that no longer reach the largest connected component, in the order of their ids.
+    that are left are linked. `k` is None if no host is left. That no fewer crashes do was confirmed by overlay-check,
+    of the rest or of graphs that tell of it (`tagzirk/bounds.py` has the argument). `cut_off` has the hosts that no
+    longer reach the largest connected component, in the order of their ids.
     """
 
     name: Any
@@ -40,7 +46,9 @@ def cut_off_by(graph: NamedGraph[Node], crashed: Set[int]) -> List[int]:
 def each(
     graph: Graph[Node],
     racks: Optional[Mapping[Any, Iterable[Node]]] = None,
+    report: Optional[Report[Node]] = None,
     *,
+    is_of_pairs: bool = False,
     workers: Optional[int] = None,
     overlay: Optional[Program] = None,
     overlay_check: Optional[Program] = None,
@@ -49,7 +57,8 @@ def each(
     """What each single crash does, the worst first: who cuts off most hosts, then who leaves the lowest `k`.
 
     Without `racks` each host crashes by itself. `racks` has the hosts of each rack; then all hosts of a rack crash at
-    once, and `k` still counts hosts.
+    once, and `k` still counts hosts. If `is_of_pairs`, every two hosts or racks crash together, and `name` has both
+    names. `report` is that of the graph, if it is there.
 
     >>> worst = each([("a", "b"), ("b", "c"), ("c", "d"), ("d", "b")])[0]
     >>> worst.name, worst.k, worst.cut_off
@@ -58,71 +67,58 @@ def each(
     [('R1', 0)]
     """
     named: NamedGraph[Node] = graph if isinstance(graph, NamedGraph) else named_graph(graph)
-    names = named.names
-    groups = (
-        [(rack, ids_of_rack(named, rack, hosts)) for rack, hosts in racks.items()]
+    bits = Bits(named)
+    crashes: List[Tuple[Any, Hosts]] = (
+        [(rack, bits.of(ids_of_rack(named, rack, hosts))) for rack, hosts in racks.items()]
         if racks is not None
-        else [(name, {place}) for name, place in named.ids.items()]
+        else [(name, bits.of([host])) for name, host in named.ids.items()]
     )
+    if is_of_pairs:
+        demand_few_pairs(crashes)
 
-    def crash(group: Tuple[Any, Set[int]]) -> Crash[Node]:
-        name, crashed = group
-        left = named.without(crashed)
-        report = analysed(left, overlay=overlay, overlay_check=overlay_check) if left.ids else None
-        cut_off = cut_off_by(named, crashed)
+    def ask(of: NamedGraph[Any], members: Optional[List[int]] = None) -> Report[Any]:
+        return analysed(of, members, overlay=overlay, overlay_check=overlay_check)
+
+    numbers: Dict[Hosts, Number] = {}
+    base, at_once = number_in(report or ask(named)), workers or processors()
+    if is_of_pairs and racks is None:
+        singles = numbers_after(named, base, left_by(crashes, bits), ask, at_once, progress)
+        numbers = numbers_after_two(named, singles, ask, at_once, progress)
+    if is_of_pairs:
+        crashes = [((a, b), one | other) for (a, one), (b, other) in itertools.combinations(crashes, 2)]
+    if not numbers:
+        numbers = numbers_after(named, base, left_by(crashes, bits), ask, at_once, progress)
+    names = named.names
+
+    def crash(name: Any, hosts: Hosts) -> Crash[Node]:
+        number = numbers.get(hosts)
+        # where k is above 0 all that are left are joined
+        is_split = number is not None and number.k == 0 and not number.is_linked
+        cut_off = bits.cut_off(hosts) if is_split else 0
         return Crash(
             name,
-            tuple(names[it] for it in sorted(crashed)),
-            report.k if report else None,
-            report is not None and report.is_linked,
-            tuple(names[it] for it in cut_off),
+            tuple(names[it] for it in bits.ids(hosts)),
+            number.k if number else None,
+            number is not None and number.is_linked,
+            tuple(names[it] for it in bits.ids(cut_off)),
         )
 
-    crashes = list(each_at_once(crash, groups, workers or processors(), "crash", progress))
-    return sorted(crashes, key=badness)
+    return sorted((crash(name, hosts) for name, hosts in crashes), key=badness)
+
+
+def left_by(crashes: Sequence[Tuple[Any, Hosts]], bits: Bits) -> List[Hosts]:
+    """The hosts of those crashes that leave a host, each once."""
+    return list(dict.fromkeys(hosts for _, hosts in crashes if hosts != bits.all))
+
+
+def demand_few_pairs(crashes: Sequence[Tuple[Any, Hosts]]) -> None:
+    """Refuses more pairs than a minute is enough for."""
+    if len(crashes) > MOST_PAIRED:
+        raise BadGraph(
+            f"every two of {len(crashes)} are too many pairs: pairs are tried of {MOST_PAIRED} hosts or racks at most"
+        )
 
 
 def badness(crash: Crash[Any]) -> Tuple[int, bool, int]:
     """Where a crash stands among others, the worst first."""
     return -len(crash.cut_off), crash.is_linked, -1 if crash.k is None else crash.k
-
-
-def ids_of_rack(graph: NamedGraph[Any], rack: Any, hosts: Iterable[Any]) -> Set[int]:
-    """The ids of the hosts of a rack."""
-    found = set()
-    for host in hosts:
-        if not is_name(host) or host not in graph.ids:
-            raise BadGraph(f"the rack {shown(rack)} has {shown(host)}, which is no host of the overlay")
-        found.add(graph.ids[host])
-    return found
-
-
-def racks_of(text: str, name: str) -> Dict[str, List[str]]:
-    """The hosts of each rack, by a file: lines `HOST RACK`, or with a comma or a tab between; or a JSON object, of each
-    rack's list of hosts or of each host's rack.
-
-    >>> racks_of("oslo-1 R1\\noslo-2 R1\\nberlin-1 R2\\n", "racks")
-    {'R1': ['oslo-1', 'oslo-2'], 'R2': ['berlin-1']}
-    """
-    racks: Dict[str, List[str]] = {}
-    if text.lstrip().startswith("{"):
-        try:
-            said = json.loads(text)
-        except json.JSONDecodeError as why:
-            raise BadDump(f"{name}: line {why.lineno}: it is no JSON: {why.msg}") from None
-        for key, value in said.items():
-            if isinstance(value, list):
-                racks.setdefault(key, []).extend(map(str, value))
-            else:
-                racks.setdefault(str(value), []).append(key)
-        return racks
-    for number, line in enumerate(text.splitlines(), 1):
-        bare = line.strip()
-        if not bare or bare.startswith("#"):
-            continue
-        between = next((it for it in "\t;," if it in bare), None)
-        words = [it.strip() for it in next(csv.reader([bare], delimiter=between))] if between else bare.split()
-        if len(words) != 2 or not all(words):
-            raise BadDump(f"{name}: line {number} is no host with its rack: {shown(bare)}")
-        racks.setdefault(words[1], []).append(words[0])
-    return racks

@@ -8,7 +8,8 @@ import pathlib
 import re
 import sys
 from dataclasses import dataclass, field
-from typing import Dict, List, NamedTuple, Optional, Sequence, Tuple
+from functools import lru_cache
+from typing import Dict, List, NamedTuple, Optional, Sequence, TextIO, Tuple
 
 from .asked import Asked
 from .errors import BadDump, LibraryMissing, Refused
@@ -117,10 +118,16 @@ def contents_of(places: Sequence[str]) -> Dict[pathlib.Path, bytes]:
                 raise BadDump("standard input is closed; name a file")
             if sys.stdin.isatty():
                 print("reading standard input, to its end (Ctrl-D)", file=sys.stderr)
-            found[pathlib.Path("standard input")] = sys.stdin.buffer.read()
+            found[pathlib.Path("standard input")] = whole(sys.stdin)
         else:
             found.update((it, it.read_bytes()) for it in files_at(place))
     return found
+
+
+@lru_cache(maxsize=1)
+def whole(stream: TextIO) -> bytes:
+    """All bytes of a stream. It is read once, however often a dump is read."""
+    return stream.buffer.read()
 
 
 def files_at(place: str) -> List[pathlib.Path]:

@@ -20,8 +20,9 @@ from __future__ import annotations
 import itertools
 import threading
 from dataclasses import dataclass
-from typing import Any, Callable, Generic, List, Optional, Sequence, Set, Tuple
+from typing import Any, Callable, Generic, Iterable, List, Optional, Sequence, Set, Tuple
 
+from .bits import Bits, number_of, places_of
 from .crashes import cut_off_by
 from .graphs import Graph, NamedGraph, Node, named_graph
 from .programs import Program
@@ -72,14 +73,30 @@ class Search:
         return found.union(*(self.graph.peers[it] for it in hosts)).difference(hosts)
 
     def count_pairs(self) -> None:
-        """Finds the best crash of all that some two hosts are linked to."""
-        places = {host: at for at, host in enumerate(self.graph.nodes)}
-        masks = {host: sum(1 << places[it] for it in peers) for host, peers in self.graph.peers.items()}
-        for a, b in itertools.combinations(masks, 2):
-            number = bin((masks[a] | masks[b]) & ~(1 << places[a] | 1 << places[b])).count("1")
-            # of three hosts that are left, two can be cut off
-            if number < (len(masks) - 2 if self.best is None else len(self.best)):
-                self.is_better(self.around(a, b))
+        """Finds the best crash of all that some two hosts are linked to. Of two hosts that are not linked and share no
+        peer it strikes as many as both have links, so of these only hosts with few links are looked at."""
+        bits = Bits(self.graph)
+        links = [number_of(it) for it in bits.peers]
+        order = sorted(range(len(links)), key=links.__getitem__)
+        for a in order:
+            near = bits.around(bits.peers[a]) | bits.peers[a]
+            for b in places_of(near >> a + 1 << a + 1):
+                number = number_of((bits.peers[a] | bits.peers[b]) & ~(1 << a | 1 << b))
+                self.try_pair(bits, a, b, number)
+            for b in order:
+                if links[a] + links[b] >= self.most_useful(len(links)):
+                    break
+                if a != b and not near >> b & 1:
+                    self.try_pair(bits, a, b, links[a] + links[b])
+
+    def most_useful(self, hosts: int) -> int:
+        """So many crashes are no better than the best. Of three hosts that are left, two can be cut off."""
+        return hosts - 2 if self.best is None else len(self.best)
+
+    def try_pair(self, bits: Bits, a: int, b: int, number: int) -> None:
+        """Two hosts, by their places, may be cut off by a crash of so many."""
+        if number < self.most_useful(len(bits.nodes)):
+            self.is_better(self.around(bits.nodes[a], bits.nodes[b]))
 
     def cut_between(self, links: Sequence[Link]) -> Optional[Set[int]]:
         """A smallest cut of nodes that parts two of these links, which share no host, where both ends of each are one
@@ -150,6 +167,7 @@ class Search:
 def widest(
     graph: Graph[Node],
     report: Optional[Report[Node]] = None,
+    known: Iterable[Node] = (),
     *,
     workers: Optional[int] = None,
     overlay: Optional[Program] = None,
@@ -157,7 +175,7 @@ def widest(
     progress: Optional[Progress] = None,
 ) -> Optional[Wide[Node]]:
     """The fewest crashes that cut off more than one host, or None if none do: as when every two hosts are linked.
-    `report` is that of the graph, if it is there.
+    `report` is that of the graph, if it is there, and `known` is a crash that may cut off more than one host.
 
     >>> triangles = [("a", "b"), ("b", "c"), ("c", "a"), ("d", "e"), ("e", "f"), ("f", "d")]
     >>> found = widest([*triangles, ("a", "d"), ("b", "e"), ("c", "leaf")])
@@ -171,6 +189,7 @@ def widest(
 
     report = report or ask(named)
     search = Search(named, ask)
+    search.is_better({named.ids[it] for it in known})
     search.is_better({named.ids[it] for it in report.cut})
     if search.best is None:
         search.count_pairs()

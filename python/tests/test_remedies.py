@@ -6,7 +6,9 @@ import random
 import unittest
 
 import tagzirk
+from tagzirk.bounds import number_in, numbers_after
 from tagzirk.graphs import named_graph
+from tagzirk.reports import analysed
 
 from .test_commands import CLIQUES, Commands, edges_of, views_of
 
@@ -113,6 +115,60 @@ class Each(Commands):
             order = [(-len(it.cut_off), it.is_linked, it.k) for it in crashes]
             self.assertEqual(order, sorted(order))
 
+    def test_pairs_against_the_definition(self):
+        source = random.Random(16)
+        for _ in range(8):
+            nodes, links = some_graph(source, 8)
+            crashes = tagzirk.each(views_of(nodes, links), is_of_pairs=True, workers=1)
+            self.assertEqual({frozenset(it.name) for it in crashes}, set(map(frozenset, itertools.combinations(nodes, 2))))
+            for it in crashes:
+                left = [node for node in nodes if node not in it.name]
+                kept = [link for link in links if not set(link) & set(it.name)]
+                fewest = fewest_that_cut_off(left, kept, 1)
+                self.assertEqual((it.k, it.is_linked), (len(left) - 1 if fewest is None else fewest, fewest is None), links)
+                self.assertEqual(len(it.cut_off), number_cut_off(nodes, links, it.name))
+
+    def test_few_certificates(self):
+        # in a ring of rings no crash of a host that has more than three links is in a smallest cut, but for the gates
+        ring = [(at, (at + step) % 40) for at in range(40) for step in (1, 2)]
+        other = [(a + 100, b + 100) for a, b in ring]
+        graph = named_graph([*ring, *other, (0, 100), (10, 110), (20, 120)])
+        asked = []
+
+        def ask(of, members):
+            asked.append(of)
+            return analysed(of, members)
+
+        hosts = [1 << at for at in range(len(graph.ids))]
+        numbers = numbers_after(graph, number_in(analysed(graph)), hosts, ask, 1)
+        gates = {0, 10, 20, 100, 110, 120}
+        for at, host in enumerate(graph.nodes):
+            self.assertEqual(numbers[1 << at].k, 2 if host in gates else 3, host)
+        self.assertLess(len(asked), len(hosts) / 4)
+
+    def test_racks_that_are_not_in_the_dump(self):
+        path, racks = self.file("net", edges_of(CLIQUES)), self.file("racks", "a R1\nx R1\ny R2\n")
+        out, err, status = self.tagzirk("each", path, "--racks", racks, "--csv")
+        self.assertEqual((out.splitlines()[1:], status), (["R1,1,1,0,0,"], 0))
+        self.assertIn(f"{racks}: not in the dump, and so passed over: x, y\n", err)
+
+    def test_pairs_of_racks_and_the_fewest(self):
+        # c alone cuts off the leaf; of the racks below none does, and R1 with R2 cuts off c and leaf
+        path = self.file("net", edges_of(CLIQUES))
+        racks = self.file("racks", "a R1\nb R2\nd R3\nf R4\n")
+        out, err, status = self.tagzirk("each", path, "--racks", racks, "--pairs", "--site", "^([a-f])$")
+        self.assertEqual(status, 0)
+        self.assertIn(
+            "The fewest racks whose loss splits it are 2: racks R1, R2 cut off 2 hosts: c, leaf; site c (1 host) is cut off"
+            ,
+            out,
+        )
+        self.assertIn("R1 + R2                       0  2 hosts: c, leaf; site c (1 host) is cut off\n", out)
+        self.assertEqual(len(out.split("\n\n")[1].splitlines()), 1 + 6)
+        said = json.loads(self.tagzirk("each", path, "--racks", racks, "--json")[0])
+        self.assertEqual(said["fewest_racks"], {"racks": ["R1", "R2"], "cut_off": ["c", "leaf"], "number": 2, "tried": 2})
+        self.assertEqual({it["name"]: it["k"] for it in said["crashes"]}, dict.fromkeys(("R1", "R2", "R3", "R4"), 1))
+
     def test_racks(self):
         path, racks = self.file("net", edges_of(CLIQUES)), self.file("racks", "# host rack\na R1\nb R1\nd,R2\n")
         out, err, status = self.tagzirk("each", path, "--racks", racks, "--csv")
@@ -123,7 +179,7 @@ class Each(Commands):
         everybody = self.file("racks.json", json.dumps({"all": sorted("abcdef") + ["leaf"]}))
         self.assertIn("all,7,,0,0,\n", self.tagzirk("each", path, "--racks", everybody, "--csv")[0])
         for text, told in (
-            ("a R1\nx R1\n", "x, which is no host"),
+            ("x R1\n", "none of its 1 hosts is in the dump, as x"),
             ("a\n", "line 1 is no host"),
             ("", "no rack"),
             ("{", "no JSON"),
@@ -135,15 +191,16 @@ class Each(Commands):
         out, _, status = self.tagzirk("each", self.file("net", edges_of(CLIQUES)))
         self.assertEqual(status, 0)
         self.assertEqual(
-            out.splitlines()[:4],
+            out.splitlines()[:5],
             [
                 "k is 1 now: Crashing c separates leaf from a. Fewer crashes separate no two surviving nodes.",
+                "No other single crash cuts off anybody.",
                 "The fewest crashes that cut off more than one host are 2: a, b cut off 2 hosts: c, leaf.",
                 "",
                 "after the crash of host  k  cut off",
             ],
         )
-        self.assertEqual(out.splitlines()[4], "c                        0  1 host: leaf")
+        self.assertEqual(out.splitlines()[5], "c                        0  1 host: leaf")
         self.assertIn("a                        1  nobody", out)
 
 

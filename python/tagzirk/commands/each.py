@@ -4,22 +4,42 @@ from __future__ import annotations
 
 import argparse
 import csv
+import json
 import pathlib
 import sys
-from typing import TYPE_CHECKING, Dict, List, Optional
+from dataclasses import dataclass
+from typing import TYPE_CHECKING, Any, Dict, List, Optional
 
 from .. import slips
-from ..crashes import Crash, each, racks_of
+from ..crashes import Crash, badness, each
 from ..errors import BadDump
 from ..graphs import NamedGraph, shown
+from ..naming import hosts_of
 from ..pages import counted
 from ..progress import Progress
+from ..racks import Loss, fewest_racks, racks_of
 from ..reports import Report, analysed
+from ..sites import Sites
 from ..wide import Wide, widest
-from .words import Parents, command, dump_of, some, told
+from ..worst import Worst, worst
+from .telling import (
+    rack_line,
+    site_lines,
+    site_part,
+    value_of_crash,
+    value_of_loss,
+    value_of_wide,
+    value_of_worst,
+    worst_lines,
+)
+from .words import Parents, at_least_one, command, dump_of, some, told
 
 if TYPE_CHECKING:
     from .words import Commands
+
+# So many pairs are shown, unless more are asked for.
+MOST_PAIRS = 30
+MOST_WORST = 10
 
 
 def add(commands: Commands, parents: Parents) -> None:
@@ -27,7 +47,70 @@ def add(commands: Commands, parents: Parents) -> None:
     text = "tell what each single crash does, of a host or of a rack"
     it = command(commands, "each", run_each, text, parents.dump, parents.at_once)
     it.add_argument("--racks", metavar="RACKS", help="a file of lines HOST RACK: all hosts of a rack crash at once")
+    it.add_argument("--pairs", action="store_true", help="every two hosts, or racks, crash together")
+    it.add_argument("--rows", type=at_least_one, metavar="N", help=f"print the N worst; of pairs {MOST_PAIRS} without it")
+    it.add_argument("--without", action="append", default=[], metavar="HOSTS", help="as if these had crashed before")
+    it.add_argument("--site", metavar="REGEX", help="the site of a host, by its name: `^([a-z]+)-` is hel of hel-7")
     it.add_argument("--csv", action="store_true", help="print the table as CSV, and nothing else")
+    it.add_argument("--json", action="store_true", help="print all of it as JSON, and nothing else")
+
+
+@dataclass(frozen=True)
+class Told:
+    """All that is told of crashes, and what one is of: `host`, `rack`, or a pair of these."""
+
+    kind: str
+    report: Report[str]
+    crashes: List[Crash[str]]
+    worst: Worst[str]
+    wide: Optional[Wide[str]]
+    loss: Optional[Loss[str]]
+    sites: Optional[Sites]
+
+
+def run_each(words: argparse.Namespace) -> int:
+    """Prints what each single crash does."""
+    graph = dump_of(words).graph
+    left_out = hosts_of(words.without, list(graph.ids), "--without")
+    graph = graph.without({graph.ids[it] for it in left_out})
+    racks = racks_in(words.racks, graph, left_out) if words.racks else None
+    sites = Sites(words.site, graph.ids) if words.site else None
+    kind = "host" if racks is None else "rack"
+    with Progress() as progress:
+        report: Report[str] = analysed(graph)
+        crashes = each(graph, racks, report, is_of_pairs=words.pairs, workers=words.workers, progress=progress)
+        if words.csv:
+            progress.end()
+            write_crashes(crashes[: words.rows], f"{kind}s" if words.pairs else kind)
+            return 0
+        found = worst(graph, report, workers=words.workers, progress=progress)
+        known = found.cuts[0].crashed if found.cuts else ()
+        wide = widest(graph, report, known, workers=words.workers, progress=progress)
+        loss = None if racks is None else fewest_racks(graph, racks, progress)
+    crashes = crashes if words.pairs else sorted(crashes, key=lambda it: (*badness(it), -at_stake(it, found)))
+    of = Told(kind, report, crashes, found, wide, loss, sites)
+    if words.json:
+        print(json.dumps(value_of(of, words.rows), ensure_ascii=False))
+    else:
+        print("\n".join([*lines_of(of), "", *table_of(of, words.pairs, words.rows)]))
+    return 0
+
+
+def at_stake(crash: Crash[str], found: Worst[str]) -> int:
+    """How many hosts are cut off by the worst of the smallest cuts that were found with a host that crashes."""
+    return max((len(found.of[it].cut_off) for it in crash.hosts if it in found.of), default=0)
+
+
+def lines_of(of: Told) -> List[str]:
+    """What is told above the table."""
+    rack = "" if of.loss is None else " The hosts of a rack crash at once; k counts hosts, of any racks."
+    return [
+        f"k is {of.report.k} now: {of.report}{rack}",
+        *worst_lines(of.worst, of.report.k, of.sites, MOST_WORST),
+        said_of(of.wide),
+        *(site_lines(of.sites, of.wide.crashed, of.wide.cut_off) if of.wide else []),
+        *([] if of.loss is None else [rack_line(of.loss, of.sites)]),
+    ]
 
 
 def said_of(wide: Optional[Wide[str]]) -> str:
@@ -44,15 +127,38 @@ def said_of(wide: Optional[Wide[str]]) -> str:
     return f"{number} cut off more than one host: {who}. {between}"
 
 
-def text_of_crashes(crashes: List[Crash[str]], kind: str) -> str:
-    """The crashes as a table for a person."""
-    rows = [(f"after the crash of {kind}", "k", "cut off")]
-    for it in crashes:
-        number = "-" if it.k is None else f"{it.k} all linked" if it.is_linked else str(it.k)
-        away = f"{counted(len(it.cut_off), 'host')}: {some(it.cut_off)}" if it.cut_off else "nobody"
-        rows.append((shown(it.name), number, away))
-    wide = [max(len(row[at]) for row in rows) for at in range(2)]
-    return "".join(f"{a:{wide[0]}}  {b:{wide[1]}}  {c}\n" for a, b, c in rows)
+def name_of(crash: Crash[str]) -> str:
+    """The name of a host or a rack, or both names of a pair."""
+    return " + ".join(map(shown, crash.name)) if isinstance(crash.name, tuple) else shown(crash.name)
+
+
+def table_of(of: Told, is_of_pairs: bool, rows: Optional[int]) -> List[str]:
+    """The crashes as a table for a person: all, or the worst."""
+    number = rows or (MOST_PAIRS if is_of_pairs else len(of.crashes))
+    cells = [(f"after the crash of {'two ' if is_of_pairs else ''}{of.kind}{'s' if is_of_pairs else ''}", "k", "cut off")]
+    for it in of.crashes[:number]:
+        k = "-" if it.k is None else f"{it.k} all linked" if it.is_linked else str(it.k)
+        cells.append((name_of(it), k, said_of_crash(it, of)))
+    wide = [max(len(row[at]) for row in cells) for at in range(2)]
+    lines = [f"{a:{wide[0]}}  {b:{wide[1]}}  {c}" for a, b, c in cells]
+    if number < len(of.crashes):
+        rest = of.crashes[number]
+        k = "all linked" if rest.is_linked else f"k {rest.k} or more"
+        lines.append(f"and {len(of.crashes) - number} more, with {k}; --rows N shows N, --csv and --json have all")
+    return lines
+
+
+def said_of_crash(crash: Crash[str], of: Told) -> str:
+    """Who is cut off by a crash, or else by it and what is missing of the worst of the smallest cuts with that host."""
+    if crash.cut_off:
+        sites = site_part(of.sites, crash.hosts, crash.cut_off)
+        return f"{counted(len(crash.cut_off), 'host')}: {some(crash.cut_off)}{sites}"
+    cut = of.worst.of.get(crash.hosts[0]) if len(crash.hosts) == 1 else None
+    others = [it for it in cut.crashed if it not in crash.hosts] if cut else []
+    if not cut or not others:
+        return "nobody"
+    too = "crashes too" if len(others) == 1 else "crash too"
+    return f"nobody; {counted(len(cut.cut_off), 'host')} if {some(others)} {too}"
 
 
 def write_crashes(crashes: List[Crash[str]], kind: str) -> None:
@@ -62,7 +168,7 @@ def write_crashes(crashes: List[Crash[str]], kind: str) -> None:
     for it in crashes:
         rows.writerow(
             (
-                shown(it.name),
+                ";".join(map(shown, it.name)) if isinstance(it.name, tuple) else shown(it.name),
                 len(it.hosts),
                 "" if it.k is None else it.k,
                 int(it.is_linked),
@@ -72,8 +178,22 @@ def write_crashes(crashes: List[Crash[str]], kind: str) -> None:
         )
 
 
-def racks_in(place: str, graph: NamedGraph[str]) -> Dict[str, List[str]]:
-    """The racks that a file names. Who is in none is told."""
+def value_of(of: Told, rows: Optional[int]) -> Dict[str, Any]:
+    """All of it, for JSON."""
+    return {
+        "k": of.report.k,
+        "all_linked": of.report.is_linked,
+        "cut": list(of.report.cut),
+        "worst": value_of_worst(of.worst),
+        "fewest_that_cut_off_more_than_one": None if of.wide is None else value_of_wide(of.wide),
+        "fewest_racks": None if of.loss is None else value_of_loss(of.loss),
+        "crashes": [value_of_crash(it, of.sites) for it in of.crashes[:rows]],
+    }
+
+
+def racks_in(place: str, graph: NamedGraph[str], left_out: List[str]) -> Dict[str, List[str]]:
+    """The racks that a file names, with those hosts that are in the dump. Who is in none is told, and who is not in the
+    dump."""
     data = pathlib.Path(place).read_bytes()
     swapped = f"\ntip: the dump is named without an option, and racks by one: tagzirk each {place} --racks RACKS"
     try:
@@ -87,25 +207,13 @@ def racks_in(place: str, graph: NamedGraph[str]) -> Dict[str, List[str]]:
     if all(rack in graph.ids and hosts != [rack] for rack, hosts in racks.items()):
         raise BadDump(f"{place}: each rack in it has the name of a host, so it is likely to be the dump{swapped}")
     known = {host for hosts in racks.values() for host in hosts}
+    here = {rack: [it for it in hosts if it in graph.ids] for rack, hosts in racks.items()}
+    if not any(here.values()):
+        raise BadDump(f"{place}: none of its {len(known)} hosts is in the dump, as {shown(min(known))}")
+    gone = sorted(it for it in known if it not in graph.ids and it not in left_out)
+    if gone:
+        told(f"{place}: not in the dump, and so passed over: {some(gone)}")
     lost = [host for host in graph.ids if host not in known]
     if lost:
         told(f"in no rack, and so never crashing here: {some(lost)}")
-    return racks
-
-
-def run_each(words: argparse.Namespace) -> int:
-    """Prints what each single crash does."""
-    graph = dump_of(words).graph
-    racks = racks_in(words.racks, graph) if words.racks else None
-    with Progress() as progress:
-        crashes = each(graph, racks, workers=words.workers, progress=progress)
-        kind = "rack" if racks is not None else "host"
-        if words.csv:
-            progress.end()
-            write_crashes(crashes, kind)
-            return 0
-        report: Report[str] = analysed(graph)
-        wide = widest(graph, report, workers=words.workers, progress=progress)
-    rack = " The hosts of a rack crash at once; k counts hosts, of any racks." if racks is not None else ""
-    print(f"k is {report.k} now: {report}{rack}\n{said_of(wide)}\n\n{text_of_crashes(crashes, kind)}", end="")
-    return 0
+    return {rack: hosts for rack, hosts in here.items() if hosts}

@@ -1,0 +1,109 @@
+"""Hosts that crash at once, as those of a rack: who they are, and the fewest racks whose loss splits an overlay."""
+
+from __future__ import annotations
+
+import csv
+import itertools
+import json
+import math
+from dataclasses import dataclass
+from typing import Any, Dict, Generic, Iterable, List, Mapping, Optional, Set, Tuple
+
+from .bits import Bits, Hosts, number_of
+from .errors import BadDump, BadGraph
+from .graphs import NamedGraph, Node, is_name, shown
+from .progress import Progress
+
+# So many racks at most are lost at once, and so many sets of racks are tried.
+MOST_RACKS, MOST_SETS = 3, 200_000
+
+
+@dataclass(frozen=True)
+class Loss(Generic[Node]):
+    """The fewest racks whose loss leaves hosts that don't reach each other. `racks` are those that cut off most, whom
+    `cut_off` has; `number` is how many sets of so many racks split the overlay. If no racks do, `racks` is None; no
+    `tried` racks at once were found to, by trying all."""
+
+    racks: Optional[Tuple[Any, ...]]
+    cut_off: Tuple[Node, ...]
+    number: int
+    tried: int
+
+
+def fewest_racks(
+    graph: NamedGraph[Node], racks: Mapping[Any, Iterable[Node]], progress: Optional[Progress] = None
+) -> Loss[Node]:
+    """The fewest racks whose loss splits an overlay, by trying all: none, each, every two, and every three.
+
+    >>> from tagzirk.graphs import named_graph
+    >>> ring = named_graph([("a", "b"), ("b", "c"), ("c", "d"), ("d", "e"), ("e", "a")])
+    >>> fewest_racks(ring, {"R1": ["a"], "R2": ["b"], "R3": ["d", "e"], "R4": ["c"]})
+    Loss(racks=('R1', 'R4'), cut_off=('b',), number=2, tried=2)
+    """
+    bits, names = Bits(graph), graph.names
+    groups = [(rack, bits.of(ids_of_rack(graph, rack, hosts))) for rack, hosts in racks.items()]
+    tried = -1
+    for number in range(min(MOST_RACKS, len(groups)) + 1):
+        if math.comb(len(groups), number) > MOST_SETS:
+            break
+        lost = [(them, crashed) for them, crashed in sets_of(groups, number, progress) if bits.is_split(crashed)]
+        tried = number
+        if lost:
+            them, crashed = max(lost, key=lambda it: number_of(bits.cut_off(it[1])))
+            cut_off = tuple(names[it] for it in bits.ids(bits.cut_off(crashed)))
+            return Loss(them, cut_off, len(lost), tried)
+    return Loss(None, (), 0, tried)
+
+
+def sets_of(
+    groups: List[Tuple[Any, Hosts]], number: int, progress: Optional[Progress]
+) -> Iterable[Tuple[Tuple[Any, ...], Hosts]]:
+    """Every so many racks, with all their hosts."""
+    for at, them in enumerate(itertools.combinations(groups, number), 1):
+        hosts = 0
+        for _, of_rack in them:
+            hosts |= of_rack
+        if progress:
+            progress.tell(f"every {number} racks: {at}")
+        yield tuple(rack for rack, _ in them), hosts
+
+
+def ids_of_rack(graph: NamedGraph[Any], rack: Any, hosts: Iterable[Any]) -> Set[int]:
+    """The ids of the hosts of a rack."""
+    found = set()
+    for host in hosts:
+        if not is_name(host) or host not in graph.ids:
+            raise BadGraph(f"the rack {shown(rack)} has {shown(host)}, which is no host of the overlay")
+        found.add(graph.ids[host])
+    return found
+
+
+def racks_of(text: str, name: str) -> Dict[str, List[str]]:
+    """The hosts of each rack, by a file: lines `HOST RACK`, or with a comma or a tab between; or a JSON object, of each
+    rack's list of hosts or of each host's rack.
+
+    >>> racks_of("oslo-1 R1\\noslo-2 R1\\nberlin-1 R2\\n", "racks")
+    {'R1': ['oslo-1', 'oslo-2'], 'R2': ['berlin-1']}
+    """
+    racks: Dict[str, List[str]] = {}
+    if text.lstrip().startswith("{"):
+        try:
+            said = json.loads(text)
+        except json.JSONDecodeError as why:
+            raise BadDump(f"{name}: line {why.lineno}: it is no JSON: {why.msg}") from None
+        for key, value in said.items():
+            if isinstance(value, list):
+                racks.setdefault(key, []).extend(map(str, value))
+            else:
+                racks.setdefault(str(value), []).append(key)
+        return racks
+    for number, line in enumerate(text.splitlines(), 1):
+        bare = line.strip()
+        if not bare or bare.startswith("#"):
+            continue
+        between = next((it for it in "\t;," if it in bare), None)
+        words = [it.strip() for it in next(csv.reader([bare], delimiter=between))] if between else bare.split()
+        if len(words) != 2 or not all(words):
+            raise BadDump(f"{name}: line {number} is no host with its rack: {shown(bare)}")
+        racks.setdefault(words[1], []).append(words[0])
+    return racks

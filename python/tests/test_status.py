@@ -1,0 +1,169 @@
+"""Tests of what an operator asks first, of the worst of the smallest cuts, and of racks and sites: against the
+definitions, by trying all crashes of small graphs."""
+
+import itertools
+import json
+import random
+import unittest
+
+import tagzirk
+from tagzirk.graphs import named_graph
+from tagzirk.racks import fewest_racks
+from tagzirk.worst import worst
+
+from .test_commands import CLIQUES, Commands, edges_of, views_of
+from .test_remedies import fewest_that_cut_off, number_cut_off, pieces_of, some_graph
+
+# Three sites of four hosts, each in a ring with both diagonals; relays join each site with the next one.
+SITES = {site: [f"{site}-{at}.example.net" for at in range(4)] for site in ("fra", "hel", "ams")}
+RELAYS = ["relay-1", "relay-2"]
+OVERLAY = [
+    *(link for hosts in SITES.values() for link in itertools.combinations(hosts, 2)),
+    *((relay, hosts[at]) for hosts in SITES.values() for at, relay in enumerate(RELAYS)),
+]
+
+
+def dump_with_dead():
+    """The overlay as views in JSON, in which two hosts list a dead one."""
+    nodes = [*itertools.chain(*SITES.values()), *RELAYS]
+    views = views_of(nodes, OVERLAY)
+    views["relay-1"].append("fra-9.example.net")
+    views["hel-3.example.net"].append("fra-9.example.net")
+    return json.dumps(views)
+
+
+class Status(Commands):
+    def setUp(self):
+        super().setUp()
+        self.dump = self.file("net.json", dump_with_dead())
+
+    def lines(self, *words):
+        out, _, status = self.tagzirk("status", self.dump, *words)
+        self.assertEqual(status, 0, out)
+        return out.splitlines()
+
+    def test_what_is_printed(self):
+        # without both relays each site is alone, and without fewer hosts nobody is
+        lines = self.lines("--site", "^([a-z]+)-[0-9]+[.]")
+        self.assertEqual(lines[0], "k is 2: of 14 hosts, a crash of relay-1, relay-2 cuts off 8 hosts, and fewer crashes "
+                                   "cut off nobody.")
+        self.assertIn("Sites fra (4 hosts), hel (4 hosts) are cut off.", lines)
+        self.assertEqual(
+            lines[-1],
+            "fra-9.example.net: listed by others, without an entry, and so left out, as dead (this is what --entries "
+            "does). With it k is 0.",
+        )
+        self.assertEqual(self.tagzirk("status", self.dump)[0], self.tagzirk("analyse", self.dump)[0])
+        with open(self.dump, encoding="utf-8") as file:
+            self.assertEqual(self.tagzirk("status", given=file.read())[0], self.tagzirk("status", self.dump)[0])
+
+    def test_json(self):
+        said = json.loads("".join(self.lines("--json", "--without", "relay-1", "--at-least", "1")))
+        # relay-2 alone joins the sites then
+        self.assertEqual((said["k"], len(said["cut"]), said["left_out"], said["hosts"]), (1, 1, ["relay-1"], 13))
+        worst_cut = said["worst"]["cuts"][0]
+        self.assertEqual((worst_cut["crashed"], len(worst_cut["cut_off"]), worst_cut["pieces"]), (["relay-2"], 8, 3))
+        self.assertEqual((said["status"], said["with_dead"]["k"], said["one_sided"]), ("OK", 0, 2))
+
+    def test_statuses_of_an_alarm(self):
+        split = self.file("split.json", json.dumps(views_of("abcd", [("a", "b"), ("c", "d")])))
+        torn = self.file("torn.json", '{"a": ["b"')
+        for path, at_least, status, word in (
+            (self.dump, 2, 0, "OK"),
+            (self.dump, 3, 1, "WARNING"),
+            (split, 1, 2, "CRITICAL"),
+            (torn, 1, 3, "UNKNOWN"),
+            (self.room / "gone.json", 1, 3, "UNKNOWN"),
+        ):
+            out, _, given = self.tagzirk("status", path, "--at-least", at_least)
+            self.assertEqual((given, out.split(" - ")[0]), (status, word), out)
+        self.assertIn("|k=2;3:;1:;0 hosts=14;;;0 links=24;;;0\n", self.tagzirk("status", self.dump, "--at-least", 3)[0])
+
+    def test_names(self):
+        self.assertEqual(self.lines("--without", "relay-1,hel-0")[-2], "Left out, as --without says: relay-1, hel-0.example.net.")
+        listed = self.file("down.txt", "# down since nine\nrelay-1\n\nhel-0.example.net\n")
+        self.assertEqual(self.lines("--without", f"@{listed}"), self.lines("--without", "relay-1,hel-0"))
+        # two sites are joined by both relays; hosts of one site are all linked
+        self.assertRegex(self.lines("--group", "fra-2,hel-2")[0], "^k is 2 for the 2 hosts of the group: Crashing ")
+        self.assertIn("k is 3: every two of the 4 hosts of the group are linked", "".join(
+            self.lines("--group", ",".join(SITES["fra"]))))
+        for word, told in (
+            ("relay-3", "relay-3 is no host of the dump; did you mean relay-"),
+            ("Fra-0", "Fra-0 is no host of the dump; did you mean fra-0"),
+            ("", "--without '' names no host"),
+        ):
+            _, err, status = self.tagzirk("status", self.dump, "--without", word)
+            self.assertEqual((status, told in err), (1, True), err)
+        both = self.file("both", "a.x b\na.y b\n")
+        self.assertIn("a is short for 2 hosts: a.x, a.y; name one", self.tagzirk("status", both, "--without", "a")[1])
+
+
+class Worst(unittest.TestCase):
+    def test_against_the_definition(self):
+        source = random.Random(17)
+        for _ in range(30):
+            nodes, links = some_graph(source, 9)
+            graph = named_graph(views_of(nodes, links))
+            found = worst(graph, workers=1)
+            k = fewest_that_cut_off(nodes, links, 1)
+            if k is None:
+                self.assertEqual((found.cuts, found.is_all), ((), True))
+                continue
+            cuts = {it: number_cut_off(nodes, links, it) for it in itertools.combinations(sorted(nodes), k)}
+            cuts = {it: number for it, number in cuts.items() if number}
+            self.assertEqual((found.found, found.is_all), (len(cuts), True), links)
+            self.assertEqual([len(it.cut_off) for it in found.cuts], sorted(cuts.values(), reverse=True)[:10])
+            for it in found.cuts:
+                self.assertEqual(cuts[tuple(sorted(it.crashed))], len(it.cut_off))
+                self.assertEqual(it.pieces, len(pieces_of(nodes, links, it.crashed)))
+            for host in nodes:
+                most = max((number for cut, number in cuts.items() if host in cut), default=None)
+                self.assertEqual(len(found.of[host].cut_off) if host in found.of else None, most)
+
+    def test_where_not_all_are_tried(self):
+        # sixty pods of seven hosts, three of which are linked to three spines
+        pods = [[f"pod{pod}-{at}" for at in range(7)] for pod in range(60)]
+        links = [link for hosts in pods for link in itertools.combinations(hosts, 2)]
+        links += [(hosts[at], f"spine-{spine}") for hosts in pods for at in range(3) for spine in "abc"]
+        found = worst(links)
+        self.assertFalse(found.is_all)
+        self.assertEqual(found.cuts[0].crashed, ("spine-a", "spine-b", "spine-c"))
+        self.assertEqual((len(found.cuts[0].cut_off), found.cuts[0].pieces), (59 * 7, 60))
+
+
+class Racks(unittest.TestCase):
+    def test_against_the_definition(self):
+        source = random.Random(18)
+        for _ in range(20):
+            nodes, links = some_graph(source, 9)
+            racks = {}
+            for node in nodes:
+                racks.setdefault(f"R{source.randint(1, 4)}", []).append(node)
+            graph = named_graph(views_of(nodes, links))
+            loss = fewest_racks(graph, racks)
+            for number in range(min(3, len(racks)) + 1):
+                lost = {them: [host for rack in them for host in racks[rack]]
+                        for them in itertools.combinations(racks, number)}
+                split = {them: number_cut_off(nodes, links, hosts) for them, hosts in lost.items()}
+                split = {them: away for them, away in split.items() if away}
+                if split:
+                    self.assertEqual((len(loss.racks), loss.number, loss.tried), (number, len(split), number), links)
+                    self.assertEqual((split[loss.racks], len(loss.cut_off)), (max(split.values()), max(split.values())))
+                    break
+            else:
+                self.assertEqual((loss.racks, loss.tried), (None, min(3, len(racks))))
+
+
+class Large(unittest.TestCase):
+    def test_each_of_many_hosts_asks_little(self):
+        # a ring in which each host is linked to the two next ones, and a leaf: k is 1, and 4 without the leaf
+        ring = [(at, (at + step) % 300) for at in range(300) for step in (1, 2)]
+        crashes = {it.name: it for it in tagzirk.each([*ring, (0, 1000)])}
+        self.assertEqual({name for name, it in crashes.items() if it.cut_off}, {0})
+        self.assertEqual((crashes[0].k, crashes[0].cut_off), (0, (1000,)))
+        self.assertEqual({it.k for name, it in crashes.items() if name not in (0, 1000)}, {1})
+        self.assertEqual(crashes[1000].k, 4)
+
+
+if __name__ == "__main__":
+    unittest.main()
