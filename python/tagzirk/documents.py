@@ -21,6 +21,7 @@ from .values import (
     item_of,
     key_in,
     name_of,
+    naming_part,
     one_of,
     said_of,
     short,
@@ -46,10 +47,16 @@ def ends_in(value: Any, asked: Asked = Asked()) -> Optional[Ends]:
     >>> ends_in({"source": "a", "target": "b", "state": "up"})
     Ends(one='a', other='b', is_listing=False, said={'state': 'up'})
     """
-    inner = value.get("data", value) if isinstance(value, dict) else None
-    if not isinstance(inner, dict):
+    if not isinstance(value, dict):
         return None
-    around = {} if inner is value else said_of(value, "data")
+    found = ends_of(value, {}, asked)
+    if not found and isinstance(value.get("data"), dict):
+        found = ends_of(value["data"], said_of(value, "data"), asked)
+    return found
+
+
+def ends_of(inner: Dict[str, Any], around: Said, asked: Asked) -> Optional[Ends]:
+    """Both ends that an object says, with what is said around it."""
     for one, other in asked_ends(asked) or LINK_ENDS:
         try:
             ends = at_path(inner, one), at_path(inner, other)
@@ -215,8 +222,8 @@ def link_in(value: Any, asked: Asked) -> Optional[Ends]:
 
 def key_of(node: Any) -> str:
     """What the ends of links call a node: its id, or if it has none its name."""
-    inner = node.get("data", node) if isinstance(node, dict) else node
-    return name_of(inner["id"]) if isinstance(inner, dict) and "id" in inner else name_of(node)
+    inner = naming_part(node) if isinstance(node, dict) else {}
+    return name_of(inner["id"]) if "id" in inner else name_of(node)
 
 
 def of_nodes(nodes: List[Any], links: Any, is_directed: bool, asked: Asked) -> Views:
@@ -282,14 +289,15 @@ def of_list(value: List[Any], asked: Asked) -> Views:
 
 def entries_in(views: Views, it: Dict[str, Any], asked: Asked) -> List[Entry]:
     """The host that an object of a list says, with its peers; or all hosts, if it has such by their names."""
-    is_named = key_in(it, (asked.by,) if asked.by else NAME_KEYS) or isinstance(it.get("data"), dict)
+    names = (asked.by,) if asked.by else NAME_KEYS
+    is_named = key_in(naming_part(it, asked.by), names)
     if not is_named and it:
         return [Entry(name, inner) for name, inner in it.items()]
     name, said = item_of(it, asked.by)
-    if "data" in it and not key_in(it, PEER_KEYS):
+    if naming_part(it, asked.by) is not it and not key_in(it, PEER_KEYS):
         views.enter(name, said)
         return []
-    naming = next(key for key in ((asked.by,) if asked.by else NAME_KEYS) if key in it or "data" in it)
+    naming = key_in(it, names)
     return [Entry(name, {key: inner for key, inner in it.items() if key != naming})]
 
 

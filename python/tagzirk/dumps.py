@@ -15,6 +15,7 @@ from .asked import Asked
 from .errors import BadDump, LibraryMissing, Refused
 from .folders import of_hosts
 from .dot import of_dot
+from .hosts import SeveralLists
 from .forms import NATIVE, form_of, listings_of
 from .texts import decoded, text_of
 from .taken import taken_of
@@ -178,8 +179,11 @@ def read_dump(
             what = of_contents(data, is_surely=False)
             raise BadDump(f"{place} is no dump: it is {what}") if what else named_error(why, str(place)) from None
     files = contents_of(places)
-    views = of_hosts(files, options.asked)
     name = places[0] if len(places) == 1 else f"{len(files)} files"
+    try:
+        views = of_hosts(files, options.asked)
+    except SeveralLists as why:
+        raise named_error(why, name) from None
     told = f"read {views.kind}" if len(places) > 1 else f"{name} was read as {views.kind}"
     try:
         return of_views(views, name, options, [told], overlay)

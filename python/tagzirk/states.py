@@ -36,7 +36,8 @@ KIND_NAMES = frozenset(
 )
 MEASURE_NAMES = frozenset(
     """weight w cost metric distance dist length len hops hop bandwidth bw speed capacity rate mtu priority prio rank
-    preference level order x y z lat lon pos width height size penwidth label""".split()
+    preference level order rtt latency ping delay jitter loss rx tx bytes quality x y z lat lon pos width height
+    size penwidth label""".split()
 )
 # Names of how a link or a host is drawn.
 LOOK_NAMES = frozenset("color colour fillcolor style shape class classes".split())
@@ -158,7 +159,8 @@ def by_identity(field: Field) -> Optional[Kind]:
         of_host: Dict[str, Set[str]] = {}
         for who, value in pairs:
             of_host.setdefault(who[place], set()).add(value)
-        if all(len(it) == 1 for it in of_host.values()) and len(set().union(*of_host.values())) == len(of_host):
+        is_of_each = all(len(it) == 1 for it in of_host.values()) and len(of_host) < len(pairs)
+        if is_of_each and len(set().union(*of_host.values())) == len(of_host):
             return Kind.NONE
     return Kind.NONE if len(set(it for _, it in pairs)) == len(pairs) and not is_numeric(field) else None
 
@@ -175,7 +177,8 @@ def by_number(field: Field) -> Optional[Kind]:
     numbers = {it for it in field.numbers if it is not None}
     if 0 in numbers and len(numbers) > 1 and not is_named(field, KIND_NAMES):
         return Kind.ASKED if field.name == "value" else Kind.TOLD
-    is_plain = is_named(field, KIND_NAMES | MEASURE_NAMES | BEGIN_NAMES) or len(numbers) > MOST_VALUES // 2
+    is_measure = len(numbers) > MOST_VALUES // 2 or not all(it.is_integer() for it in numbers)
+    is_plain = is_measure or is_named(field, KIND_NAMES | MEASURE_NAMES | BEGIN_NAMES)
     if not LARGEST.isdisjoint(numbers) or field.missing and not is_named(field, KIND_NAMES):
         return Kind.TOLD
     return Kind.NONE if is_plain else Kind.TOLD
@@ -186,6 +189,8 @@ def by_few(field: Field) -> Optional[Kind]:
     if is_named(field, KIND_NAMES) or len(field.counts) > MOST_VALUES:
         return None
     if field.is_of_hosts and not is_named(field, LOOK_NAMES):
+        return None
+    if not field.missing and (field.spans or is_named(field, BEGIN_NAMES)):
         return None
     return Kind.TOLD if 2 * len(field.counts) <= len(field.said) + field.missing or field.missing else None
 

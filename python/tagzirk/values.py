@@ -111,8 +111,7 @@ def name_of(value: Any, by: Optional[str] = None) -> str:
     if isinstance(value, int) and not isinstance(value, bool):
         return str(value)
     if isinstance(value, dict):
-        data = value.get("data")
-        inner: Dict[str, Any] = data if isinstance(data, dict) else value
+        inner = naming_part(value, by)
         for key in (by,) if by else NAME_KEYS:
             if isinstance(inner.get(key), (str, int, dict)):
                 return name_of(inner[key], by)
@@ -120,6 +119,13 @@ def name_of(value: Any, by: Optional[str] = None) -> str:
         wanted = f"the field {by}" if by else f"a field {one_of(NAME_KEYS)}"
         raise BadDump(f"an object should name a host by {wanted}, and it has {told}; --by FIELD names another field")
     raise BadDump(f"{short(value)} is no name of a host")
+
+
+def naming_part(value: Dict[str, Any], by: Optional[str] = None) -> Dict[str, Any]:
+    """That part of an object which has its name: itself, or what stands below `data`, as cytoscape writes it."""
+    data = value.get("data")
+    is_own = key_in(value, (by,) if by else NAME_KEYS) is not None or not isinstance(data, dict)
+    return value if is_own else dict(data or {})
 
 
 def short(value: Any) -> str:
@@ -165,8 +171,7 @@ def item_of(value: Any, by: Optional[str] = None) -> Tuple[str, Said]:
     name = name_of(value, by)
     if not isinstance(value, dict):
         return name, {}
-    data = value.get("data")
-    inner: Dict[str, Any] = data if isinstance(data, dict) else value
+    inner = naming_part(value, by)
     naming = next(key for key in ((by,) if by else NAME_KEYS) if isinstance(inner.get(key), (str, int, dict)))
     said = said_of(inner, naming)
     return name, said if inner is value else {**said_of(value, "data"), **said}

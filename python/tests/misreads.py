@@ -8,6 +8,7 @@ HOSTS = [f"n{it}" for it in range(1, 7)]
 ALL = list(itertools.combinations(HOSTS, 2))
 # A ring of six with a chord: crashing n1 and n3, or any two that are no neighbours, splits it.
 UP = {("n1", "n2"), ("n2", "n3"), ("n3", "n4"), ("n4", "n5"), ("n5", "n6"), ("n1", "n6"), ("n1", "n4")}
+DATA = {"data": {"on": 0}}, {"data": {"on": 1}}
 NEW, OLD = "2026-11-30T09:00:0", "2026-11-29T21:13:0"
 
 
@@ -59,6 +60,11 @@ def graph(yes, no, **more):
     return json.dumps({"nodes": [{"id": it} for it in HOSTS], "links": links(yes, no), **more})
 
 
+def elements(edges):
+    """The elements of cytoscape."""
+    return json.dumps({"elements": {"nodes": [{"data": {"id": it}} for it in HOSTS], "edges": edges}})
+
+
 def lines(first, pattern, yes, no, pairs=ALL):
     """A first line, and a line for each pair, by a pattern with {a}, {b} and {it}."""
     return first + "".join(pattern.format(a=a, b=b, it=yes if is_up(a, b) else no) + "\n" for a, b in pairs)
@@ -82,8 +88,8 @@ def graphml(kind, yes, no):
 
 def gexf(yes, no):
     nodes = "".join(f'<node id="{it}" label="{it}"/>' for it in HOSTS)
-    pattern = '<edge id="{a}{b}" source="{a}" target="{b}"><attvalues><attvalue for="0" value="{it}"/></attvalues></edge>'
-    edges = lines("", pattern, yes, no)
+    value = '<attvalues><attvalue for="0" value="{it}"/></attvalues>'
+    edges = lines("", '<edge id="{a}{b}" source="{a}" target="{b}">' + value + "</edge>", yes, no)
     keys = '<attributes class="edge"><attribute id="0" title="status" type="string"/></attributes>'
     return (
         '<gexf xmlns="http://www.gexf.net/1.2draft" version="1.2"><graph defaultedgetype="undirected">'
@@ -113,6 +119,11 @@ def folder(yes, no):
     return {f"{it}.json": json.dumps({"peers": listed}) for it, listed in peers(yes, no).items()}
 
 
+def each(say):
+    """What is said of each host, by its name."""
+    return json.dumps({it: say(it) for it in HOSTS})
+
+
 def with_a_dead_host(**state):
     """Seven hosts, of which n0 is linked with all, and dead."""
     entries = {it: {"peers": ["n0", *up_of(it)], **state["alive"]} for it in HOSTS}
@@ -122,7 +133,10 @@ def with_a_dead_host(**state):
 def spread(yes, no):
     """Values that differ from pair to pair, in turn."""
     yes, no = itertools.cycle(yes), itertools.cycle(no)
-    return {it: {"peers": [{"name": peer, **(next(yes) if is_up(it, peer) else next(no))} for peer in others(it)]} for it in HOSTS}
+    return {
+        it: {"peers": [{"name": peer, **(next(yes) if is_up(it, peer) else next(no))} for peer in others(it)]}
+        for it in HOSTS
+    }
 
 
 def seen(field, yes, no):
@@ -130,7 +144,7 @@ def seen(field, yes, no):
 
 
 # Each dump: its name, its text or the files of its folder, the words with which it is read right or None if no words
-# can, and what is told without them: a refusal with these words in it, or a note if they begin with "note ".
+# can, and some words of the refusal that stands there without them.
 ASKED = [
     ("state.json", hosts({"state": "connected"}, {"state": "disconnected"}), ["--up", "state=connected"], "state"),
     ("up-false.json", hosts({"up": True}, {"up": False}), ["--up", "up=true"], "up is"),
@@ -164,49 +178,139 @@ ASKED = [
     ("ages.json", seen("age", [3, 5, 8], [700, 86400]), ["--up", "age=..60"], "age"),
     ("age-texts.json", seen("heard", ["3s", "12s"], ["2h 3m", "5 days"]), ["--up", "heard=..1m"], "heard"),
     ("never.json", seen("contact", ["3s", "12s"], ["never"]), ["--up", "contact=..1m"], "contact"),
-    ("peers-true-false.json", json.dumps({a: {"peers": it} for a, it in table(True, False).items()}), ["--up", "value=true"], "value"),
-    ("connections.json", json.dumps({a: {"connections": it} for a, it in table({"connected": True}, {"connected": False}).items()}), ["--up", "connected=true"], "connected"),
+    ("peers-true-false.json", each(lambda it: {"peers": table(True, False)[it]}), ["--up", "value=true"], "value"),
+    (
+        "connections.json",
+        each(lambda it: {"connections": table({"connected": True}, {"connected": False})[it]}),
+        ["--up", "connected=true"],
+        "connected",
+    ),
     ("table.json", json.dumps(table(True, False)), ["--up", "value=true"], "value"),
     ("table-objects.json", json.dumps(table({"connected": 1}, {"connected": 0})), ["--up", "connected=1"], "connected"),
     ("table-0-1.json", json.dumps(table(1, 0)), ["--up", "value=1"], "value"),
     ("table-weights.json", json.dumps(table(7, 0)), ["--up", "value=1.."], "value"),
     ("table-null.json", json.dumps(table(7, None)), ["--up", "value=7"], "value"),
-    ("null-peers.json", json.dumps({a: {"peers": it} for a, it in table({"rtt": 1}, None).items()}), ["--up", "rtt=1"], "value"),
+    ("null-peers.json", each(lambda it: {"peers": table({"rtt": 1}, None)[it]}), ["--up", "rtt=1"], "value"),
     ("peers-and-active.json", lists(peers=others, active_view=up_of), ["--peers", "active_view"], "--peers KEY"),
     ("neighbors-and-peers.json", lists(neighbors=up_of, peers=others), ["--peers", "neighbors"], "--peers KEY"),
     ("peers-and-links.json", lists(peers=others, links=up_of), ["--peers", "links"], "--peers KEY"),
     ("peers-and-unknown.json", lists(peers=others, Q=up_of), ["--peers", "Q"], "--peers KEY"),
     ("peers-and-down.json", lists(peers=others, suspects=down_of), None, "--peers KEY"),
     ("active-passive.json", lists(active=up_of, passive=down_of), ["--peers", "active"], "--peers KEY"),
-    ("views-in-peers.json", json.dumps({it: {"peers": {"active": up_of(it), "passive": down_of(it)}} for it in HOSTS}), ["--peers", "peers.active"], "--peers KEY"),
-    ("views.json", json.dumps({it: {"views": {"active": up_of(it), "passive": down_of(it)}} for it in HOSTS}), ["--peers", "views.active"], "--peers KEY"),
-    ("objects-and-links.json", json.dumps({it: {"peers": others(it), "links": [{"to": x} for x in up_of(it)]} for it in HOSTS}), ["--peers", "links", "--by", "to"], "--peers KEY"),
-    ("beside.json", json.dumps({it: {"peers": others(it), "up": [is_up(it, x) for x in others(it)]} for it in HOSTS}), ["--up", "up=true"], "up is"),
-    ("states-by-peer.json", json.dumps({it: {"peers": others(it), "st": {x: "up" if is_up(it, x) else "down" for x in others(it)}} for it in HOSTS}), ["--up", "st=up"], "st is"),
-    ("details.json", json.dumps({it: {"peers": others(it), "info": [{"name": x, "ok": is_up(it, x)} for x in others(it)]} for it in HOSTS}), ["--up", "info.ok=true"], "info.ok"),
+    (
+        "views-in-peers.json",
+        each(lambda it: {"peers": {"active": up_of(it), "passive": down_of(it)}}),
+        ["--peers", "peers.active"],
+        "--peers KEY",
+    ),
+    (
+        "views.json",
+        each(lambda it: {"views": {"active": up_of(it), "passive": down_of(it)}}),
+        ["--peers", "views.active"],
+        "--peers KEY",
+    ),
+    (
+        "objects-and-links.json",
+        each(lambda it: {"peers": others(it), "links": [{"to": x} for x in up_of(it)]}),
+        ["--peers", "links", "--by", "to"],
+        "--peers KEY",
+    ),
+    (
+        "beside.json",
+        each(lambda it: {"peers": others(it), "up": [is_up(it, x) for x in others(it)]}),
+        ["--up", "up=true"],
+        "up is",
+    ),
+    (
+        "states-by-peer.json",
+        each(lambda it: {"peers": others(it), "st": {x: "up" if is_up(it, x) else "down" for x in others(it)}}),
+        ["--up", "st=up"],
+        "st is",
+    ),
+    (
+        "details.json",
+        each(lambda it: {"peers": others(it), "info": [{"name": x, "ok": is_up(it, x)} for x in others(it)]}),
+        ["--up", "info.ok=true"],
+        "info.ok",
+    ),
     ("rows.json", json.dumps(rows({"state": "up"}, {"state": "down"})), ["--up", "state=up"], "state"),
     ("below.json", json.dumps({"taken": 1, "hosts": rows({"up": 1}, {"up": 0})}), ["--up", "up=1"], "up is"),
     ("rows.jsonl", "\n".join(map(json.dumps, rows({"state": "up"}, {"state": "down"}))), ["--up", "state=up"], "state"),
-    ("dead-host.json", with_a_dead_host(alive={"status": "alive"}, dead={"status": "left"}), ["--up", "status=alive"], "status"),
+    (
+        "dead-host.json",
+        with_a_dead_host(alive={"status": "alive"}, dead={"status": "left"}),
+        ["--up", "status=alive"],
+        "status",
+    ),
     ("dead-host-bool.json", with_a_dead_host(alive={"up": True}, dead={"up": False}), ["--up", "up=true"], "up is"),
     ("node-link.json", graph({"status": "up"}, {"status": "down"}), ["--up", "status=up"], "status"),
     ("node-link-some.json", graph({}, {"label": "down"}), ["--up", "label="], "label"),
     ("node-link-null.json", graph({"cost": 1.5}, {"cost": None}), ["--up", "cost=1.5"], "cost"),
     ("d3.json", graph({"value": 1}, {"value": 0}), ["--up", "value=1"], "value"),
-    ("netjson.json", graph({"properties": {"up": True}}, {"properties": {"up": False}}, type="NetworkGraph"), ["--up", "properties.up=true"], "properties.up"),
-    ("cytoscape.json", json.dumps({"elements": {"nodes": [{"data": {"id": it}} for it in HOSTS], "edges": [{"data": it} for it in links({"state": "up"}, {"state": "down"})]}}), ["--up", "state=up"], "state"),
-    ("classes.json", json.dumps({"elements": {"nodes": [{"data": {"id": it}} for it in HOSTS], "edges": [{"data": {"source": a, "target": b}, "classes": "ok" if is_up(a, b) else "dead"} for a, b in ALL]}}), ["--up", "classes=ok"], "classes"),
-    ("jgf.json", json.dumps({"graph": {"nodes": {it: {} for it in HOSTS}, "edges": links({"metadata": {"on": 1}}, {"metadata": {"on": 0}})}}), ["--up", "metadata.on=1"], "metadata.on"),
-    ("two-lists.json", json.dumps({"nodes": HOSTS, "links": links({}, {}), "edges": [it for it in links({}, {}) if is_up(it["source"], it["target"])]}), ["--links", "edges"], "--links KEY"),
+    (
+        "netjson.json",
+        graph({"properties": {"up": True}}, {"properties": {"up": False}}, type="NetworkGraph"),
+        ["--up", "properties.up=true"],
+        "properties.up",
+    ),
+    (
+        "cytoscape.json",
+        elements([{"data": it} for it in links({"state": "up"}, {"state": "down"})]),
+        ["--up", "state=up"],
+        "state",
+    ),
+    (
+        "classes.json",
+        elements([{"data": {"source": a, "target": b}, "classes": "ok" if is_up(a, b) else "dead"} for a, b in ALL]),
+        ["--up", "classes=ok"],
+        "classes",
+    ),
+    (
+        "jgf.json",
+        json.dumps({"graph": {"nodes": dict.fromkeys(HOSTS, {}), "edges": links(DATA[1], DATA[0])}}),
+        ["--up", "data.on=1"],
+        "data.on is",
+    ),
+    (
+        "two-lists.json",
+        graph({}, {}, edges=[{"source": a, "target": b} for a, b in sorted(UP)]),
+        ["--links", "edges"],
+        "--links KEY",
+    ),
     ("down-list.json", graph({}, {}, downLinks=[[a, b] for a, b in ALL if not is_up(a, b)]), None, "--links KEY"),
     ("links.json", json.dumps(links({"state": "up"}, {"state": "down"})), ["--up", "state=up"], "state"),
-    ("links.jsonl", "\n".join(map(json.dumps, links({"ok": True}, {"ok": False}, ("from", "to")))), ["--up", "ok=true"], "ok is"),
-    ("peer-rows.json", json.dumps([{"host": a, "peer": b, "state": "up" if is_up(a, b) else "down"} for a, b in itertools.permutations(HOSTS, 2)]), ["--up", "state=up"], "state"),
-    ("pairs.json", json.dumps([[a, b, {"state": "up" if is_up(a, b) else "down"}] for a, b in ALL]), ["--up", "state=up"], "state"),
+    (
+        "links.jsonl",
+        "\n".join(map(json.dumps, links({"ok": True}, {"ok": False}, ("from", "to")))),
+        ["--up", "ok=true"],
+        "ok is",
+    ),
+    (
+        "peer-rows.json",
+        "[" + each_way("", '{{"host": "{a}", "peer": "{b}", "state": "{it}"}},', "up", "down").rstrip(",\n") + "]",
+        ["--up", "state=up"],
+        "state",
+    ),
+    (
+        "pairs.json",
+        json.dumps([[a, b, {"state": "up" if is_up(a, b) else "down"}] for a, b in ALL]),
+        ["--up", "state=up"],
+        "state",
+    ),
     ("pairs-0-1.json", json.dumps([[a, b, int(is_up(a, b))] for a, b in ALL]), ["--up", "3=1"], "column 3"),
     ("pairs-null.json", json.dumps([[a, b, 4 if is_up(a, b) else None] for a, b in ALL]), ["--up", "3=4"], "column 3"),
-    ("channels.json", json.dumps({"net": {"channels": links({"active": True}, {"active": False}, ("a", "b"))}}), ["--links", "channels", "--columns", "a,b", "--up", "active=true"], "--links"),
-    ("connected.csv", lines("source,target,connected\n", "{a},{b},{it}", "true", "false"), ["--up", "connected=true"], "connected"),
+    (
+        "channels.json",
+        json.dumps({"net": {"channels": links({"active": True}, {"active": False}, ("a", "b"))}}),
+        ["--links", "channels", "--columns", "a,b", "--up", "active=true"],
+        "--links",
+    ),
+    (
+        "connected.csv",
+        lines("source,target,connected\n", "{a},{b},{it}", "true", "false"),
+        ["--up", "connected=true"],
+        "connected",
+    ),
     ("state.csv", each_way("host,peer,state\n", "{a},{b},{it}", "up", "down"), ["--up", "state=up"], "state"),
     ("one-zero.csv", lines("src;dst;x\n", "{a};{b};{it}", 1, 0), ["--up", "x=1"], "x is"),
     ("status.tsv", lines("from\tto\tStatus\n", "{a}\t{b}\t{it}", "Up", "Down"), ["--up", "Status=Up"], "tatus"),
@@ -229,16 +333,32 @@ ASKED = [
     ("alive.gml", gml("alive 1", "alive 0"), ["--up", "alive=1"], "alive"),
     ("up.yaml", yaml("up: true", "up: false"), ["--up", "up=true"], "up is"),
     ("state.yaml", yaml("state: connected", "state: failed"), ["--up", "state=connected"], "state"),
-    ("table.yaml", "".join(f"{a}: {{{', '.join(f'{b}: {it}' for b, it in row.items())}}}\n" for a, row in table("on", "off").items()), ["--up", "value=on"], "value"),
+    (
+        "table.yaml",
+        "".join(f"{host}: {json.dumps(row)}\n".replace('"', "") for host, row in table("on", "off").items()),
+        ["--up", "value=on"],
+        "value",
+    ),
     ("null.yaml", yaml("rtt: 3", "rtt:"), ["--up", "rtt=3"], "rtt"),
     ("folder-state", folder({"state": "connected"}, {"state": "failed"}), ["--up", "state=connected"], "state"),
     ("folder-up", folder({"up": True, "port": 1}, {"up": False, "port": 0}), ["--up", "up=true"], "up is"),
-    ("folder-active", {f"{it}.json": json.dumps({"peers": others(it), "active_view": up_of(it)}) for it in HOSTS}, ["--peers", "active_view"], "--peers KEY"),
+    (
+        "folder-active",
+        {f"{it}.json": json.dumps({"peers": others(it), "active_view": up_of(it)}) for it in HOSTS},
+        ["--peers", "active_view"],
+        "--peers KEY",
+    ),
 ]
+# The same of dumps that are read with a note, since nothing says that their fields are states.
 NOTED = [
-    ("other-words.json", hosts({"zustand": "verbunden"}, {"zustand": "getrennt"}), ["--up", "zustand=verbunden"], "note zustand"),
-    ("codes.json", hosts({"st": 4}, {"st": 9}), ["--up", "st=4"], "note st is"),
-    ("colors.dot", dot("[color=green]", "[color=red]"), ["--up", "color=green"], "note color"),
-    ("zero-weights.json", seen("quality", [0.9, 0.7], [0]), ["--up", "quality=0.1.."], "note quality"),
-    ("largest.json", seen("cost", [10, 20], [65535]), ["--up", "cost=..100"], "note cost"),
+    (
+        "other-words.json",
+        hosts({"zustand": "verbunden"}, {"zustand": "getrennt"}),
+        ["--up", "zustand=verbunden"],
+        "zustand",
+    ),
+    ("codes.json", hosts({"st": 4}, {"st": 9}), ["--up", "st=4"], "st is"),
+    ("colors.dot", dot("[color=green]", "[color=red]"), ["--up", "color=green"], "color"),
+    ("zero-weights.json", seen("quality", [0.9, 0.7], [0]), ["--up", "quality=0.1.."], "quality"),
+    ("largest.json", seen("cost", [10, 20], [65535]), ["--up", "cost=..100"], "cost"),
 ]

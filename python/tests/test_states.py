@@ -1,0 +1,299 @@
+"""Tests of what dumps say of states: none gives a k that is too high without a word. They need the program overlay."""
+
+import itertools
+import json
+import pathlib
+import tempfile
+import unittest
+
+from tagzirk import Asked, BadDump, Options, TagzirkError, read_dump
+from tagzirk.fields import Field, fields_of
+from tagzirk.states import Kind, kind_of
+from tagzirk.taken import taken_of
+from tagzirk.values import Views
+
+from . import misreads
+from .misreads import ALL, HOSTS, UP, dot, each, graph, hosts, lines, others, seen
+
+
+def asked_by(words):
+    """What is asked for by such words of the command."""
+    pairs = list(zip(words[::2], words[1::2]))
+    ups = tuple(value for word, value in pairs if word == "--up")
+    return Asked(**{word[2:]: value for word, value in pairs if word != "--up"}, up=ups)
+
+
+def links_of(dump):
+    names = dump.graph.names
+    return {tuple(sorted((names[a], names[b]))) for a, b in dump.graph.links}
+
+
+class Dumps(unittest.TestCase):
+    def setUp(self):
+        room = tempfile.TemporaryDirectory()
+        self.addCleanup(room.cleanup)
+        self.room = pathlib.Path(room.name)
+
+    def put(self, name, text):
+        """A file, or a folder of files, with this text."""
+        place = self.room / name
+        if isinstance(text, dict):
+            place.mkdir()
+            for file, inner in text.items():
+                (place / file).write_text(inner)
+        else:
+            place.write_text(text)
+        return str(place)
+
+    def read(self, place, asked=Asked()):
+        return read_dump([place], Options(asked=asked))
+
+
+class Misreads(Dumps):
+    def test_what_is_down_is_asked(self):
+        for name, text, words, told in misreads.ASKED:
+            with self.subTest(name):
+                place = self.put(name, text)
+                with self.assertRaises(TagzirkError) as why:
+                    self.read(place)
+                self.assertIn(told, str(why.exception))
+                self.assertIn(name, str(why.exception))
+                if words:
+                    dump = self.read(place, asked_by(words))
+                    self.assertEqual((links_of(dump), set(dump.graph.ids)), (UP, set(HOSTS)))
+
+    def test_all_is_taken_with_a_word(self):
+        count = 0
+        for name, text, words, told in misreads.ASKED:
+            if words and "--up" in words:
+                with self.subTest(name):
+                    dump = self.read(self.put(name, text), asked_by(words)._replace(up=(), all=True))
+                    self.assertLess(UP, links_of(dump))
+                    self.assertIn("taken all the same, as --all asks", " ".join(dump.notes))
+                    count += 1
+        self.assertGreater(count, 60)
+
+    def test_what_may_be_down_is_told(self):
+        for name, text, words, told in misreads.NOTED:
+            with self.subTest(name):
+                place = self.put(name, text)
+                dump = self.read(place)
+                self.assertIn(told, " ".join(it for it in dump.notes if "some may be down" in it))
+                self.assertEqual(links_of(dump), set(ALL))
+                self.assertEqual(links_of(self.read(place, asked_by(words))), UP)
+
+    def test_there_are_so_many(self):
+        dumps = [*misreads.ASKED, *misreads.NOTED]
+        self.assertEqual(len({it[0] for it in dumps}), len(dumps))
+        self.assertGreaterEqual(len(dumps), 100)
+
+
+# What differs from link to link or from host to host, and says nothing of what is down: no word is said of it.
+PLAIN = [
+    ("weight.json", seen("weight", [1, 2, 5], [3, 8])),
+    ("floats.json", seen("w", [0.5, 2.25], [1.75])),
+    ("region.json", hosts({"region": "eu"}, {"region": "us"})),
+    ("version.json", seen("version", ["1.4.0", "1.4.1"], ["1.3.9"])),
+    ("port.json", seen("port", [655, 656], [657])),
+    ("rtt.json", seen("rtt", [3.25, 8, 12], [30.5, 31])),
+    ("rtt-texts.json", seen("rtt", ["3ms", "8ms"], ["31ms"])),
+    ("bytes.json", seen("bytes_recvd", range(1000, 9000, 700), range(400, 9000, 900))),
+    ("uptime.json", seen("uptime", [12.5, 30.25], [3600.75])),
+    ("connected-since.json", seen("since", ["2026-11-30T09:00:00Z"], ["2026-11-28T21:00:00Z"])),
+    ("protocol.json", hosts({"proto": "tcp"}, {"proto": "quic"})),
+    ("interface.json", seen("interface", ["eth0", "eth1"], ["wg0"])),
+    ("mtu.json", hosts({"mtu": 1500}, {"mtu": 9000})),
+    ("hops.json", hosts({"hops": 1}, {"hops": 2})),
+    ("addresses.json", each(lambda it: {"peers": [{"id": x, "addr": f"10.0.0.{x[1:]}:7946"} for x in others(it)]})),
+    ("builds.json", each(lambda it: {"peers": [{"id": x, "cookie": f"b{x[1:]}"} for x in others(it)]})),
+    ("racks.json", each(lambda it: {"rack": "abcabc"[int(it[1]) - 1], "peers": others(it)})),
+    ("roles.json", each(lambda it: {"role": "seed" if it == "n1" else "node", "peers": others(it)})),
+    ("ports.json", each(lambda it: {"port": 7000 + int(it[1]), "peers": others(it)})),
+    ("tags.json", each(lambda it: {"tags": ["eu", "ssd"][int(it[1]) % 2 :], "peers": others(it)})),
+    ("counts.json", each(lambda it: {"links": 5, "peers": others(it)})),
+    (
+        "positions.json",
+        graph({"weight": 3}, {"weight": 4}, nodes=[{"id": it, "x": at - 2, "y": 0} for at, it in enumerate(HOSTS)]),
+    ),
+    ("weights.csv", lines("source,target,weight\n", "{a},{b},{it}", 3, 7)),
+    ("gephi.csv", lines("Source,Target,Type,Label,Weight\n", "{a},{b},Undirected,{a}{b},1.0{it}", 0, 5)),
+    ("weights.edges", lines("", "{a} {b} {it}", 3.5, 7.25)),
+    ("weights.dot", dot("[label=5]", "[label=7]")),
+    ("widths.dot", dot("[penwidth=1.5]", "[penwidth=3]")),
+    ("attributes.edges", lines("", "{a} {b} {{'weight': {it}}}", 3, 7)),
+]
+
+
+class FalseAlarms(Dumps):
+    def test_nothing_is_told_of_what_is_no_state(self):
+        for name, text in PLAIN:
+            with self.subTest(name):
+                dump = self.read(self.put(name, text))
+                self.assertEqual(links_of(dump), set(ALL))
+                self.assertNotIn("down", " ".join(dump.notes))
+
+    def test_one_value_for_all_is_told(self):
+        for name, text, told in (
+            ("state.json", hosts({"state": "ready"}, {"state": "ready"}), "state is ready of all 30 listings"),
+            ("up.json", hosts({"up": True}, {"up": True}), "up is true of all 30 listings"),
+            ("all-down.json", hosts({"b": False}, {"b": False}), "b is false of all 30 listings"),
+            ("status.csv", lines("source,target,status\n", "{a},{b},{it}", "ok", "OK"), "status is ok of all 15 links"),
+            ("invis.dot", dot("[style=invis]", "[style=invis]"), "style is invis of all 15 links"),
+            ("lengths.json", seen("status", ["Up 3 hours", "Up 2 days"], ["Up 5 days"]), "status is Up"),
+            ("moment.json", seen("lastSeen", [1764493200, 1764493210], [1764493233]), "lastSeen is 17644932"),
+        ):
+            with self.subTest(name):
+                dump = self.read(self.put(name, text))
+                self.assertEqual(links_of(dump), set(ALL))
+                self.assertIn(told, " ".join(dump.notes))
+
+    def test_what_real_daemons_say(self):
+        # as Yggdrasil 0.4 and tinc 1.0 write it, of a ring
+        ring = {it: [HOSTS[at - 1], HOSTS[(at + 1) % 6]] for at, it in enumerate(HOSTS)}
+        peers = itertools.count(1)
+        folder = {
+            f"{it}.json": json.dumps(
+                {
+                    "peers": [
+                        {
+                            "address": peer,
+                            "key": f"k{peer}",
+                            "port": at,
+                            "priority": 0,
+                            "coords": [next(peers)],
+                            "remote": f"tcp://{peer}:{next(peers)}",
+                            "bytes_recvd": 0 if at else next(peers),
+                            "bytes_sent": next(peers),
+                            "uptime": next(peers) + 0.5,
+                        }
+                        for at, peer in enumerate(ring[it])
+                    ]
+                }
+            )
+            for it in HOSTS
+        }
+        tinc = "digraph {\n" + "".join(f'\t{it} [label = "{it}"];\n' for it in HOSTS)
+        tinc += "".join(f"\t{it} -> {peer};\n" for it, listed in ring.items() for peer in listed) + "}\n"
+        wanted = {tuple(sorted((it, peer))) for it, listed in ring.items() for peer in listed}
+        for name, text in ("yggdrasil", folder), ("tinc.dot", tinc):
+            self.assertEqual(links_of(self.read(self.put(name, text))), wanted, name)
+
+
+class Ups(Dumps):
+    def test_what_is_asked_and_not_there(self):
+        place = self.put("state.json", hosts({"state": "up"}, {"state": "down"}))
+        for up, told in (
+            ("stat=up", "no field stat, that --up asks for: the dump has state"),
+            ("state=Op", r"none of 30 listings has state=Op: state is down \(16\) or up \(14\)"),
+            ("state", "--up takes FIELD=VALUE"),
+            ("=up", "--up takes FIELD=VALUE"),
+        ):
+            with self.assertRaisesRegex(BadDump, told):
+                self.read(place, Asked(up=(up,)))
+        with self.assertRaisesRegex(BadDump, "no host has the key active"):
+            self.read(place, Asked(peers="active"))
+
+    def test_several_fields(self):
+        # n1 and n4 are linked only by what is up and alive
+        text = "source,target,state,alive\nn1,n4,up,yes\nn1,n2,up,no\nn2,n4,down,yes\nn2,n3,up,yes\n"
+        place = self.put("two.csv", text)
+        with self.assertRaisesRegex(BadDump, r"state is up \(3\) or down \(1\); alive is yes \(3\) or no \(1\)"):
+            self.read(place)
+        # what is left may still be down by the other field
+        with self.assertRaisesRegex(BadDump, r"of 3 links alive is yes \(2\) or no \(1\)"):
+            self.read(place, Asked(up=("state=up",)))
+        dump = self.read(place, Asked(up=("state=up", "alive=yes")))
+        self.assertEqual(links_of(dump), {("n1", "n4"), ("n2", "n3")})
+        self.assertIn("left out, as --up state=up asks: 1 of 4 links", dump.notes)
+        self.assertEqual(len(links_of(self.read(place, Asked(up=("state=up",), all=True)))), 3)
+
+    def test_a_field_of_hosts_and_of_listings(self):
+        entry = {"status": "ok", "peers": [{"name": "a", "status": "ok"}, {"name": "b", "status": "bad"}]}
+        text = json.dumps({"a": entry, "b": {**entry, "status": "bad"}, "c": entry})
+        place = self.put("both.json", text)
+        with self.assertRaisesRegex(BadDump, "say --up host:status=.. or link:status=.."):
+            self.read(place, Asked(up=("status=ok",)))
+        # without the host b no listing is left that is bad
+        dump = self.read(place, Asked(up=("host:status=ok",)))
+        self.assertEqual((set(dump.graph.ids), links_of(dump)), ({"a", "c"}, set()))
+        dump = self.read(place, Asked(up=("link:status=ok",), all=True))
+        self.assertEqual(set(dump.graph.ids), {"a", "b", "c"})
+
+    def test_two_statements_of_one_link(self):
+        text = "source,target,state\na,b,down\nb,a,up\na,c,down\n"
+        dump = self.read(self.put("two.csv", text), Asked(up=("state=up",)))
+        self.assertEqual((links_of(dump), set(dump.graph.ids)), ({("a", "b")}, {"a", "b", "c"}))
+
+    def test_ranges(self):
+        rows = [("a", "b", "0.5"), ("b", "c", "7"), ("c", "d", "-1"), ("d", "e", ""), ("e", "f", "12")]
+        place = self.put("rtt.csv", "source,target,rtt\n" + "".join(",".join(it) + "\n" for it in rows))
+        for values, wanted in ("0..", "ab bc ef"), ("0.5..7", "ab bc"), ("..0", "cd"), ("7..", "bc ef"), ("7..7", "bc"):
+            dump = self.read(place, Asked(up=(f"rtt={values}",), all=True))
+            self.assertEqual(links_of(dump), {tuple(it) for it in wanted.split()}, values)
+
+
+def field(values, name="x", of="links", missing=0):
+    """A field with a value for each of so many links of different hosts, or for so many hosts."""
+    who = [(f"a{at}",) if of == "hosts" else (f"a{at}", f"b{at % 2}") for at in range(len(values))]
+    return Field(of, name, list(zip(who, values)), missing)
+
+
+class Rules(unittest.TestCase):
+    def test_rules(self):
+        for values, told, kind in (
+            ([True, False, True], {}, Kind.ASKED),
+            ([True, True, True], {}, Kind.TOLD),
+            ([True, True], {"missing": 3}, Kind.ASKED),
+            ([True, False, True], {"name": "inbound"}, Kind.TOLD),
+            ([True, False, True], {"of": "hosts"}, Kind.TOLD),
+            ([True, False, True], {"of": "hosts", "name": "alive"}, Kind.ASKED),
+            ([1, 1, 1], {}, Kind.NONE),
+            ([1, 0, 1], {"name": "weight"}, Kind.ASKED),
+            ([1, 2, 1, 2], {"name": "weight"}, Kind.NONE),
+            ([1, 2, 1, 2], {"name": "code"}, Kind.TOLD),
+            ([3, None, 4], {}, Kind.ASKED),
+            ([3, None, 4], {"of": "hosts"}, Kind.TOLD),
+            ([3, None, 4], {"name": "rack"}, Kind.TOLD),
+            ([3, -1, 4], {"name": "rtt"}, Kind.ASKED),
+            ([-3, -1, -4], {"name": "dbm"}, Kind.TOLD),
+            (["a", "b", "a", "b"], {}, Kind.TOLD),
+            (["a", "b", "a", "b"], {"name": "region"}, Kind.NONE),
+            (["a", "b", "c", "d"], {}, Kind.NONE),
+            (["up", "down", "joining"], {}, Kind.ASKED),
+            (["north", "DOWN", "south"], {"name": "region"}, Kind.ASKED),
+            ([1764493200, 1764493230], {"name": "t"}, Kind.TOLD),
+            ([1764493200, 1764493290], {"name": "t"}, Kind.ASKED),
+            ([1764493200, 1764400000], {"name": "created"}, Kind.NONE),
+            ([1764493200, 1764400000], {"name": "t", "of": "hosts"}, Kind.TOLD),
+            ([1764493200, 1764400000], {"name": "last_seen", "of": "hosts"}, Kind.ASKED),
+            (["5s", "50s"], {"name": "age"}, Kind.TOLD),
+            (["5s", "90s"], {"name": "age"}, Kind.ASKED),
+            ([5, 90], {"name": "age"}, Kind.ASKED),
+            (["red", "black"] * 3, {"name": "color"}, Kind.TOLD),
+            (["red", "black"] * 3, {"name": "color", "of": "hosts"}, Kind.TOLD),
+            (["red", "black"] * 3, {"name": "paint", "of": "hosts"}, Kind.NONE),
+            ([4, 5, 6, 7, 8, 9, 10, 11], {"name": "error_count"}, Kind.TOLD),
+            ([4, 5, 65535], {"name": "metric"}, Kind.TOLD),
+        ):
+            with self.subTest(values=values, **told):
+                self.assertEqual(kind_of(field(values, **told)), kind)
+
+    def test_fields_are_counted(self):
+        views = Views()
+        views.enter("a", {"rack": 1})
+        views.link("a", "b", {"state": "Up", "w": 1.0})
+        views.link("b", "c", {"state": "up "})
+        found = {(it.of, it.name): (dict(it.counts), it.missing) for it in fields_of(views)}
+        self.assertEqual(
+            found,
+            {
+                ("hosts", "rack"): ({"1": 1, "missing": 2}, 2),
+                ("links", "state"): ({"Up": 2}, 0),
+                ("links", "w"): ({"1": 1, "missing": 1}, 1),
+            },
+        )
+
+    def test_nothing_to_tell(self):
+        views = Views("lines")
+        views.link("a", "b")
+        self.assertEqual(taken_of(views, Asked()), (views, []))
