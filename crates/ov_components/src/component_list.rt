@@ -1,7 +1,8 @@
-ghost use Rattle.std.specs.Prelude.{◌≡◌, length, slice_get, None, Some, MatchOption};
+ghost use Rattle.std.specs.Prelude.{◌≡◌, [], length, slice_get, None, Some, MatchOption};
 
 use ov_ids::NodeId;
 use ov_lists::Paths;
+use std::alloc::Global;
 use std::marker::Model;
 
 /// The components that a crash leaves, each a list of ids in ascending order. Contracts see a list of lists.
@@ -19,6 +20,15 @@ impl Model for Components {
 }
 
 impl Components {
+    /// No components. Nothing is allocated.
+    pub fn none(alloc: Global) -> Components
+        ensures { result ≡ [] }
+    {
+        Components {
+            lists: Paths::new(alloc),
+        }
+    }
+
     /// The components that these lists are. Nothing is allocated.
     pub(crate) fn new(lists: Paths) -> Components
         ensures { result ≡ lists }
