@@ -61,6 +61,18 @@ class Moment:
         )
         return ["" if it is None else str(it) for it in values]
 
+    @property
+    def value(self) -> Dict[str, Any]:
+        """The same for JSON: null for what is not known."""
+        known = (getattr(self, column) for column in COLUMNS)
+        value = dict(zip(COLUMNS, known))
+        return {
+            **value,
+            "time": self.time and self.time.isoformat(timespec="seconds"),
+            "cut": None if self.cut is None else list(self.cut),
+            "fault": self.fault or None,
+        }
+
 
 def time_in(name: str) -> Optional[datetime.datetime]:
     """The time that a file's name says, in local time unless it ends with Z.

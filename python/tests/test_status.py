@@ -98,6 +98,17 @@ class Status(Commands):
         self.assertIn("a is short for 2 hosts: a.x, a.y; name one", self.tagzirk("status", both, "--without", "a")[1])
 
 
+class History(Commands):
+    def test_json(self):
+        good = self.file("net-20261128T0900Z.txt", edges_of([("a", "b"), ("b", "c")]))
+        torn = self.file("net-20261128T0910Z.json", '{"a": ["b"')
+        out, _, status = self.tagzirk("history", torn, good, "--json")
+        first, second = json.loads(out)
+        self.assertEqual((status, first["k"], first["cut"], first["nodes"], first["fault"]), (1, 1, ["b"], 3, None))
+        self.assertEqual((second["k"], second["cut"], second["file"]), (None, None, torn))
+        self.assertIn("JSON", second["fault"])
+
+
 class Worst(unittest.TestCase):
     def test_against_the_definition(self):
         source = random.Random(17)

@@ -3,6 +3,7 @@
 from __future__ import annotations
 
 import argparse
+import json
 import os
 import pathlib
 import sys
@@ -21,6 +22,7 @@ def add(commands: Commands, parents: Parents) -> None:
     """Adds the words of `history`."""
     text = "print a row of CSV for each of many dumps, in the order of time"
     it = command(commands, "history", run_history, text, parents.dump, parents.at_once, parents.forced, is_of_many=True)
+    it.add_argument("--json", action="store_true", help="print the rows as a list in JSON, and nothing else")
     it.add_argument("--svg", metavar="PICTURE", help="write a picture too, by matplotlib")
 
 
@@ -41,7 +43,10 @@ def run_history(words: argparse.Namespace) -> int:
         need_matplotlib()
     with Progress() as progress:
         moments = history(dumps_in(words.files), options_of(words), workers=words.workers, progress=progress)
-    write_rows(moments, sys.stdout)
+    if words.json:
+        print(json.dumps([it.value for it in moments], ensure_ascii=False))
+    else:
+        write_rows(moments, sys.stdout)
     for it in moments:
         if it.fault:
             told(f"tagzirk history: {it.fault}")

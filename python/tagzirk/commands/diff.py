@@ -1,0 +1,131 @@
+"""`tagzirk diff`: what changed between two dumps, and what of it lowered k."""
+
+from __future__ import annotations
+
+import argparse
+import json
+import sys
+from typing import TYPE_CHECKING, Any, Dict, List, Sequence, Tuple
+
+from ..difference_pages import difference_page
+from ..differences import Difference, Link, Side, differences
+from ..graphs import shown
+from ..pages import counted
+from ..progress import Progress
+from .words import Parents, command, options_of, some, told
+
+if TYPE_CHECKING:
+    from .words import Commands
+
+MOST_LINES = 20
+
+
+def add(commands: Commands, parents: Parents) -> None:
+    """Adds the words of `diff`."""
+    text = "tell what changed between two dumps, OLD and NEW, and what of it lowered k"
+    it = command(commands, "diff", run_diff, text, parents.dump, is_of_many=True)
+    it.usage = "tagzirk diff [OPTIONS] OLD NEW"
+    it.add_argument("--json", action="store_true", help="print all of it as JSON, and nothing else")
+    it.add_argument("--html", action="store_true", help="print it as a page of HTML, and nothing else")
+
+
+def run_diff(words: argparse.Namespace) -> int:
+    """Prints what changed."""
+    if len(words.files) != 2:
+        told(f"tagzirk diff takes two dumps, OLD and NEW, and not {len(words.files)}; a folder of one file a host is one")
+        return 2
+    with Progress() as progress:
+        it = differences(words.files[:1], words.files[1:], options_of(words), progress=progress)
+    for side in it.old, it.new:
+        for note in side.dump.notes:
+            told(f"{side.dump.name}: {note}")
+    if words.json:
+        print(json.dumps(value_of(it), ensure_ascii=False))
+    elif words.html:
+        sys.stdout.write(difference_page(it))
+    else:
+        print("\n".join(lines_of(it)))
+    return 0
+
+
+def lines_of(it: Difference) -> List[str]:
+    """What changed, in lines for a person."""
+    then, now = it.old.report.k, it.new.report.k
+    change = "as before" if then == now else f"and was {then}"
+    lines = [
+        f"k is {now}, {change}.",
+        f"Then: {said_of_side(it.old)}",
+        f"Now: {said_of_side(it.new)}",
+        f"Went: {said_of_changes(it.hosts_went, it.links_went)}",
+        f"Came: {said_of_changes(it.hosts_came, it.links_came)}",
+    ]
+    return lines + (cause_lines(it) if it.is_lower else [])
+
+
+def said_of_side(side: Side) -> str:
+    """What one dump says, in a line."""
+    report = side.report
+    size = f"{counted(len(side.graph.ids), 'host')}, {counted(len(side.graph.links), 'link')}"
+    if report.is_linked:
+        return f"{size}; every two hosts are linked."
+    if report.k == 0:
+        return f"{size}; split: {counted(len(side.cut_off), 'host')} can't reach the largest piece: {some(side.cut_off)}."
+    away = f"{counted(len(side.cut_off), 'host')}: {some(side.cut_off)}"
+    return f"{size}; a crash of {some(report.cut)} cuts off {away}."
+
+
+def said_of_changes(hosts: Sequence[str], links: Sequence[Link]) -> str:
+    """Hosts and links, in a line."""
+    parts = [f"{counted(len(hosts), 'host')}: {some(hosts)}"] if hosts else []
+    parts += [f"{counted(len(links), 'link')} between hosts of both: {some(list(map(link_told, links)))}"] if links else []
+    return f"{'; '.join(parts)}." if parts else "nothing."
+
+
+def link_told(link: Tuple[str, ...]) -> str:
+    """A link, or a host, by name."""
+    return " - ".join(map(shown, link))
+
+
+def cause_lines(it: Difference) -> List[str]:
+    """What of all that changed lowered k."""
+    then, lines = it.old.report.k, []  # type: int, List[str]
+    if it.restoring:
+        lines.append(f"Each of these alone, put back, gives k {then} again:")
+        lines += [f"  {'host' if len(them) == 1 else 'link'} {link_told(them)}" for them in it.restoring[:MOST_LINES]]
+        if len(it.restoring) > MOST_LINES:
+            lines.append(f"  and {len(it.restoring) - MOST_LINES} more; --json has all")
+    elif it.hosts_went or it.links_went:
+        lines.append(f"Nothing that went gives k {then} again if it alone is put back.")
+    if it.burdening:
+        lines.append(f"Without one of these, which came, k is {then} or more: {some(it.burdening)}.")
+    if it.with_all_back is not None and (it.hosts_went or it.links_went) and not it.restoring:
+        lines.append(f"With all that went put back k is {it.with_all_back}.")
+    return lines
+
+
+def value_of(it: Difference) -> Dict[str, Any]:
+    """All of it, for JSON."""
+    return {
+        "old": value_of_side(it.old),
+        "new": value_of_side(it.new),
+        "hosts_went": list(it.hosts_went),
+        "hosts_came": list(it.hosts_came),
+        "links_went": [list(link) for link in it.links_went],
+        "links_came": [list(link) for link in it.links_came],
+        "restoring": [{"host": them[0]} if len(them) == 1 else {"link": list(them)} for them in it.restoring],
+        "burdening": list(it.burdening),
+        "k_with_all_back": it.with_all_back,
+    }
+
+
+def value_of_side(side: Side) -> Dict[str, Any]:
+    """One dump, for JSON."""
+    return {
+        "dump": side.dump.name,
+        "hosts": len(side.graph.ids),
+        "links": len(side.graph.links),
+        "k": side.report.k,
+        "all_linked": side.report.is_linked,
+        "cut": list(side.report.cut),
+        "cut_off": list(side.cut_off),
+    }

@@ -1,0 +1,183 @@
+"""What changed between two dumps, and what of it lowered k: `differences`."""
+
+from __future__ import annotations
+
+import contextlib
+import itertools
+from dataclasses import dataclass
+from typing import Callable, FrozenSet, Iterable, List, Optional, Sequence, Set, Tuple
+
+from .dumps import Dump, Options, read_dump
+from .errors import Refused
+from .graphs import NamedGraph, numbered
+from .programs import Program
+from .progress import Progress
+from .reports import Report, analysed
+from .status import pieces_after
+
+Link = Tuple[str, str]
+Ask = Callable[[NamedGraph[str]], Report[str]]
+
+
+@dataclass(frozen=True)
+class Side:
+    """One of both dumps: its hosts that have an entry, their links, k and the cut, and who is cut off then."""
+
+    dump: Dump
+    graph: NamedGraph[str]
+    report: Report[str]
+    cut_off: Tuple[str, ...]
+
+
+@dataclass(frozen=True)
+class Difference:
+    """What changed from an old dump to a new one.
+
+    `hosts_came` and `hosts_went` are hosts that one dump alone has. `links_came` and `links_went` are links between
+    hosts that both have, of which one alone has them. If k is lower than it was, `restoring` has each host or link that
+    went and that alone, put back, gives the old k again; a host comes back with its links to hosts that are there.
+    `burdening` has each host that came and without which alone k is so high again. `with_all_back` is what k is with
+    all hosts and links put back; it is None if k is not lower, or if these are too many hosts.
+    """
+
+    old: Side
+    new: Side
+    hosts_came: Tuple[str, ...]
+    hosts_went: Tuple[str, ...]
+    links_came: Tuple[Link, ...]
+    links_went: Tuple[Link, ...]
+    restoring: Tuple[Tuple[str, ...], ...]
+    burdening: Tuple[str, ...]
+    with_all_back: Optional[int]
+
+    @property
+    def is_lower(self) -> bool:
+        """Whether fewer crashes than before split the overlay."""
+        return self.new.report.k < self.old.report.k
+
+
+@dataclass(frozen=True)
+class Plain:
+    """A graph as sets of names and of links."""
+
+    hosts: FrozenSet[str]
+    links: FrozenSet[Link]
+
+    @property
+    def named(self) -> NamedGraph[str]:
+        """The graph as it is asked about."""
+        return numbered(sorted(self.hosts), self.links)
+
+    def with_host(self, host: str, links: Iterable[Link]) -> Plain:
+        """The graph with a host more, and those of its links whose other end is there."""
+        hosts = self.hosts | {host}
+        return Plain(hosts, self.links | {it for it in links if host in it and hosts.issuperset(it)})
+
+    def with_link(self, link: Link) -> Plain:
+        """The graph with a link more."""
+        return Plain(self.hosts, self.links | {link})
+
+    def without(self, host: str) -> Plain:
+        """The graph without a host."""
+        return Plain(self.hosts - {host}, frozenset(it for it in self.links if host not in it))
+
+
+def plain(graph: NamedGraph[str]) -> Plain:
+    """A graph by names."""
+    names = graph.names
+    return Plain(frozenset(graph.ids), frozenset(link_of(names[a], names[b]) for a, b in graph.links))
+
+
+def link_of(one: str, other: str) -> Link:
+    """A link, whichever end is said first."""
+    return (one, other) if one <= other else (other, one)
+
+
+def differences(
+    old: Sequence[str],
+    new: Sequence[str],
+    options: Options = Options(),
+    *,
+    overlay: Optional[Program] = None,
+    overlay_check: Optional[Program] = None,
+    progress: Optional[Progress] = None,
+) -> Difference:
+    """What changed from an old dump to a new one. Names that have no entry are left out, so a host that went may be one
+    that others list still.
+
+    >>> import pathlib, tempfile
+    >>> with tempfile.TemporaryDirectory() as room:
+    ...     files = [pathlib.Path(room, name) for name in ("old", "new")]
+    ...     _ = files[0].write_text("a b\\nb c\\nc d\\nd a\\n"), files[1].write_text("a b\\nb c\\nc d\\nd e\\n")
+    ...     it = differences([str(files[0])], [str(files[1])])
+    >>> it.old.report.k, it.new.report.k, it.hosts_came, it.links_went, it.restoring, it.with_all_back
+    (2, 1, ('e',), (('a', 'd'),), (), 1)
+    """
+
+    def ask(graph: NamedGraph[str]) -> Report[str]:
+        return analysed(graph, overlay=overlay, overlay_check=overlay_check)
+
+    def side(places: Sequence[str]) -> Side:
+        dump = read_dump(places, options._replace(entries=True), overlay=overlay)
+        graph = dump.graph
+        report = ask(graph)
+        pieces = pieces_after(report, graph)
+        return Side(dump, graph, report, tuple(name for piece in pieces[1:] for name in piece))
+
+    before, now = side(old), side(new)
+    return compared(before, now, ask, progress)
+
+
+def compared(old: Side, new: Side, ask: Ask, progress: Optional[Progress]) -> Difference:
+    """The difference of two dumps that were read."""
+    then, now = plain(old.graph), plain(new.graph)
+    both = then.hosts & now.hosts
+    went, came = sorted(then.hosts - now.hosts), sorted(now.hosts - then.hosts)
+    lost = sorted(it for it in then.links - now.links if both.issuperset(it))
+    gained = sorted(it for it in now.links - then.links if both.issuperset(it))
+    restoring: List[Tuple[str, ...]] = []
+    burdening: List[str] = []
+    with_all_back = None
+    if new.report.k < old.report.k:
+        trial = Trial(old.report.k, new.report, ask, progress)
+        restoring += [(host,) for host in went if trial.is_enough(now.with_host(host, then.links))]
+        restoring += [link for link in lost if trial.is_enough(now.with_link(link))]
+        burdening += [host for host in came if len(now.hosts) > 1 and trial.is_enough(now.without(host))]
+        with contextlib.suppress(Refused):
+            # both together may be more hosts than can be analysed
+            with_all_back = ask(Plain(then.hosts | now.hosts, then.links | now.links).named).k
+    return Difference(
+        old,
+        new,
+        tuple(came),
+        tuple(went),
+        tuple(gained),
+        tuple(lost),
+        tuple(restoring),
+        tuple(burdening),
+        with_all_back,
+    )
+
+
+class Trial:
+    """Tries which single change gives the old k. A cut that was found with fewer crashes, and that splits the changed
+    overlay too, answers without a question."""
+
+    def __init__(self, wanted: int, report: Report[str], ask: Ask, progress: Optional[Progress]) -> None:
+        self.wanted, self.ask, self.progress = wanted, ask, progress
+        self.cuts: List[Set[str]] = [set(report.cut)]
+        self.tried = itertools.count(1)
+
+    def is_enough(self, changed: Plain) -> bool:
+        """Whether no fewer crashes than the old k split the changed overlay."""
+        if self.progress:
+            self.progress.tell(f"changes: {next(self.tried)} tried")
+        graph = changed.named
+        for cut in self.cuts:
+            crashed = {graph.ids[it] for it in cut if it in graph.ids}
+            if len(graph.pieces(crashed)) > 1:
+                return False
+        report = self.ask(graph)
+        if report.k < self.wanted and not report.is_linked:
+            self.cuts.append(set(report.cut))
+        return report.k >= self.wanted
