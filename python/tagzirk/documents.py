@@ -7,7 +7,7 @@ from typing import Any, Dict, List, NamedTuple, Optional, Tuple
 from .asked import Asked
 from .errors import BadDump
 from .hosts import Entry, enter_all
-from .linked import nodes_beside, place_of
+from .linked import MOST_DEEP, nodes_beside, objects_in, place_of
 from .values import (
     LINK_ENDS,
     LISTING_ENDS,
@@ -98,6 +98,7 @@ def views_of(value: Any, asked: Asked = Asked()) -> Views:
     >>> graph.kind, graph.value
     ('a graph of nodes and links', {'a': ['b'], 'b': ['a']})
     """
+    demand_there(value, asked)
     if asked.links:
         return of_links_below(value, asked)
     if isinstance(value, dict):
@@ -105,6 +106,26 @@ def views_of(value: Any, asked: Asked = Asked()) -> Views:
     if isinstance(value, list):
         return of_list(value, asked)
     raise BadDump(f"{short(value)} is no dump: an object or a list should stand here")
+
+
+def demand_there(value: Any, asked: Asked) -> None:
+    """Refuses a field that is asked for and that no object has."""
+    columns = [("--columns", it) for ends in asked_ends(asked) for it in ends]
+    wanted = [(option, it) for option, it in (("--by", asked.by), ("--peers", asked.peers), *columns) if it]
+    objects = objects_in(value, MOST_DEEP) if wanted else []
+    for option, field in wanted:
+        if not any(has_path(it, field) for it in objects):
+            there = list(dict.fromkeys(key for it in objects for key in it))
+            raise BadDump(f"no object has the field {field}, that {option} asks for; there are {', '.join(there[:12])}")
+
+
+def has_path(value: Any, path: str) -> bool:
+    """Whether something stands below a key, or below several with dots between."""
+    try:
+        at_path(value, path)
+    except KeyError:
+        return False
+    return True
 
 
 def of_object(value: Dict[str, Any], asked: Asked) -> Views:

@@ -7,22 +7,23 @@ import os
 import pathlib
 import re
 import sys
-from dataclasses import dataclass, field
+from dataclasses import dataclass, field, replace
 from functools import lru_cache
 from typing import Dict, List, NamedTuple, Optional, Sequence, TextIO, Tuple
 
-from .asked import Asked
+from .asked import Asked, demand_used
 from .errors import BadDump, LibraryMissing, Refused
-from .folders import of_hosts
 from .dot import of_dot
-from .hosts import SeveralLists
+from .folders import of_hosts
 from .forms import NATIVE, form_of, listings_of
-from .texts import decoded, text_of
-from .taken import taken_of
-from .values import Views
 from .graphs import NamedGraph
+from .hosts import SeveralLists
+from .notes import Line, lines_in, notes_on
 from .programs import Program, call, find, refuse
 from .slips import of_contents
+from .taken import taken_of
+from .texts import decoded, text_of
+from .values import Views
 
 GRAPH_FILE = re.compile(r"(?:[ \t\r]*(?:#[^\n]*)?\n)*[ \t\r]*(?:node|link) +\d")
 NAME = re.compile(r"# ([0-9]+) (.*)")
@@ -31,6 +32,16 @@ WITHOUT_ENTRY = re.compile(r"^listed without an entry: (\d+)$", re.MULTILINE)
 # What overlay says of a first line that may be a header.
 HEADER = re.compile(r"^(line \d+: (\S+) and (\S+) stand in no other line; if it is a header, remove it)$", re.MULTILINE)
 FIRST_LINE = re.compile(r"line 1 is no pair of names: `.* stands behind them")
+# The forms that are lines of names, and the options that a form takes; others take --by.
+OF_LINES = ("edges", "csv", "weighted", "adjacency")
+OF_VALUES = ("by", "columns", "peers", "links")
+TAKEN: Dict[str, Tuple[str, ...]] = {
+    **dict.fromkeys(OF_LINES, ("columns",)),
+    "json": OF_VALUES,
+    "yaml": OF_VALUES,
+    "views": (),
+    "dot": (),
+}
 # What overlay says of this command, which is no advice here.
 OF_THIS = re.compile(r"; `tagzirk import` of the Python package reads (?:it|more forms)$", re.MULTILINE)
 # The words of a refusal of DOT that is read here all the same.
@@ -180,13 +191,14 @@ def read_dump(
             raise BadDump(f"{place} is no dump: it is {what}") if what else named_error(why, str(place)) from None
     files = contents_of(places)
     name = places[0] if len(places) == 1 else f"{len(files)} files"
+    demand_used(options.asked, "each file has the peers of one host", "by", "peers", "up")
     try:
         views = of_hosts(files, options.asked)
     except SeveralLists as why:
         raise named_error(why, name) from None
     told = f"read {views.kind}" if len(places) > 1 else f"{name} was read as {views.kind}"
     try:
-        return of_views(views, name, options, [told], overlay)
+        return with_notes(of_views(views, name, options, [told], overlay))
     except (BadDump, Refused) as why:
         raise named_error(why, name) from None
 
@@ -230,24 +242,34 @@ def dump_of(
     notes = [f"{name}: {it}" for it in told]
     if is_graph_taken and not options.asked.form and GRAPH_FILE.match(data.decode(errors="replace")):
         # overlay says what is wrong with it; what it accepts is read here
+        demand_used(options.asked, "it is a graph file", "skip")
         ended = call(find("overlay", overlay), ["analyse"], data)
         if ended.status != 0:
             refuse(*ended.err.partition("\n")[::2])
         return Dump(name, data.decode(errors="backslashreplace"), tuple(notes), None, None)
+    form = options.asked.form or form_of(data.decode("utf-8-sig", "replace"), name)
+    demand_used(options.asked, f"it has the form {form}", "form", "skip", "up", *TAKEN.get(form, ("by",)))
     views = listings_of(data, name, options.asked)
     if views is None:
-        form = [f"--{options.asked.form}"] if options.asked.form in NATIVE else []
+        own = [f"--{options.asked.form}"] if options.asked.form in NATIVE else []
         try:
-            dump = imported(data, name, [*form, *options.words], notes, overlay)
+            dump = imported(data, name, [*own, *options.words], notes, overlay)
         except Refused as why:
             if not any(it in why.reason for it in OF_DOT):
                 raise
             views = of_dot(decoded(data))
         else:
             views = more_in_dot(data, dump, options, overlay)
-        if views is None:
-            return dump
-    return of_views(views, name, options, [*notes, f"{name} was read as {views.kind}"], overlay)
+    if views is None:
+        demand_used(options.asked, "nothing but names stands in it", "form", "skip")
+    else:
+        dump = of_views(views, name, options, [*notes, f"{name} was read as {views.kind}"], overlay)
+    return with_notes(dump, lines_in(decoded(data)) if form in OF_LINES else [])
+
+
+def with_notes(dump: Dump, lines: Sequence[Line] = ()) -> Dump:
+    """A dump with notes on its graph and its lines."""
+    return replace(dump, notes=(*dump.notes, *notes_on(dump.graph, lines, dump.without_entry or 0)))
 
 
 def more_in_dot(data: bytes, dump: Dump, options: Options, overlay: Optional[Program]) -> Optional[Views]:

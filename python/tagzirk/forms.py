@@ -112,7 +112,9 @@ def of_json(text: str, asked: Asked) -> Optional[Views]:
         return None
     try:
         value = json_of(text)
-    except json.JSONDecodeError:
+    except json.JSONDecodeError as why:
+        if asked.form:
+            raise BadDump(f"line {why.lineno}: it is no JSON: {why.msg}") from None
         return None
     except Twice:
         if is_views(json.loads(text)):

@@ -125,6 +125,7 @@ class Import(Commands):
             out, err, status = self.tagzirk("import", self.file(name, text))
             self.assertEqual((out, status), (wanted, 0), name)
             told = "lists itself: 1\n1 lists itself\na link of a name to itself is passed over\n"
+            told += "without any link, though others are linked: 1 of 3 hosts: 3\n"
             self.assertTrue(err.endswith(told) and "one end only" not in err, err)
 
     def test_subgraphs(self):

@@ -190,7 +190,7 @@ class Ups(Dumps):
         ):
             with self.assertRaisesRegex(BadDump, told):
                 self.read(place, Asked(up=(up,)))
-        with self.assertRaisesRegex(BadDump, "no host has the key active"):
+        with self.assertRaisesRegex(BadDump, "no object has the field active, that --peers asks"):
             self.read(place, Asked(peers="active"))
 
     def test_several_fields(self):
