@@ -2,103 +2,30 @@
 
 from __future__ import annotations
 
-import base64
 import datetime
 import html
 import os
-from string import Template
-from typing import Any, Dict, Iterable, List, Optional, Tuple
+import shlex
+from typing import Dict, Iterable, List, Optional, Tuple
 
 from .checks import check
 from .dumps import Dump
 from .errors import BadGraph
+from .frame import COLOURS, PAGE, colour_rules, framed, severity_of
 from .graphs import NamedGraph, shown
+from .markup import file_link, joined_html, names_html, shown_html, table
 from .mending import Mended, mend
 from .programs import Program
 from .progress import Progress
+from .proofs import VERSION, programs
 from .reports import Report, analysed
+from .stale import one_sided
 from .wide import Wide, widest
 
 # A certificate of more bytes is not put into the page, but told.
 MOST_BYTES = 16_000_000
-# So many names stand in a line; the rest opens below.
-MOST_NAMES, MOST_CUT_OFF = 24, 8
-MOST_WEAK = 10
-# The colours of pieces, on light and on dark ground, as `overlay picture` has them: of near's, of that of far, of the
-# others from the largest on; and grey for all that are left.
-COLOURS = (
-    ("#2b8fcb", "#56b4e9"),
-    ("#227256", "#c8f1e6"),
-    ("#8f146a", "#b62e6b"),
-    ("#544505", "#fbefae"),
-    ("#4b17f4", "#9339ec"),
-    ("#380c0c", "#e11a14"),
-    ("#8a949c", "#8b969e"),
-)
-
-PAGE = Template(
-    """<!DOCTYPE html>
-<html lang="en">
-<head>
-<meta charset="utf-8">
-<meta name="viewport" content="width=device-width, initial-scale=1">
-<title>$title</title>
-<style>
-:root{color-scheme:light dark;--ground:#ffffff;--ink:#1f2933;--soft:#5b6770;--line:#d5dbe0;--box:#f3f5f7;--warm:#b84a00;
---link:#005a9c}
-@media (prefers-color-scheme:dark){:root{--ground:#14181c;--ink:#e6eaee;--soft:#98a4ae;--line:#333c44;--box:#1d242a;
---warm:#ff8c42;--link:#7cc4ff}}
-body{margin:0 auto;max-width:76rem;padding:1.5rem 1.25rem 4rem;background:var(--ground);color:var(--ink);
-font:16px/1.55 system-ui,sans-serif}
-h1{font-size:1.7rem;line-height:1.25;margin:.4rem 0 .6rem}
-h2{font-size:1.15rem;margin:2.4rem 0 .6rem;border-top:1px solid var(--line);padding-top:1rem}
-p{margin:.5rem 0;max-width:52rem}
-a{color:var(--link)}
-.t-soft{color:var(--soft)}
-.t-facts{display:flex;flex-wrap:wrap;gap:.6rem;margin:1rem 0;padding:0;list-style:none}
-.t-facts li{background:var(--box);border-radius:.5rem;padding:.5rem .9rem;min-width:5.5rem}
-.t-facts b{display:block;font-size:1.35rem;line-height:1.3}
-td{overflow-wrap:anywhere}
-.t-name{display:inline-block;max-width:100%;overflow-wrap:anywhere}
-.t-scroll{overflow-x:auto}
-.t-scroll svg{display:block;max-width:max(100%,50rem);height:auto}
-table{border-collapse:collapse}
-th,td{text-align:left;vertical-align:top;padding:.3rem .8rem .3rem 0;border-bottom:1px solid var(--line)}
-th{font-weight:600}
-th:first-child{min-width:7rem}
-.t-number{text-align:right;white-space:nowrap}
-pre{background:var(--box);border-radius:.5rem;padding:.7rem .9rem;white-space:pre-wrap;overflow-wrap:anywhere;
-font-size:.88rem}
-strong.t-warm{color:var(--warm)}
-.t-swatch{display:inline-block;width:.8em;height:.8em;border-radius:50%;background:var(--piece);margin-right:.5em}
-$colours</style>
-</head>
-<body>
-<p class="t-soft">$about</p>
-<h1>$title</h1>
-$answer
-<ul class="t-facts">$facts</ul>
-<div class="t-scroll">
-$picture</div>
-<h2>$pieces_title</h2>
-$pieces
-<h2>Weakest hosts</h2>
-$weakest
-<h2>What to add</h2>
-$added
-<h2>Check it</h2>
-$checking
-<h2>What the dump says</h2>
-$notes
-</body>
-</html>
-"""
-)
-
-
-def shown_html(name: Any) -> str:
-    """A name, as HTML has it."""
-    return html.escape(shown(name))
+# So many hosts that are cut off, or weak, or have one-sided listings, are named.
+MOST_CUT_OFF, MOST_WEAK, MOST_STALE = 8, 10, 20
 
 
 def counted(number: int, one: str, more: str = "") -> str:
@@ -108,32 +35,6 @@ def counted(number: int, one: str, more: str = "") -> str:
     ('1 crash', '2 crashes', '0 hosts')
     """
     return f"{number} {one if number == 1 else more or one + 's'}"
-
-
-def joined_html(names: Iterable[Any]) -> str:
-    """Names with a comma between two. No line ends within a name, if it fits into one."""
-    return ", ".join(f'<span class="t-name">{shown_html(it)}</span>' for it in names)
-
-
-def names_html(names: Iterable[Any], most: Optional[int] = None) -> str:
-    """Names in a line; if they are many, the rest opens below, or if they are more than `most`, it is counted."""
-    told, few = list(names), most or MOST_NAMES
-    first = joined_html(told[:few])
-    if len(told) <= few:
-        return first
-    if most:
-        return f"{first} and {len(told) - few} more"
-    return f"{first}<details><summary>and {len(told) - few} more</summary>{joined_html(told[few:])}</details>"
-
-
-def table(head: Tuple[str, ...], rows: Iterable[Tuple[str, ...]], numbers: Tuple[int, ...] = ()) -> str:
-    """A table of cells that are HTML; columns of numbers stand to the right."""
-
-    def line(cells: Tuple[str, ...], kind: str) -> str:
-        classes = [' class="t-number"' if at in numbers else "" for at in range(len(cells))]
-        return "<tr>" + "".join(f"<{kind}{it}>{cell}</{kind}>" for it, cell in zip(classes, cells)) + "</tr>"
-
-    return f'<div class="t-scroll"><table>{line(head, "th")}{"".join(line(row, "td") for row in rows)}</table></div>'
 
 
 def title_of(report: Report[str]) -> str:
@@ -215,12 +116,11 @@ def colours_of(report: Report[str], pieces: List[List[int]]) -> Dict[int, int]:
     return {host: min(at, len(COLOURS) - 1) for at, piece in enumerate(ranked) for host in piece}
 
 
-def colour_rules() -> str:
-    """What CSS has of the colours of pieces in the table."""
-    light, dark = (
-        "".join(f".t-piece-{at}{{--piece:{it[which]}}}" for at, it in enumerate(COLOURS)) for which in (0, 1)
-    )
-    return f"{light}\n@media (prefers-color-scheme:dark){{{dark}}}\n"
+def pieces_title(report: Report[str], pieces: List[List[int]]) -> str:
+    """How many pieces there are, in words."""
+    if len(pieces) < 2:
+        return "All survivors are joined"
+    return f"{len(pieces)} pieces after the crash" if report.cut else f"{len(pieces)} pieces"
 
 
 def pieces_of(report: Report[str], graph: NamedGraph[str], pieces: List[List[int]]) -> str:
@@ -235,16 +135,14 @@ def pieces_of(report: Report[str], graph: NamedGraph[str], pieces: List[List[int
     return told + table(("piece", "its hosts"), rows) + more
 
 
-def weakest_of(graph: NamedGraph[str]) -> str:
+def weakest_of(graph: NamedGraph[str], is_linked: bool) -> str:
     """The hosts with the fewest links, and to whom these go."""
     names = graph.names
     hosts = sorted(graph.peers, key=lambda it: (len(graph.peers[it]), it))
     fewest = len(graph.peers[hosts[0]])
     number = sum(len(graph.peers[it]) == fewest for it in hosts)
-    told = (
-        f"<p>{counted(number, 'host has', 'hosts have')} the fewest links, {fewest}. A crash of all that a host is "
-        "linked to cuts it off.</p>"
-    )
+    cuts = "" if is_linked else " A crash of all that a host is linked to cuts it off."
+    told = f"<p>{counted(number, 'host has', 'hosts have')} the fewest links, {fewest}.{cuts}</p>"
     rows = (
         (shown_html(names[it]), str(len(graph.peers[it])), names_html(names[peer] for peer in sorted(graph.peers[it])))
         for it in hosts[:MOST_WEAK]
@@ -264,12 +162,6 @@ def added_of(report: Report[str], to: int, mended: Optional[Mended[str]], why: s
         f"links, though others may be fewer. None of them can be left out. "
         f"(<code>tagzirk mend --to {to}</code>)</p>" + table(("from", "to"), rows)
     )
-
-
-def file_link(name: str, kind: str, text: str) -> str:
-    """A link that saves a file which is in the page."""
-    data = base64.b64encode(text.encode(errors="backslashreplace")).decode()
-    return f'<a download="{name}" href="data:{kind};base64,{data}">{name}</a> ({len(text):,} bytes)'
 
 
 def checking_of(report: Report[str], graph_file: str, line: str) -> str:
@@ -297,11 +189,49 @@ def checking_of(report: Report[str], graph_file: str, line: str) -> str:
 
 def facts_of(report: Report[str], graph: NamedGraph[str], dump: Dump) -> str:
     """Numbers at a glance."""
-    facts = [(len(graph.ids), "hosts"), (len(graph.links), "links"), (report.k, "k")]
+    facts = [(len(graph.ids), "hosts"), (len(graph.links), "links")]
     facts += [] if report.is_linked else [(report.survives, "crashes survived")]
-    facts += [] if dump.one_sided is None else [(dump.one_sided, "one-sided listings")]
+    facts += [(dump.one_sided, "one-sided listings")] if dump.one_sided else []
     facts += [(dump.without_entry, "without an entry")] if dump.without_entry else []
     return "".join(f"<li><b>{number}</b>{label}</li>" for number, label in facts)
+
+
+def about_of(dump: Dump, taken: Optional[datetime.datetime], overlay: Tuple[Optional[Program], ...]) -> str:
+    """Of what the page is, and who made it when."""
+    now = datetime.datetime.now().astimezone().strftime("%Y-%m-%d %H:%M %Z")
+    of = f", taken {taken.strftime('%Y-%m-%d %H:%M %Z')}" if taken else ""
+    checker = programs(*overlay).get("overlay-check")
+    proved = {True: "proved", False: "not proved", None: "not known to be proved"}[checker and checker.is_proved]
+    return (
+        f"{shown_html(dump.name)}{of}. Page made {now} by tagzirk {VERSION}, with an overlay-check that is {proved}. "
+        "A dump ages: links come and go."
+    )
+
+
+def paste_of(report: Report[str], cut_off: List[str], ending: str) -> str:
+    """Whole names, for the command line."""
+    parts = []
+    for title, names in ("The cut", report.cut), ("Cut off", cut_off):
+        if names:
+            whole = ",".join(shown(f"{it}{ending}") for it in names)
+            parts.append(f'<p>{title}</p><pre class="t-paste">{html.escape(shlex.quote(whole))}</pre>')
+    if not parts:
+        return "<p>No cut is there, and nobody is cut off.</p>"
+    use = "<code>tagzirk status FILE --without NAMES</code> tells what is without these hosts."
+    return "".join(parts) + f"<p>{use}</p>"
+
+
+def notes_of(dump: Dump, stale: Dict[str, int]) -> str:
+    """What is to be told of the dump, and which hosts have listings that the other end does not answer."""
+    told = "".join(f"{html.escape(it)}\n" for it in dump.notes)
+    notes = f"<pre>{told}</pre>" if told else "<p>Reading it gave no notes.</p>"
+    if not stale:
+        return notes
+    hosts = list(stale.items())
+    more = f"<p>{len(hosts) - MOST_STALE} more hosts have some.</p>" if len(hosts) > MOST_STALE else ""
+    rows = ((shown_html(host), str(number)) for host, number in hosts[:MOST_STALE])
+    head = "host", "one-sided listings that it is an end of"
+    return f"{notes}<p>A host with many of them may be dead, or its part of the dump old.</p>{table(head, rows, (1,))}{more}"
 
 
 def page(
@@ -334,26 +264,25 @@ def page(
         except BadGraph as reason:
             why = str(reason)
     wide = widest(graph, report, overlay=overlay, overlay_check=overlay_check, progress=progress)
-    now = datetime.datetime.now().astimezone().strftime("%Y-%m-%d %H:%M %Z")
-    of = f", taken {taken.strftime('%Y-%m-%d %H:%M %Z')}" if taken else ""
     line = check(report.certificate, overlay_check=overlay_check).line
-    notes = "".join(f"{html.escape(it)}\n" for it in dump.notes)
+    largest = max(pieces, key=len)
+    cut_off = [graph.names[it] for piece in pieces if piece is not largest for it in piece]
     return PAGE.substitute(
         title=title_of(report),
-        about=f"{shown_html(dump.name)}{of}. Page made {now}. A dump ages: links come and go.",
+        k=report.k,
+        severity=severity_of(report.k, report.is_linked),
+        about=about_of(dump, taken, (overlay, overlay_check)),
         answer=f"<p>{answer_of(report, graph, pieces)}</p>{wider_of(wide, report)}"
         + (f'<p class="t-soft">All names end in {shown_html(ending)}, which is left out here.</p>' if ending else ""),
         facts=facts_of(report, graph, dump),
         colours=colour_rules(),
-        picture=report.picture(overlay=overlay),
-        pieces_title="All survivors are joined"
-        if len(pieces) < 2
-        else f"{len(pieces)} pieces after the crash"
-        if report.cut
-        else f"{len(pieces)} pieces",
+        picture=framed(report.picture(overlay=overlay)),
+        pieces_title=pieces_title(report, pieces),
         pieces=pieces_of(report, graph, pieces),
-        weakest=weakest_of(graph),
+        others="",
+        weakest=weakest_of(graph, report.is_linked),
         added=added_of(report, wanted, mended, why),
+        paste=paste_of(report, cut_off, ending),
         checking=checking_of(report, dump.graph.text_with_names, line),
-        notes=f"<pre>{notes}</pre>" if notes else "<p>Each listing is answered by the other end.</p>",
+        notes=notes_of(dump, one_sided(dump, overlay)),
     )
