@@ -14,6 +14,15 @@ MOST_NAMES = 24
 LONG = 28
 
 
+def counted(number: int, one: str, more: str = "") -> str:
+    """A number with its word.
+
+    >>> counted(1, "crash", "crashes"), counted(2, "crash", "crashes"), counted(0, "host")
+    ('1 crash', '2 crashes', '0 hosts')
+    """
+    return f"{number} {one if number == 1 else more or one + 's'}"
+
+
 def shown_html(name: Any) -> str:
     """A name, as HTML has it."""
     return html.escape(shown(name))

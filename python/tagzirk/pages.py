@@ -6,35 +6,29 @@ import datetime
 import html
 import os
 import shlex
-from typing import Dict, Iterable, List, Optional, Tuple
+from typing import Dict, List, Optional, Sequence, Tuple
 
 from .checks import check
 from .dumps import Dump
 from .errors import BadGraph
 from .frame import COLOURS, PAGE, colour_rules, framed, severity_of
 from .graphs import NamedGraph, shown
-from .markup import file_link, joined_html, names_html, shown_html, table
+from .markup import counted, file_link, joined_html, names_html, shown_html, table
 from .mending import Mended, mend
+from .other_cuts import other_cuts, site_of, wider_of, worse_of
 from .programs import Program
 from .progress import Progress
 from .proofs import VERSION, programs
 from .reports import Report, analysed
+from .sites import Sites
 from .stale import one_sided
-from .wide import Wide, widest
+from .wide import widest
+from .worst import Worst, worst
 
 # A certificate of more bytes is not put into the page, but told.
 MOST_BYTES = 16_000_000
 # So many hosts that are cut off, or weak, or have one-sided listings, are named.
 MOST_CUT_OFF, MOST_WEAK, MOST_STALE = 8, 10, 20
-
-
-def counted(number: int, one: str, more: str = "") -> str:
-    """A number with its word.
-
-    >>> counted(1, "crash", "crashes"), counted(2, "crash", "crashes"), counted(0, "host")
-    ('1 crash', '2 crashes', '0 hosts')
-    """
-    return f"{number} {one if number == 1 else more or one + 's'}"
 
 
 def title_of(report: Report[str]) -> str:
@@ -88,23 +82,6 @@ def answer_of(report: Report[str], graph: NamedGraph[str], pieces: List[List[int
     return (
         f"If {cut} {'crashes' if report.k == 1 else 'crash'}, {counted(away, 'host is', 'hosts are')} cut off, and "
         f"{rest}. {fewer}</p><p>Cut off: {who}"
-    )
-
-
-def wider_of(wide: Optional[Wide[str]], report: Report[str]) -> str:
-    """Which crashes cut off more than one host, where the smallest cut does not."""
-    if wide is None or set(wide.crashed) == set(report.cut):
-        return ""
-    number = counted(len(wide.crashed), "crash", "crashes")
-    fewest = "" if wide.is_fewest else f" (fewer than {wide.at_least} do not; what lies between is not known)"
-    begin = (
-        "As few crashes cut off more than one host"
-        if len(wide.crashed) == report.k
-        else f"To cut off more than one host takes {number}{fewest}"
-    )
-    return (
-        f"<p>{begin}: if {names_html(wide.crashed, MOST_CUT_OFF)} crash, "
-        f"{counted(len(wide.cut_off), 'host')} are cut off: {names_html(wide.cut_off, MOST_CUT_OFF)}.</p>"
     )
 
 
@@ -208,10 +185,13 @@ def about_of(dump: Dump, taken: Optional[datetime.datetime], overlay: Tuple[Opti
     )
 
 
-def paste_of(report: Report[str], cut_off: List[str], ending: str) -> str:
+def paste_of(report: Report[str], cut_off: Sequence[str], found: Worst[str], ending: str) -> str:
     """Whole names, for the command line."""
+    told = [("The cut", report.cut), ("Cut off", cut_off)]
+    if report.k and found.cuts and len(found.cuts[0].cut_off) > len(cut_off):
+        told += [("The cut that cuts off more", found.cuts[0].crashed), ("Cut off", found.cuts[0].cut_off)]
     parts = []
-    for title, names in ("The cut", report.cut), ("Cut off", cut_off):
+    for title, names in told:
         if names:
             whole = ",".join(shown(f"{it}{ending}") for it in names)
             parts.append(f'<p>{title}</p><pre class="t-paste">{html.escape(shlex.quote(whole))}</pre>')
@@ -231,7 +211,8 @@ def notes_of(dump: Dump, stale: Dict[str, int]) -> str:
     more = f"<p>{len(hosts) - MOST_STALE} more hosts have some.</p>" if len(hosts) > MOST_STALE else ""
     rows = ((shown_html(host), str(number)) for host, number in hosts[:MOST_STALE])
     head = "host", "one-sided listings that it is an end of"
-    return f"{notes}<p>A host with many of them may be dead, or its part of the dump old.</p>{table(head, rows, (1,))}{more}"
+    many = "<p>A host with many of them may be dead, or its part of the dump old.</p>"
+    return f"{notes}{many}{table(head, rows, (1,))}{more}"
 
 
 def page(
@@ -239,13 +220,14 @@ def page(
     to: Optional[int] = None,
     *,
     taken: Optional[datetime.datetime] = None,
+    site: Optional[str] = None,
     overlay: Optional[Program] = None,
     overlay_check: Optional[Program] = None,
     progress: Optional[Progress] = None,
 ) -> str:
     """A page about a dump: the answer in names and words, a picture, the pieces that the crash leaves, the weakest
     hosts, links to add so that the number is `to`, or one higher without it, and the certificate with how to check it.
-    `taken` is when the dump was taken.
+    `taken` is when the dump was taken, and `site` a regular expression that finds the site of a host in its name.
 
     >>> from tagzirk.dumps import dump_of
     >>> text = page(dump_of(b"a b\\nb c\\nc d\\n", "net.edges"))
@@ -264,6 +246,8 @@ def page(
         except BadGraph as reason:
             why = str(reason)
     wide = widest(graph, report, overlay=overlay, overlay_check=overlay_check, progress=progress)
+    found = worst(graph, report, overlay=overlay, overlay_check=overlay_check, progress=progress)
+    sites = Sites(site, dump.graph.ids) if site else None
     line = check(report.certificate, overlay_check=overlay_check).line
     largest = max(pieces, key=len)
     cut_off = [graph.names[it] for piece in pieces if piece is not largest for it in piece]
@@ -272,17 +256,19 @@ def page(
         k=report.k,
         severity=severity_of(report.k, report.is_linked),
         about=about_of(dump, taken, (overlay, overlay_check)),
-        answer=f"<p>{answer_of(report, graph, pieces)}</p>{wider_of(wide, report)}"
+        answer=f"<p>{answer_of(report, graph, pieces)}</p>{site_of(sites, report.cut, cut_off, ending)}"
+        + worse_of(found, report, len(cut_off), sites, ending)
+        + wider_of(wide, report, found)
         + (f'<p class="t-soft">All names end in {shown_html(ending)}, which is left out here.</p>' if ending else ""),
         facts=facts_of(report, graph, dump),
         colours=colour_rules(),
         picture=framed(report.picture(overlay=overlay)),
         pieces_title=pieces_title(report, pieces),
         pieces=pieces_of(report, graph, pieces),
-        others="",
+        others=other_cuts(found, report, sites, ending),
         weakest=weakest_of(graph, report.is_linked),
         added=added_of(report, wanted, mended, why),
-        paste=paste_of(report, cut_off, ending),
+        paste=paste_of(report, cut_off, found, ending),
         checking=checking_of(report, dump.graph.text_with_names, line),
         notes=notes_of(dump, one_sided(dump, overlay)),
     )

@@ -361,6 +361,47 @@ class Pages(Commands):
             out, _, status = self.tagzirk("report", given=text)
             self.assertEqual((status, told in out), (0, True), text)
 
+    def test_what_cannot_be_known_is_not_said(self):
+        for text in "# 1 a\nnode 1\n# 2 b\nnode 2\nlink 1 2\n", "a b\nb c\n":
+            out, _, _ = self.tagzirk("report", given=text)
+            self.assertNotIn("listing", out)
+            self.assertIn("Reading it gave no notes", out)
+        self.assertIn("A crash of all that a host is linked to", self.tagzirk("report", given="a b\nb c\n")[0])
+        self.assertNotIn("A crash of all that a host is linked to", self.tagzirk("report", given="a b\n")[0])
+
+    def test_how_bad_it_is(self):
+        for text, k, kind in (
+            ("a b\nc d\n", 0, "split"),
+            ("a b\nb c\n", 1, "one"),
+            ("a b\n", 1, "fine"),
+            ("a b\nb c\nc d\nd a\n", 2, "few"),
+            (edges_of(itertools.combinations("abcde", 2)).replace("a b\n", ""), 3, "fine"),
+        ):
+            self.assertIn(f'<div class="t-k t-{kind}">k<b>{k}</b>', self.tagzirk("report", given=text)[0])
+
+    def test_the_worst_of_the_smallest_cuts(self):
+        # two hubs of three pods, each of which is linked to both by one node: either of two nodes and a hub, or both hubs
+        pods = [f"{pod}{at}" for pod in "pqr" for at in "123"]
+        links = [(a, b) for a in pods for b in pods if a < b and a[0] == b[0]]
+        links += [(f"{pod}1", "hub-a") for pod in "pqr"] + [(f"{pod}2", "hub-b") for pod in "pqr"]
+        out, _, _ = self.tagzirk("report", "--site", "^[pqr]", given=edges_of(links))
+        words = re.sub("</?(?:span|strong)[^>]*>", "", out)
+        self.assertIn("But as few crashes cut off more: if hub-a, hub-b crash, 6 hosts are cut off, in 2 pieces:", words)
+        # by hand: the hubs, and in each pod its first two, or one of these with the hub of the other
+        self.assertIn("There are 10 smallest cuts, of 2 hosts each.", words)
+        self.assertRegex(words, r"<tr><td>hub-a, hub-b</td><td[^>]*>6</td><td[^>]*>3</td><td>sites \w \(3 hosts\), ")
+
+    def test_names_to_paste(self):
+        names = [f"{it}.prod.example.net" for it in ("a", "b", "c d")]
+        out, _, _ = self.tagzirk("report", given=json.dumps(views_of(names, [names[:2], names[1:]])))
+        self.assertIn("All names end in .prod.example.net", out)
+        self.assertIn('<pre class="t-paste">b.prod.example.net</pre>', out)
+        self.assertRegex(out, r'<pre class="t-paste">(?:a|&#x27;c d)\.prod\.example\.net(?:&#x27;)?</pre>')
+
+    def test_who_has_listings_that_are_not_answered(self):
+        out, _, _ = self.tagzirk("report", "--entries", DUMPS / "cluster.json")
+        self.assertIn('<tr><td>oslo-4</td><td class="t-number">2</td></tr>', out)
+
     def test_each_piece_has_a_colour(self):
         out, _, _ = self.tagzirk("report", given="a b\nc d\nd e\nf g\ng h\nh i\n")
         circles = re.findall(r'<circle class="(\S+) c(\d)"[^>]*><title>node \d \(\S+\): (\w)<', out)

@@ -15,7 +15,7 @@ from ..crashes import Crash, badness, each
 from ..errors import BadDump
 from ..graphs import NamedGraph, shown
 from ..naming import hosts_of
-from ..pages import counted
+from ..markup import counted
 from ..progress import Progress
 from ..racks import Loss, fewest_racks, racks_of
 from ..reports import Report, analysed

@@ -10,7 +10,7 @@ from typing import IO, TYPE_CHECKING
 
 from ..graphs import shown
 from ..mending import Mended, mend
-from ..pages import counted
+from ..markup import counted
 from ..progress import Progress
 from .words import Parents, at_least_one, command, dump_of, output, told
 

@@ -21,6 +21,7 @@ def add(commands: Commands, parents: Parents) -> None:
     text = "print a page of HTML about a dump, which needs nothing else"
     it = command(commands, "report", run_report, text, parents.dump)
     it.add_argument("--to", type=at_least_one, metavar="K", help="links to add are for this k, not for one more")
+    it.add_argument("--site", metavar="REGEX", help="the site of a host, by its name: `^([a-z]+)-` is hel of hel-7")
 
 
 def run_report(words: argparse.Namespace) -> int:
@@ -29,6 +30,6 @@ def run_report(words: argparse.Namespace) -> int:
     changed = last_change(words.files)
     taken = None if changed is None else datetime.datetime.fromtimestamp(changed).astimezone()
     with Progress() as progress:
-        text = page(dump, words.to, taken=taken, progress=progress)
+        text = page(dump, words.to, taken=taken, site=words.site, progress=progress)
     sys.stdout.write(text)
     return 0

@@ -8,7 +8,7 @@ from typing import TYPE_CHECKING, Any, Dict, List, Optional, Sequence
 
 from ..errors import in_words
 from ..graphs import shown
-from ..pages import counted
+from ..markup import counted
 from ..progress import Progress
 from ..sites import Sites
 from ..status import UNKNOWN, WORDS, Dead, Status, status

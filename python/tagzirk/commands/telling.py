@@ -5,7 +5,7 @@ from __future__ import annotations
 from typing import Any, Dict, Iterable, List, Optional
 
 from ..crashes import Crash
-from ..pages import counted
+from ..markup import counted
 from ..racks import Loss
 from ..sites import Site, Sites, said_of_sites
 from ..wide import Wide
