@@ -11,7 +11,7 @@ from .documents import is_views, key_around, views_of
 from .errors import BadDump
 from .gml import gml_graph
 from .graph_files import Graph
-from .json_files import Twice, json_of
+from .json_files import Twice, is_json, json_of
 from .lines import of_lines
 from .matrices import graph6_of, matrix_graph, matrix_of
 from .neighbours import lgl, metis, multiline
@@ -125,4 +125,4 @@ def of_json(text: str, asked: Asked) -> Optional[Views]:
             f"it has the {key_in(value, PEER_KEYS)} of one host, and does not say of which: give the files of "
             "all hosts, or their folder; the name of each is then the host's"
         )
-    return None if is_views(value) else views_of(value, asked)
+    return None if is_views(value) and is_json(text) else views_of(value, asked)

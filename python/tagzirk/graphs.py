@@ -18,23 +18,30 @@ Graph = Union[Any, Iterable[Sequence[Node]], Mapping[Node, Iterable[Node]]]
 MOST_ID = 2**32 - 1
 # How many names, or listings, a message tells at most.
 MOST_TOLD = 10
-# Control characters, and halves of surrogate pairs.
-UNSHOWN = re.compile("[\0-\x1f\x7f-\x9f\ud800-\udfff]")
+# Control characters, and halves of surrogate pairs, which a graph file shows as codes; and what a person does not see, or
+# what lets a text look like another one: spaces without width, what turns the direction of text, ends of lines.
+CONTROLS = "\0-\x1f\x7f-\x9f\ud800-\udfff"
+OF_FILES = re.compile(f"[{CONTROLS}]")
+UNSHOWN = re.compile(f"[{CONTROLS}\u061c\u200b\u200e\u200f\u2028-\u202e\u2060-\u206f\ufeff]")
+
+
+def in_file(name: Any) -> str:
+    """A name as one line, as `overlay import` writes it: control characters, and a backslash before `u{`, as codes. So
+    are halves of surrogate pairs, which UTF-8 has not."""
+    return OF_FILES.sub(code, str(name).replace("\\u{", "\\u{5c}u{"))
 
 
 def shown(name: Any) -> str:
-    """A name as one line, as `overlay import` shows it: control characters, and a backslash before `u{`, as codes. So
-    are halves of surrogate pairs, which UTF-8 has not.
+    """A name as a person is shown it: as in a graph file, and what is not seen as codes too.
 
-    >>> print(shown("a\\nb"), shown("a\\\\u{a}b"))
-    a\\u{a}b a\\u{5c}u{a}b
+    >>> print(shown("a\\nb"), shown("a\\\\u{a}b"), shown("oslo\\u202e1-"))
+    a\\u{a}b a\\u{5c}u{a}b oslo\\u{202e}1-
     """
-    text = str(name).replace("\\u{", "\\u{5c}u{")
-    return UNSHOWN.sub(code, text)
+    return UNSHOWN.sub(code, in_file(name))
 
 
 def code(found: "re.Match[str]") -> str:
-    """A control character as its code."""
+    """A character as its code."""
     return f"\\u{{{ord(found[0]):x}}}"
 
 
@@ -73,7 +80,7 @@ class NamedGraph(Generic[Node]):
         link 1 2
         """
         names = self.names
-        nodes = (f"# {a} {shown(names[a])}\nnode {a}\n" for a in self.nodes)
+        nodes = (f"# {a} {in_file(names[a])}\nnode {a}\n" for a in self.nodes)
         return "".join([*nodes, *self._link_lines()])
 
     def _link_lines(self) -> List[str]:

@@ -46,8 +46,8 @@ def matrix_of(text: str, least: int = LEAST_ROWS) -> Optional[Matrix]:
         return None
     head, below = rows[0], rows[1:]
     first = [row[0] for row in below]
-    for names in (head[1:], head):
-        has_names = len(names) == len(below) and names == first and all(len(row) == len(names) + 1 for row in below)
+    for names in () if all(map(is_number, head)) and len(head) == len(rows) else (head[1:], head):
+        has_names = len(set(names)) == len(below) and names == first and all(len(it) == len(names) + 1 for it in below)
         if has_names and all(is_number(cell) or not cell for row in below for cell in row[1:]):
             return Matrix(names, [row[1:] for row in below])
     if all(len(row) == len(rows) and all(map(is_number, row)) for row in rows):
