@@ -241,16 +241,16 @@ def link_in(value: Any, asked: Asked) -> Optional[Ends]:
     return ends_in(value, asked)
 
 
-def key_of(node: Any) -> str:
-    """What the ends of links call a node: its id, or if it has none its name."""
+def key_of(node: Any, by: Optional[str] = None) -> str:
+    """What the ends of links call a node: its id, or if it has none its name, or else what a person says names it."""
     inner = naming_part(node) if isinstance(node, dict) else {}
-    return name_of(inner["id"]) if "id" in inner else name_of(node)
+    return name_of(inner["id"]) if "id" in inner else name_of(node, None if key_in(inner, NAME_KEYS) else by)
 
 
 def of_nodes(nodes: List[Any], links: Any, is_directed: bool, asked: Asked) -> Views:
     """Node-link JSON of networkx, d3, cytoscape or NetJSON. The ends of links are ids, or places among the nodes."""
     views = Views("a graph of nodes and links" + (", whose directions are listings" if is_directed else ""))
-    names = {key_of(it): name_of(it, asked.by) if asked.by else key_of(it) for it in nodes}
+    names = {key_of(it, asked.by): name_of(it, asked.by) if asked.by else key_of(it) for it in nodes}
     if len(set(names.values())) != len(nodes):
         raise BadDump("two of its nodes have one name")
     for name, node in zip(names.values(), nodes):

@@ -18,6 +18,7 @@ from .folders import of_hosts
 from .forms import NATIVE, form_of, listings_of
 from .graphs import NamedGraph
 from .hosts import SeveralLists
+from .limits import GZIP
 from .notes import Line, lines_in, notes_on
 from .programs import Program, call, find, refuse
 from .slips import of_contents
@@ -31,7 +32,14 @@ ONE_SIDED = re.compile(r"^listed by one end only: (\d+)$", re.MULTILINE)
 WITHOUT_ENTRY = re.compile(r"^listed without an entry: (\d+)$", re.MULTILINE)
 # What overlay says of a first line that may be a header.
 HEADER = re.compile(r"^(line \d+: (\S+) and (\S+) stand in no other line; if it is a header, remove it)$", re.MULTILINE)
-FIRST_LINE = re.compile(r"line 1 is no pair of names: `.* stands behind them")
+NO_PAIR = re.compile(r"line \d+ is no pair of names: ")
+# What may be done about a line that is no pair of names.
+ADVICE = "\n".join(
+    (
+        "if it is a table, --columns FROM,TO names the columns of both ends, by a header or by numbers as 1,3",
+        "--skip N passes over N first lines, and --form FORM says what it is: tagzirk import --help has all forms",
+    )
+)
 # The forms that are lines of names, and the options that a form takes; others take --by.
 OF_LINES = ("edges", "csv", "weighted", "adjacency")
 OF_VALUES = ("by", "columns", "peers", "links")
@@ -187,7 +195,7 @@ def read_dump(
         try:
             return dump_of(data, str(place), options, is_graph_taken, overlay)
         except (BadDump, LibraryMissing, Refused) as why:
-            what = of_contents(data, is_surely=False)
+            what = None if data.startswith(GZIP) else of_contents(data, is_surely=False)
             raise BadDump(f"{place} is no dump: it is {what}") if what else named_error(why, str(place)) from None
     files = contents_of(places)
     name = places[0] if len(places) == 1 else f"{len(files)} files"
@@ -217,8 +225,8 @@ def named_error(why: Exception, name: str) -> Exception:
         # overlay was given the dump on standard input, and not by such options
         reason = OF_THIS.sub("", why.reason.replace("tip: standard input", f"tip: {name}"))
         reason = re.sub(r"--(views|edges|dot)\b", r"--form \1", reason)
-        if FIRST_LINE.search(reason):
-            reason += "\nif the first line is a header, --columns FROM,TO names the columns of both ends"
+        if NO_PAIR.search(reason):
+            reason += f"\n{ADVICE}"
         return Refused(why.number, why.line, f"{name}: {reason}")
     return type(why)(f"{name}: {why}")
 
@@ -276,7 +284,7 @@ def more_in_dot(data: bytes, dump: Dump, options: Options, overlay: Optional[Pro
     """What a dump in DOT that `overlay import` read says beside its links; or None if it says no more, or is no DOT.
     Both readings have to give one graph."""
     text = decoded(data)
-    if (options.asked.form or form_of(text, dump.name)) != "dot":
+    if "[" not in text or (options.asked.form or form_of(text, dump.name)) != "dot":
         return None
     views = of_dot(text)
     if not any(it.said for it in views.statements):

@@ -63,7 +63,10 @@ class Graph:
             views.kind += ", with hosts by their ids; --by label takes their labels"
         for key, name in names.items():
             views.enter(name, self.hosts[key])
-        for link in self.links:
+        # one after the other goes, so that they do not stand there twice
+        links, self.links = self.links[::-1], []
+        while links:
+            link = links.pop()
             gone = next((end for end in link[:2] if end not in names), None)
             if gone is not None:
                 raise BadDump(f"a link has the end {gone}, which is no node")

@@ -11,12 +11,14 @@ from .errors import BadDump
 from .graph_files import Graph
 from .matrices import graph6_of, matrix_graph, matrix_of
 from .neighbours import is_adjacency, is_metis, lgl, metis, multiline, of_adjacency
-from .rows import LIST, NUMBER, Row, is_comment, rows_of, unquoted
+from .rows import LIST, NUMBER, Row, rows_of, unquoted
 from .tables import of_table, table_of
 from .values import Scalar, Views
 
 # An arrow, or a line, between two names; a line of two marks needs space around it, since names may have such.
 ARROW = re.compile(r" ?(<-{1,3}>|<=>|-{1,3}>|={1,2}>) ?| (-{2,3}) ")
+# A line that is a comment by another mark than `#`.
+COMMENTS = re.compile(r"^[ \t]*(?://|%|;|--)(?:\s|$)", re.MULTILINE)
 # Two names in brackets, with quotes or without.
 PAIR = re.compile(r"\(\s*(['\"]?)([^'\",\s()]+)\1\s*,\s*(['\"]?)([^'\",\s()]+)\3\s*\)\s*[,;]?")
 
@@ -63,9 +65,8 @@ def of_lines(text: str, form: Optional[str] = None, columns: Optional[str] = Non
 
 def of_shape(text: str, rows: List[Row]) -> Optional[Views]:
     """What hosts list by lines whose shape alone says how they are meant."""
-    chains = [chain_of(row.text) for row in rows]
-    if all(len(it.names) > 1 for it in chains):
-        return of_arrows(rows, chains)
+    if all(len(chain_of(row.text).names) > 1 for row in rows):
+        return of_arrows(rows)
     if all(PAIR.fullmatch(row.text) for row in rows):
         return of_pairs(rows)
     if all(";" in row.text for row in rows):
@@ -75,15 +76,14 @@ def of_shape(text: str, rows: List[Row]) -> Optional[Views]:
         return graph.views()
     if all(LIST.fullmatch(row.text) for row in rows) or is_adjacency(rows) and not is_weighted(rows):
         return of_adjacency(rows)
-    has_comments = any(is_comment(line) for line in text.split("\n") if line.strip())
-    if is_weighted(rows) or has_comments and all(len(row.words) == 2 for row in rows):
+    if is_weighted(rows) or COMMENTS.search(text) and all(len(row.words) == 2 for row in rows):
         return of_weighted(rows)
     return with_what_is_behind(text, rows)
 
 
 def graph_of(text: str, rows: List[Row]) -> Optional[Graph]:
     """The graph that a text says in one of the forms that leave no doubt."""
-    if is_metis(text):
+    if is_metis(text, rows[0]):
         if all(len(row.words) == 2 for row in rows):
             raise BadDump("each line may be an edge or a list of neighbours: say --form edges or --form metis")
         return metis(text)
@@ -110,11 +110,11 @@ def words_of(row: Row) -> List[str]:
 
 def is_weighted(rows: List[Row]) -> bool:
     """Whether each line is two names and a number that is no name, or names in quotes."""
-    if any(";" in row.text for row in rows):
-        return False
+    count = len(words_of(rows[0]))
+    if count == 2 or any(";" in row.text for row in rows):
+        are_two = count == 2 and all(len(words_of(row)) == 2 for row in rows)
+        return are_two and any(";" not in row.text and words_of(row) != row.words for row in rows)
     words = [words_of(row) for row in rows]
-    if all(len(it) == 2 for it in words) and any(it != row.words for it, row in zip(words, rows)):
-        return True
     if not all(len(it) == 3 and NUMBER.fullmatch(it[2]) for it in words):
         return False
     names = {name for it in words for name in it[:2]}
@@ -159,10 +159,11 @@ def chain_of(text: str) -> Chain:
     return Chain(names, arrows) if all(it and " " not in it for it in names) else Chain([], [])
 
 
-def of_arrows(rows: List[Row], chains: List[Chain]) -> Views:
+def of_arrows(rows: List[Row]) -> Views:
     """Names with arrows between them; of a chain each arrow is by itself."""
     views, all_arrows = Views("lines of names with an arrow: a -> b says that a lists b"), set()
-    for chain in chains:
+    for row in rows:
+        chain = chain_of(row.text)
         for one, arrow, other in zip(chain.names, chain.arrows, chain.names[1:]):
             views.edge(one, other, arrow.endswith(">") and not arrow.startswith("<"))
             all_arrows.add(arrow)

@@ -8,7 +8,7 @@ from typing import List, NamedTuple, Optional
 
 from .errors import BadDump
 from .graph_files import Graph
-from .limits import need_few
+from .limits import need_few_implied
 from .rows import NUMBER
 
 GRAPH6 = re.compile(r"(?:>>graph6<<)?([?-~]+)")
@@ -23,9 +23,8 @@ class Matrix(NamedTuple):
     cells: List[List[str]]
 
 
-def cells_of(text: str) -> List[List[str]]:
-    """The rows of a text, with cells between commas, `;`, tabs or white space, and without brackets and comments."""
-    lines = [line for line in text.split("\n") if line.strip() and line.lstrip()[0] not in "#%"]
+def cells_of(lines: List[str]) -> List[List[str]]:
+    """The cells of lines between commas, `;`, tabs or white space, without brackets around them."""
     between = next((it for it in ("\t", ";", ",") if lines and it in lines[0]), None)
     rows = []
     for line in lines:
@@ -41,7 +40,10 @@ def is_number(cell: str) -> bool:
 def matrix_of(text: str, least: int = LEAST_ROWS) -> Optional[Matrix]:
     """The adjacency matrix that a text is, or None: numbers alone in a square of some size, or with a row above it and a
     column before it that have the same names."""
-    rows = cells_of(text)
+    lines = [line for line in text.split("\n") if line.strip() and line.lstrip()[0] not in "#%"]
+    if not lines or len(cells_of(lines[:1])[0]) not in (len(lines), len(lines) - 1):
+        return None
+    rows = cells_of(lines)
     if len(rows) < least or any(len(row) not in (len(rows), len(rows[0])) for row in rows):
         return None
     head, below = rows[0], rows[1:]
@@ -98,8 +100,8 @@ def graph6_of(text: str) -> Optional[Graph]:
     count, begin = (ord(said[0]) - 63, 1) if said[0] != "~" else (number_of(said[1:4]), 4)
     if len(said) != begin + (count * (count - 1) // 2 + 5) // 6:
         return None
-    need_few(count * (count - 1) // 2, "links")
     bits = bits_of(said[begin:])
+    need_few_implied(sum(bits), "graph6 stands for many links")
     graph, at = Graph("graph6"), 0
     for other in range(count):
         graph.host(str(other))

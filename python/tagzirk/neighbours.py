@@ -16,9 +16,9 @@ def is_adjacency(rows: List[Row]) -> bool:
     """Whether lines as `a b c` are lists of neighbours: some line is not two words, each host has one line, and every
     neighbour has one too."""
     heads = [row.words[0] for row in rows]
-    peers = {peer for row in rows for peer in row.words[1:]}
-    is_short = all(len(row.words) == 2 for row in rows)
-    return not is_short and len(set(heads)) == len(heads) > 1 and set() < peers <= set(heads)
+    if len(set(heads)) < len(heads) or len(heads) == 1 or all(len(row.words) == 2 for row in rows):
+        return False
+    return set() < {peer for row in rows for peer in row.words[1:]} <= set(heads)
 
 
 def of_adjacency(rows: List[Row]) -> Views:
@@ -123,8 +123,11 @@ def weights_of(lists: List[List[str]], has_weights: bool) -> Dict[Tuple[int, int
     return found
 
 
-def is_metis(text: str) -> bool:
-    """Whether a text is as METIS says beyond doubt: it has as many lists, and each link at both ends, as it declares."""
+def is_metis(text: str, first: Row) -> bool:
+    """Whether a text with this first row is as METIS says beyond doubt: it has as many lists, and each link at both
+    ends, as it declares."""
+    if not all(map(re.compile("[0-9]{1,9}").fullmatch, first.words)) or int(first.words[0]) > text.count("\n"):
+        return False
     try:
         metis(text)
     except BadDump:

@@ -117,7 +117,6 @@ NO_DUMPS: Tuple[Tuple[bytes, str], ...] = (
 )
 # How a file begins that could not be read, and may be something else.
 PERHAPS: Tuple[Tuple[bytes, str], ...] = (
-    (rb"\x1f\x8b", "packed by gzip: `zcat FILE | tagzirk COMMAND` reads it"),
     (rb"groups:[ \t\r]*\n[ \t]*- name:", "rules for Prometheus"),
 )
 # Options and words that a command can't do without: how they are given.
