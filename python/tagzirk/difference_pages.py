@@ -7,7 +7,7 @@ from string import Template
 from typing import Iterable, List, Sequence, Tuple
 
 from .differences import Difference, Link, Side
-from .pages import counted, names_html, shown_html, table
+from .markup import counted, names_html, shown_html, table
 
 PAGE = Template(
     """<!DOCTYPE html>

@@ -10,7 +10,7 @@ from typing import TYPE_CHECKING, Any, Dict, List, Sequence, Tuple
 from ..difference_pages import difference_page
 from ..differences import Difference, Link, Side, differences
 from ..graphs import shown
-from ..pages import counted
+from ..markup import counted
 from ..progress import Progress
 from .words import Parents, command, options_of, some, told
 
