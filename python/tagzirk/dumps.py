@@ -20,6 +20,7 @@ from .graphs import NamedGraph
 from .hosts import SeveralLists
 from .limits import GZIP
 from .notes import Line, lines_in, notes_on
+from .only import only_graph, only_views, plain_views
 from .programs import Program, call, find, refuse
 from .slips import of_contents
 from .taken import taken_of
@@ -40,6 +41,8 @@ ADVICE = "\n".join(
         "--skip N passes over N first lines, and --form FORM says what it is: tagzirk import --help has all forms",
     )
 )
+# The refusal of more nodes than a graph may have.
+TOO_MANY = 31
 # The forms that are lines of names, and the options that a form takes; others take --by.
 OF_LINES = ("edges", "csv", "weighted", "adjacency")
 OF_VALUES = ("by", "columns", "peers", "links")
@@ -57,11 +60,13 @@ OF_DOT = ("in place of a subgraph", "an HTML text", "several words to DOT")
 
 
 class Options(NamedTuple):
-    """How a dump is to become a graph: as `overlay import` has it, and as a form, a field or columns are asked for."""
+    """How a dump is to become a graph: as `overlay import` has it, and as a form, a field or columns are asked for. With
+    patterns in `only`, hosts with such names are looked at alone."""
 
     either: bool = False
     entries: bool = False
     asked: Asked = Asked()
+    only: Tuple[str, ...] = ()
 
     @property
     def words(self) -> List[str]:
@@ -213,7 +218,9 @@ def read_dump(
 
 def of_views(views: Views, name: str, options: Options, notes: List[str], overlay: Optional[Program]) -> Dump:
     """The dump of what hosts list, as far as it is taken; and what is likely to be wrong with it."""
-    views, told = taken_of(views, options.asked)
+    views, of_states = taken_of(views, options.asked)
+    views, told = only_views(views, options.only)
+    told = [*of_states, *told]
     if not views.has_known:
         told.append("no host that is listed has an entry; --by FIELD names hosts by another field of objects")
     return imported(json.dumps(views.value).encode(), name, ["--views", *options.words], [*notes, *told], overlay)
@@ -227,6 +234,8 @@ def named_error(why: Exception, name: str) -> Exception:
         reason = re.sub(r"--(views|edges|dot)\b", r"--form \1", reason)
         if NO_PAIR.search(reason):
             reason += f"\n{ADVICE}"
+        if why.number == TOO_MANY:
+            reason += "\n--only PATTERN looks at hosts with such names alone, as --only 'ams-*'"
         return Refused(why.number, why.line, f"{name}: {reason}")
     return type(why)(f"{name}: {why}")
 
@@ -254,10 +263,12 @@ def dump_of(
         ended = call(find("overlay", overlay), ["analyse"], data)
         if ended.status != 0:
             refuse(*ended.err.partition("\n")[::2])
-        return Dump(name, data.decode(errors="backslashreplace"), tuple(notes), None, None)
+        return with_only(Dump(name, data.decode(errors="backslashreplace"), tuple(notes), None, None), options.only)
     form = options.asked.form or form_of(data.decode("utf-8-sig", "replace"), name)
     demand_used(options.asked, f"it has the form {form}", "form", "skip", "up", *TAKEN.get(form, ("by",)))
     views = listings_of(data, name, options.asked)
+    if views is None and options.only:
+        views = plain_views(decoded(data), form)
     if views is None:
         own = [f"--{options.asked.form}"] if options.asked.form in NATIVE else []
         try:
@@ -273,6 +284,14 @@ def dump_of(
     else:
         dump = of_views(views, name, options, [*notes, f"{name} was read as {views.kind}"], overlay)
     return with_notes(dump, lines_in(decoded(data)) if form in OF_LINES else [])
+
+
+def with_only(dump: Dump, patterns: Sequence[str]) -> Dump:
+    """A dump that is a graph file, of hosts with such names alone, if there are patterns."""
+    if not patterns:
+        return dump
+    graph, told = only_graph(dump.graph, patterns)
+    return replace(dump, graph_file=graph.text_with_names, notes=(*dump.notes, told))
 
 
 def with_notes(dump: Dump, lines: Sequence[Line] = ()) -> Dump:

@@ -98,6 +98,39 @@ class Status(Commands):
         self.assertIn("a is short for 2 hosts: a.x, a.y; name one", self.tagzirk("status", both, "--without", "a")[1])
 
 
+class Only(Commands):
+    def test_each_form(self):
+        # three rings of 400 hosts, which are more than can be analysed, joined in one place
+        links = [(f"{site}-{at}", f"{site}-{(at + 1) % 400}") for site in ("ams", "fra", "hel") for at in range(400)]
+        links += [("ams-0", "fra-0"), ("fra-1", "hel-1")]
+        nodes = sorted(set(itertools.chain(*links)))
+        wanted = named_graph([it for it in links if all(name.startswith("ams-") for name in it)]).text_with_names
+        for name, text in (
+            ("net.edges", edges_of(links)),
+            ("net.json", json.dumps(views_of(nodes, links))),
+            ("net.dot", "graph {" + "".join(f'"{a}" -- "{b}";' for a, b in links) + "}"),
+            ("net.csv", "source,target\n" + "".join(f"{a},{b}\n" for a, b in links)),
+        ):
+            path = self.file(name, text)
+            _, err, status = self.tagzirk("import", path)
+            self.assertEqual((status, "--only PATTERN looks at hosts" in err), (1, True), err)
+            out, err, status = self.tagzirk("import", path, "--only", "ams-*")
+            self.assertEqual((out, status), (wanted, 0), name)
+            self.assertIn("looked at alone, as --only ams-* asks: 400 of 1200 hosts", err)
+        self.assertIn("--only oslo* matches the name of no host", self.tagzirk("import", path, "--only", "oslo*")[1])
+
+    def test_all_hosts_are_as_without_it(self):
+        path = self.file("net.json", dump_with_dead())
+        for words in [], ["--entries"], ["--either"], ["--either", "--entries"]:
+            self.assertEqual(self.tagzirk("import", path, *words)[0], self.tagzirk("import", path, "--only", "*", *words)[0])
+
+    def test_graph_file(self):
+        path = self.file("net.graph", named_graph(OVERLAY).text_with_names)
+        lines = self.tagzirk("status", path, "--only", "fra-*", "--only", "relay-*")[0].splitlines()
+        # each relay is linked to one host of the site, and not to the other relay
+        self.assertTrue(lines[0].startswith("k is 1: of 6 hosts, a crash of fra-"), lines)
+
+
 class History(Commands):
     def test_json(self):
         good = self.file("net-20261128T0900Z.txt", edges_of([("a", "b"), ("b", "c")]))

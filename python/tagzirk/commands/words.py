@@ -61,6 +61,13 @@ def common_words() -> Parents:
     )
     dump.add_argument("--skip", type=at_least_one, default=0, metavar="N", help="pass over the first N lines")
     dump.add_argument("--all", action="store_true", help="take all listings and links, whatever state is said of them")
+    dump.add_argument(
+        "--only",
+        action="append",
+        default=[],
+        metavar="PATTERN",
+        help="look at hosts with such names alone, as 'ams-*', and at the links between them; may be repeated",
+    )
     at_once = argparse.ArgumentParser(add_help=False)
     at_once.add_argument(
         "--workers",
@@ -120,7 +127,7 @@ def some(names: Sequence[object]) -> str:
 def options_of(words: argparse.Namespace) -> Options:
     """How the dump is read."""
     asked = Asked(words.form, words.by, words.columns, words.peers, words.links, tuple(words.up), words.all, words.skip)
-    return Options(words.either, words.entries, asked)
+    return Options(words.either, words.entries, asked, tuple(words.only))
 
 
 def dump_of(words: argparse.Namespace, is_graph_taken: bool = True) -> Dump:
