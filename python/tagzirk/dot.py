@@ -80,13 +80,18 @@ class Part:
     """A graph or subgraph: its nodes, its subgraphs that have names, and the attributes that nodes and edges have by
     default from here on. `chain` has the ends, each of one node or of all of a subgraph, of an edge that goes on."""
 
-    def __init__(self, outer: Optional[Part] = None) -> None:
+    def __init__(self, outer: Optional[Part] = None, name: Optional[str] = None) -> None:
         self.nodes: Dict[str, None] = {}
+        self.name: str = name or (outer.name if outer else "")
         self.named: Dict[str, Part] = {}
         self.chain: List[Iterable[str]] = []
         self.defaults: Dict[str, Attributes] = {
             it: dict(outer.defaults[it]) if outer else {} for it in ("node", "edge", "graph")
         }
+
+    def inside(self) -> Attributes:
+        """The name of the subgraph that it is, or that it is in, as an attribute of what stands in it."""
+        return {"subgraph": self.name} if self.name else {}
 
 
 class Reader:
@@ -169,7 +174,7 @@ class Reader:
 
     def subgraph(self, part: Part, name: Optional[str]) -> None:
         """A subgraph begins, or one that is there already is named as the end of an edge."""
-        inner = Part(part) if name is None else part.named.setdefault(name, Part(part))
+        inner = Part(part) if name is None else part.named.setdefault(name, Part(part, name))
         if not self.take("{"):
             self.end(part, inner.nodes)
         elif len(self.parts) > DEEPEST:
@@ -188,7 +193,7 @@ class Reader:
             return
         if name not in self.attributes:
             need_few(len(self.attributes), "hosts")
-            self.attributes[name] = dict(part.defaults["node"])
+            self.attributes[name] = {**part.inside(), **part.defaults["node"]}
         for it in self.parts:
             it.nodes[name] = None
         for is_first in (True, False):
@@ -216,7 +221,7 @@ class Reader:
         if len(chain) == 1 and own is not None:
             self.own[own] = None
             self.attributes[own].update(said)
-        beside = {**part.defaults["edge"], **said} if len(chain) > 1 else said
+        beside = {**part.inside(), **part.defaults["edge"], **said} if len(chain) > 1 else said
         for ones, others in zip(chain, chain[1:]):
             pairs = [*itertools.islice(itertools.product(ones, others), MOST_IMPLIED + 1)]
             self.implied += len(pairs) if len(pairs) > 1 else 0

@@ -19,7 +19,7 @@ from .forms import NATIVE, form_of, listings_of
 from .graphs import NamedGraph
 from .hosts import SeveralLists
 from .limits import GZIP
-from .notes import Line, lines_in, notes_on
+from .notes import Line, commented, lines_in, notes_on
 from .only import only_graph, only_views, plain_views
 from .programs import Program, call, find, refuse
 from .slips import of_contents
@@ -283,7 +283,8 @@ def dump_of(
         demand_used(options.asked, "nothing but names stands in it", "form", "skip")
     else:
         dump = of_views(views, name, options, [*notes, f"{name} was read as {views.kind}"], overlay)
-    return with_notes(dump, lines_in(decoded(data)) if form in OF_LINES else [])
+    text = decoded(data) if form != "json" else ""
+    return with_notes(dump, lines_in(text) if form in OF_LINES else [], text)
 
 
 def with_only(dump: Dump, patterns: Sequence[str]) -> Dump:
@@ -294,16 +295,17 @@ def with_only(dump: Dump, patterns: Sequence[str]) -> Dump:
     return replace(dump, graph_file=graph.text_with_names, notes=(*dump.notes, told))
 
 
-def with_notes(dump: Dump, lines: Sequence[Line] = ()) -> Dump:
-    """A dump with notes on its graph and its lines."""
-    return replace(dump, notes=(*dump.notes, *notes_on(dump.graph, lines, dump.without_entry or 0)))
+def with_notes(dump: Dump, lines: Sequence[Line] = (), text: str = "") -> Dump:
+    """A dump with notes on its graph, its lines, and the comments in its text."""
+    told = notes_on(dump.graph, lines, dump.without_entry or 0)
+    return replace(dump, notes=(*dump.notes, *told, *commented(text)))
 
 
 def more_in_dot(data: bytes, dump: Dump, options: Options, overlay: Optional[Program]) -> Optional[Views]:
     """What a dump in DOT that `overlay import` read says beside its links; or None if it says no more, or is no DOT.
     Both readings have to give one graph."""
     text = decoded(data)
-    if "[" not in text or (options.asked.form or form_of(text, dump.name)) != "dot":
+    if "[" not in text and "subgraph" not in text.lower() or (options.asked.form or form_of(text, dump.name)) != "dot":
         return None
     views = of_dot(text)
     if not any(it.said for it in views.statements):

@@ -4,6 +4,7 @@ from __future__ import annotations
 
 import collections
 import datetime
+import email.utils
 import functools
 import math
 import re
@@ -15,6 +16,7 @@ from .values import Said, Scalar, Views
 NUMBER = re.compile(r"[-+]?([0-9]+(\.[0-9]*)?|\.[0-9]+)([eE][-+]?[0-9]{1,3})?")
 CLOCK = r"[0-9]{2}:[0-9]{2}(:[0-9]{2})?([.,][0-9]{1,9})?( ?(Z|UTC|[-+][0-9]{2}:?[0-9]{2}))?"
 MOMENT = re.compile(rf"[0-9]{{4}}-[0-9]{{2}}-[0-9]{{2}}([T ]{CLOCK})?")
+MAIL_DATE = re.compile(r"[A-Z][a-z]{2}, [0-9]{1,2} [A-Z][a-z]{2} [0-9]{4} [0-9:]{5,8} [-+A-Z0-9]{1,5}")
 SPAN = re.compile(r"(?:[0-9.]+ ?(?:ms|us|s|secs?|seconds?|m|mins?|minutes?|h|hours?|d|days?|w|weeks?)[ ,]*)+(?:ago)?")
 PART = re.compile(r"([0-9.]+) ?([a-z]+)")
 SECONDS = {"u": 1e-6, "ms": 1e-3, "s": 1.0, "m": 60.0, "h": 3600.0, "d": 86400.0, "w": 604800.0}
@@ -139,6 +141,18 @@ def number_of(value: Scalar) -> Optional[float]:
     return number if math.isfinite(number) else None
 
 
+def mail_date(text: str) -> Optional[float]:
+    """The seconds since 1970 of a date as mails have it.
+
+    >>> mail_date("Thu, 01 Jan 1970 00:00:10 +0000")
+    10.0
+    """
+    try:
+        return email.utils.parsedate_to_datetime(text).timestamp() if MAIL_DATE.fullmatch(text) else None
+    except (ValueError, TypeError, OverflowError):
+        return None
+
+
 def moment_of(value: Scalar) -> Optional[float]:
     """The seconds since 1970 that a value says, if it is a time: by a date, or by seconds or smaller parts of them.
 
@@ -156,7 +170,7 @@ def moment_of(value: Scalar) -> Optional[float]:
         return (moment if moment.tzinfo else moment.replace(tzinfo=datetime.timezone.utc)).timestamp()
     number = number_of(value)
     if number is None:
-        return None
+        return mail_date(value.strip()) if isinstance(value, str) else None
     return next((number / part for part in PARTS if EPOCHS[0] <= number / part < EPOCHS[1]), None)
 
 

@@ -7,6 +7,7 @@ import pathlib
 from typing import Any, Dict
 
 from .asked import Asked
+from .beside import said_behind
 from .errors import BadDump
 from .forms import form_of
 from .hosts import Entry, SeveralLists, enter_all
@@ -87,7 +88,9 @@ def peers_in(text: str, host: str, place: str, asked: Asked) -> Any:
                     f"line {row.number} has several words: of several files each is of one host, with the name "
                     "of a peer on each line"
                 )
-        return [row.text for row in rows]
+        lines = text.split("\n")
+        said = [said_behind(lines[row.number - 1]) for row in rows]
+        return [{"name": row.text, **beside} if beside else row.text for row, beside in zip(rows, said)]
     try:
         value = json_of(text) if form == "json" else yaml_of(text)
     except json.JSONDecodeError as why:

@@ -66,8 +66,13 @@ def pairs_of(text: str) -> List[Pair]:
 
 
 def scalars(pairs: List[Pair]) -> Dict[str, Scalar]:
-    """The values that are no lists; of a key that stands several times the last one."""
-    return {it.key: it.value for it in pairs if isinstance(it.value, str)}
+    """The values that are no lists, and those in lists by both keys with a dot between; of a key that stands several
+    times the last one."""
+    said: Dict[str, Scalar] = {it.key: it.value for it in pairs if isinstance(it.value, str)}
+    for it in pairs:
+        if not isinstance(it.value, str):
+            said.update((f"{it.key}.{key}", value) for key, value in scalars(it.value).items())
+    return said
 
 
 def gml_graph(text: str) -> Graph:

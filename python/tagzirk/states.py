@@ -9,7 +9,7 @@ from __future__ import annotations
 import enum
 from typing import AbstractSet, Callable, Dict, Optional, Sequence, Set
 
-from .fields import MISSING, Field, most_of, number_of, text_of, words_of
+from .fields import MISSING, Field, number_of, text_of, words_of
 
 # Words of a field's name that say a state, the time of a last contact, or when something began.
 STATE_NAMES = frozenset(
@@ -18,7 +18,7 @@ STATE_NAMES = frozenset(
     failed failing failure fail suspect suspected available unavailable availability valid invalid ok error err
     errors fault faulty stale expired lost left gone removed deleted closed open phase condition operational
     oper admin visible invisible broken flag flags alarm working running responsive responding answering drained
-    banned blocked usable carrier synced""".split()
+    banned blocked usable carrier synced failures missed tombstone phi""".split()
 )
 CONTACT_NAMES = frozenset(
     """age ago last seen lastseen heard contact handshake handshakes heartbeat heartbeats idle silence silent lastrecv
@@ -30,9 +30,9 @@ KIND_NAMES = frozenset(
     """region zone dc datacenter rack site city country location version ver release build os arch platform port
     protocol proto transport interface iface device dev vlan vrf network net family direction directed inbound
     outbound incoming outgoing initiator index name host hostname address addr ip key id uid uuid comment
-    description note tag tags group cluster type kind role tier model vendor medium cable fiber provider isp asn
-    encrypted tls compressed persistent static dynamic manual local seed relay voter leader whitelisted
-    multigraph title url uri route path""".split()
+    description note tag tags group cluster model vendor medium cable fiber provider isp asn encrypted tls
+    compressed persistent static dynamic manual local seed relay voter leader whitelisted multigraph title url
+    uri route path subgraph""".split()
 )
 MEASURE_NAMES = frozenset(
     """weight w cost metric distance dist length len hops hop bandwidth bw speed capacity rate mtu priority prio rank
@@ -50,7 +50,7 @@ STATE_WORDS = frozenset(
     initializing loading exstart exchange attempt standby draining drained quarantined banned blocked blocking
     discarding invis invisible hidden running stopped crashed exited terminated killed unavailable available
     degraded critical faulty un dn uj ul um serving evicted wait decommissioned maintenance handshake noaddr
-    unknown never absent isolated partitioned""".split()
+    unknown never absent isolated partitioned ghost zombie""".split()
 )
 # Two values, one of which says no.
 PAIRS = [set(it.split()) for it in ("true false", "yes no", "y n", "t f", "on off", "0 1", "+ -", "✓ ✗")]
@@ -101,7 +101,8 @@ def by_contact(field: Field) -> Optional[Kind]:
     """Ages, and times of a last contact: they differ, unless all are times within a minute."""
     is_contact = is_named(field, CONTACT_NAMES)
     if not field.moments and (not is_contact or not field.spans):
-        return Kind.ASKED if is_contact and most_of(field.numbers) else None
+        has_digits = 2 * sum(any(map(str.isdigit, text_of(value))) for _, value in field.said) > len(field.said)
+        return Kind.ASKED if is_contact and has_digits else None
     if not is_contact and is_named(field, BEGIN_NAMES):
         return None
     seconds = field.moments or field.spans
@@ -177,7 +178,8 @@ def by_number(field: Field) -> Optional[Kind]:
     numbers = {it for it in field.numbers if it is not None}
     if 0 in numbers and len(numbers) > 1 and not is_named(field, KIND_NAMES):
         return Kind.ASKED if field.name == "value" else Kind.TOLD
-    is_measure = len(numbers) > MOST_VALUES // 2 or not all(it.is_integer() for it in numbers)
+    is_exact = not all(it.is_integer() for it in numbers) and (len(numbers) > 2 or field.name.isdigit())
+    is_measure = is_exact or len(numbers) > MOST_VALUES // 2
     is_plain = is_measure or is_named(field, KIND_NAMES | MEASURE_NAMES | BEGIN_NAMES)
     if not LARGEST.isdisjoint(numbers) or field.missing and not is_named(field, KIND_NAMES):
         return Kind.TOLD
@@ -190,7 +192,7 @@ def by_few(field: Field) -> Optional[Kind]:
         return None
     if field.is_of_hosts and not is_named(field, LOOK_NAMES):
         return None
-    if not field.missing and (field.spans or is_named(field, BEGIN_NAMES)):
+    if not field.missing and (field.spans and 0 not in field.spans or is_named(field, BEGIN_NAMES)):
         return None
     return Kind.TOLD if 2 * len(field.counts) <= len(field.said) + field.missing or field.missing else None
 

@@ -49,10 +49,18 @@ def ends_by_name(header: Sequence[str], columns: Optional[str]) -> Optional[Ends
         return None
     for pair in (asked,) if asked else (*LINK_ENDS, *LISTING_ENDS, *MANY_ENDS):
         if pair and set(pair) <= set(names):
+            demand_one_pair(pair, names, asked)
             places = names.index(pair[0]), names.index(pair[1])
             is_many = pair in MANY_ENDS
             return Ends(places, pair in LISTING_ENDS or is_many, is_many)
     return None
+
+
+def demand_one_pair(pair: Tuple[str, ...], names: Sequence[str], asked: Optional[Tuple[str, ...]]) -> None:
+    """Refuses a header that has two such pairs without a name in both, unless one is asked for."""
+    for other in () if asked else (*LINK_ENDS, *LISTING_ENDS):
+        if set(other) <= set(names) and not set(other) & set(pair):
+            raise BadDump(f"its header has {' and '.join(pair)}, and {' and '.join(other)}: say --columns FROM,TO")
 
 
 def ends_by_number(columns: Optional[str]) -> Optional[Ends]:

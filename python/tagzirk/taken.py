@@ -178,9 +178,10 @@ def many(fields: Sequence[Field]) -> str:
 def question(fields: Sequence[Field]) -> str:
     """What a person is asked of fields that may say what is down."""
     first = fields[0]
-    is_range = first.moments or first.spans or len(first.counts) > 2 and most_of(first.numbers)
+    is_measured = bool(first.moments or first.spans or len(first.counts) > 2 and most_of(first.numbers))
+    is_range = is_measured and not first.missing and "null" not in first.counts
     word = f"{first.name}={'LOW..HIGH' if is_range else 'VALUE[,VALUE]'}"
-    unit = ", in seconds before the newest," if first.moments else ""
+    unit = ", in seconds before the newest," if is_range and first.moments else ""
     word = f'"{word}"' if " " in word else word
     return f"some may be down: {many(fields)}; say --up {word}{unit} to take those that are up, or --all to take all"
 

@@ -11,7 +11,9 @@ from .errors import BadDump
 PEER_KEYS = ("peers", "neighbors", "neighbours", "active_view", "connections", "links")
 NAME_KEYS = ("name", "id", "host", "hostname", "node", "address", "addr", "key")
 # So many fields of an object, and of objects so deep in it, are what it says.
-MOST_FIELDS, MOST_DEEP = 64, 3
+MOST_FIELDS, MOST_DEEP = 64, 6
+# The values of a list of so many; one of objects counts as so many objects in one another.
+MOST_LONG, OF_LISTS = 16, 3
 # What both ends of a link are called, as fields or columns; and of a listing a host and a peer that it lists.
 LINK_ENDS = (
     ("source", "target"),
@@ -136,7 +138,7 @@ def short(value: Any) -> str:
 
 def said_of(value: Mapping[Any, Any], *without: str) -> Dict[str, Scalar]:
     """What an object says, but for some fields: its scalars, those of objects in it by their keys with dots between,
-    and lists of few scalars as one text. Of objects three deep and of 64 fields, no more is said.
+    and few scalars or objects in a list as one text. Of objects six deep and of 64 fields, no more is said.
 
     >>> said_of({"name": "b", "state": {"up": True, "since": 7}, "flags": ["a", "b"]}, "name")
     {'state.up': True, 'state.since': 7, 'flags': 'a,b'}
@@ -159,11 +161,28 @@ def take_in(said: Dict[str, Scalar], before: str, value: Mapping[Any, Any], with
             if deep and inner:
                 take_in(said, f"{before}{key}.", inner, (), deep - 1)
         elif isinstance(inner, list):
-            if len(inner) <= MOST_FIELDS and is_list_of_names(inner):
-                said[f"{before}{key}"] = ",".join(map(str, inner))
+            if len(inner) <= MOST_LONG:
+                said.update((f"{before}{key}{other}", it) for other, it in joined(inner, deep).items())
         else:
             # a date of YAML
             said[f"{before}{key}"] = str(inner)
+
+
+def joined(values: List[Any], deep: int) -> Dict[str, Scalar]:
+    """What a short list says as one object: scalars as one text, and of objects each field so, with a dot before it.
+
+    >>> joined([1, "a"], 6), joined([{"up": True}, {"up": False, "n": 1}, {"up": True}], 6)
+    ({'': '1,a'}, {'.up': 'True,False', '.n': '1'})
+    """
+    if is_list_of_names(values):
+        return {"": ",".join(map(str, values))}
+    found: Dict[str, Dict[str, None]] = {}
+    for it in values if deep >= OF_LISTS else ():
+        inner: Dict[str, Scalar] = {}
+        take_in(inner, ".", it if isinstance(it, dict) else {}, (), deep - OF_LISTS)
+        for key, value in inner.items():
+            found.setdefault(key, {})[str(value)] = None
+    return {key: ",".join(texts) for key, texts in found.items()}
 
 
 def item_of(value: Any, by: Optional[str] = None) -> Tuple[str, Said]:
