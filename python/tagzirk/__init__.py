@@ -2,7 +2,8 @@
 
 `analyse` finds the fewest crashes that split a graph, `check` asks about a certificate, and `run` runs a scenario of a
 simulated world. `mend` finds links to add, `each` tells what each single crash does, `worst` which of the smallest cuts
-cut off most, and `widest` which crashes cut off more than one host. `status` says of a dump what is asked first. `read_dump` reads what a cluster says of its links, and `history`, `metrics` and `page` tell of
+cut off most, and `widest` which crashes cut off more than one host. `status` says of a dump what is asked first,
+and `differences` what changed between two. `read_dump` reads what a cluster says of its links, and `history`, `metrics` and `page` tell of
 dumps. The command tagzirk calls these.
 
 >>> import tagzirk
@@ -19,6 +20,7 @@ from .answers import Answer
 from .asked import Asked
 from .checks import Verdict, check
 from .crashes import Crash, each
+from .differences import Difference, differences
 from .dumps import Dump, Options, read_dump
 from .errors import (
     BadDump,
@@ -65,6 +67,7 @@ __all__ = [
     "Crash",
     "Cut",
     "Delivery",
+    "Difference",
     "Dump",
     "Entry",
     "FiledReport",
@@ -93,6 +96,7 @@ __all__ = [
     "Worst",
     "analyse",
     "check",
+    "differences",
     "each",
     "history",
     "mend",

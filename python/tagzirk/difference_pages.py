@@ -66,9 +66,9 @@ def difference_page(it: Difference) -> str:
 
 def row_of(when: str, side: Side) -> Tuple[str, ...]:
     """The row of one dump."""
-    cut = "none: every two hosts are linked" if side.report.is_linked else names_html(side.report.cut)
+    cut = "none: every two hosts are linked" if side.report.is_linked else names_html(side.cut.crashed)
     sizes = (side.report.k, len(side.graph.ids), len(side.graph.links))
-    return (when, *map(str, sizes), cut, names_html(side.cut_off) or "nobody")
+    return (when, *map(str, sizes), cut, names_html(side.cut.cut_off) or "nobody")
 
 
 def link_html(link: Sequence[str]) -> str:

@@ -13,7 +13,7 @@ from .graphs import NamedGraph, numbered
 from .programs import Program
 from .progress import Progress
 from .reports import Report, analysed
-from .status import pieces_after
+from .worst import Cut, worst
 
 Link = Tuple[str, str]
 Ask = Callable[[NamedGraph[str]], Report[str]]
@@ -21,12 +21,13 @@ Ask = Callable[[NamedGraph[str]], Report[str]]
 
 @dataclass(frozen=True)
 class Side:
-    """One of both dumps: its hosts that have an entry, their links, k and the cut, and who is cut off then."""
+    """One of both dumps: its hosts that have an entry with their links, the report of these, and the worst of the
+    smallest cuts that were found, which has nobody if every two hosts are linked."""
 
     dump: Dump
     graph: NamedGraph[str]
     report: Report[str]
-    cut_off: Tuple[str, ...]
+    cut: Cut[str]
 
 
 @dataclass(frozen=True)
@@ -121,8 +122,8 @@ def differences(
         dump = read_dump(places, options._replace(entries=True), overlay=overlay)
         graph = dump.graph
         report = ask(graph)
-        pieces = pieces_after(report, graph)
-        return Side(dump, graph, report, tuple(name for piece in pieces[1:] for name in piece))
+        found = worst(graph, report, 1, overlay=overlay, overlay_check=overlay_check, progress=progress)
+        return Side(dump, graph, report, found.cuts[0] if found.cuts else Cut((), (), 1))
 
     before, now = side(old), side(new)
     return compared(before, now, ask, progress)

@@ -20,11 +20,13 @@ MOST_RACKS, MOST_SETS = 3, 200_000
 
 @dataclass(frozen=True)
 class Loss(Generic[Node]):
-    """The fewest racks whose loss leaves hosts that don't reach each other. `racks` are those that cut off most, whom
-    `cut_off` has; `number` is how many sets of so many racks split the overlay. If no racks do, `racks` is None; no
-    `tried` racks at once were found to, by trying all."""
+    """The fewest racks whose loss leaves hosts that don't reach each other. `racks` are those that cut off most; whom
+    they strike is in `crashed`, and who no longer reaches the largest connected component in `cut_off`. `number` is how
+    many sets of so many racks split the overlay. If no racks do, `racks` is None; no `tried` racks at once were found
+    to, by trying all."""
 
     racks: Optional[Tuple[Any, ...]]
+    crashed: Tuple[Node, ...]
     cut_off: Tuple[Node, ...]
     number: int
     tried: int
@@ -38,7 +40,7 @@ def fewest_racks(
     >>> from tagzirk.graphs import named_graph
     >>> ring = named_graph([("a", "b"), ("b", "c"), ("c", "d"), ("d", "e"), ("e", "a")])
     >>> fewest_racks(ring, {"R1": ["a"], "R2": ["b"], "R3": ["d", "e"], "R4": ["c"]})
-    Loss(racks=('R1', 'R4'), cut_off=('b',), number=2, tried=2)
+    Loss(racks=('R1', 'R4'), crashed=('a', 'c'), cut_off=('b',), number=2, tried=2)
     """
     bits, names = Bits(graph), graph.names
     groups = [(rack, bits.of(ids_of_rack(graph, rack, hosts))) for rack, hosts in racks.items()]
@@ -50,9 +52,9 @@ def fewest_racks(
         tried = number
         if lost:
             them, crashed = max(lost, key=lambda it: number_of(bits.cut_off(it[1])))
-            cut_off = tuple(names[it] for it in bits.ids(bits.cut_off(crashed)))
-            return Loss(them, cut_off, len(lost), tried)
-    return Loss(None, (), 0, tried)
+            struck, cut_off = (tuple(names[it] for it in bits.ids(of)) for of in (crashed, bits.cut_off(crashed)))
+            return Loss(them, struck, cut_off, len(lost), tried)
+    return Loss(None, (), (), 0, tried)
 
 
 def sets_of(

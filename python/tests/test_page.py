@@ -1,5 +1,5 @@
-"""The examples of README.md are run: each line `$ ..` of a block `console`, with what it prints. And the types of the
-package are checked, if mypy is there."""
+"""The examples of README.md and of docs/OPERATING.md are run: each line `$ ..` of a block `console`, with what it prints.
+And the types of the package are checked, if mypy is there."""
 
 import os
 import pathlib
@@ -12,20 +12,25 @@ import unittest
 
 from tagzirk.programs import CHECKOUT, find
 
-PAGE = CHECKOUT / "python" / "README.md"
+# Each page, with the commands that it has an example of.
+PAGES = {
+    CHECKOUT / "python" / "README.md": ("import", "mend", "each", "history", "metrics", "report"),
+    CHECKOUT / "docs" / "OPERATING.md": ("status", "diff", "each"),
+}
 BLOCK = re.compile(r"^```console\n(.*?)^```$", re.DOTALL | re.MULTILINE)
 COMMAND = re.compile(r"^\$ (.*)\n((?:(?!\$ ).*\n)*)", re.MULTILINE)
 
 
 class Page(unittest.TestCase):
     def test_the_examples(self):
-        blocks = BLOCK.findall(PAGE.read_text())
-        examples = [it for block in blocks for it in COMMAND.findall(block)]
-        self.assertEqual("".join(f"$ {command}\n{printed}" for command, printed in examples), "".join(blocks))
-        for command in "import", "mend", "each", "history", "metrics", "report":
-            self.assertTrue(any(f"tagzirk {command}" in it for it, _ in examples), command)
-        with tempfile.TemporaryDirectory() as room:
-            self.run_all(examples, pathlib.Path(room))
+        for page, commands in PAGES.items():
+            blocks = BLOCK.findall(page.read_text())
+            examples = [it for block in blocks for it in COMMAND.findall(block)]
+            self.assertEqual("".join(f"$ {command}\n{printed}" for command, printed in examples), "".join(blocks))
+            for command in commands:
+                self.assertTrue(any(f"tagzirk {command}" in it for it, _ in examples), command)
+            with tempfile.TemporaryDirectory() as room:
+                self.run_all(examples, pathlib.Path(room))
 
     def run_all(self, examples, room):
         """Runs the examples among the dumps of the repository, one after the other."""

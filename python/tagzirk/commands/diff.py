@@ -38,7 +38,7 @@ def run_diff(words: argparse.Namespace) -> int:
         it = differences(words.files[:1], words.files[1:], options_of(words), progress=progress)
     for side in it.old, it.new:
         for note in side.dump.notes:
-            told(f"{side.dump.name}: {note}")
+            told(note if note.startswith(side.dump.name) else f"{side.dump.name}: {note}")
     if words.json:
         print(json.dumps(value_of(it), ensure_ascii=False))
     elif words.html:
@@ -64,14 +64,14 @@ def lines_of(it: Difference) -> List[str]:
 
 def said_of_side(side: Side) -> str:
     """What one dump says, in a line."""
-    report = side.report
+    report, cut = side.report, side.cut
     size = f"{counted(len(side.graph.ids), 'host')}, {counted(len(side.graph.links), 'link')}"
     if report.is_linked:
         return f"{size}; every two hosts are linked."
+    away = f"{counted(len(cut.cut_off), 'host')}: {some(cut.cut_off)}"
     if report.k == 0:
-        return f"{size}; split: {counted(len(side.cut_off), 'host')} can't reach the largest piece: {some(side.cut_off)}."
-    away = f"{counted(len(side.cut_off), 'host')}: {some(side.cut_off)}"
-    return f"{size}; a crash of {some(report.cut)} cuts off {away}."
+        return f"{size}; split without any crash, which cuts off {away}."
+    return f"{size}; a crash of {some(cut.crashed)} cuts off {away}."
 
 
 def said_of_changes(hosts: Sequence[str], links: Sequence[Link]) -> str:
@@ -126,6 +126,6 @@ def value_of_side(side: Side) -> Dict[str, Any]:
         "links": len(side.graph.links),
         "k": side.report.k,
         "all_linked": side.report.is_linked,
-        "cut": list(side.report.cut),
-        "cut_off": list(side.cut_off),
+        "cut": list(side.cut.crashed),
+        "cut_off": list(side.cut.cut_off),
     }

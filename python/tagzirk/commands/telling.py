@@ -56,7 +56,7 @@ def rack_line(loss: Loss[str], sites: Optional[Sites]) -> str:
         return f"It is split without the loss of any rack: {counted(len(loss.cut_off), 'host')} cut off."
     hosts = f"{counted(len(loss.cut_off), 'host')}: {some(loss.cut_off)}"
     others = f" ({loss.number} such sets of racks; this one cuts off most)" if loss.number > 1 else ""
-    hit = site_part(sites, (), loss.cut_off)
+    hit = site_part(sites, loss.crashed, loss.cut_off)
     racks = "rack" if len(loss.racks) == 1 else "racks"
     fewest = f"The fewest racks whose loss splits it are {len(loss.racks)}"
     return f"{fewest}: {racks} {some(loss.racks)} cut off {hosts}{hit}{others}."
