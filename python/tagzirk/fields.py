@@ -24,6 +24,7 @@ SECONDS = {"u": 1e-6, "ms": 1e-3, "s": 1.0, "m": 60.0, "h": 3600.0, "d": 86400.0
 EPOCHS = (1e9, 4e9)
 PARTS = (1.0, 1e3, 1e6, 1e9)
 WORD = re.compile(r"[A-Z]?[a-z]+|[A-Z]+(?![a-z])|[0-9]+")
+NUMERAL = frozenset("+-.0123456789")
 # What is shown of a field that is not there.
 MISSING = "missing"
 
@@ -42,7 +43,8 @@ class Field:
     def counts(self) -> Counter[str]:
         """How often each value is there, as texts. Letters may be capitals or not."""
         shown: Dict[str, str] = {}
-        found = collections.Counter(shown.setdefault(text_of(it).casefold(), text_of(it)) for _, it in self.said)
+        texts = (text_of(it) for _, it in self.said)
+        found = collections.Counter(shown.setdefault(it.casefold(), it) for it in texts)
         if self.missing:
             found[MISSING] += self.missing
         return found
@@ -64,7 +66,8 @@ class Field:
     @functools.cached_property
     def moments(self) -> List[float]:
         """The times that values say, if most of them are times; a zero among them is a time before all others."""
-        found = [moment_of(value) for _, value in self.said]
+        found = [moment_of(value) if number is None or number >= EPOCHS[0] else None
+                 for (_, value), number in zip(self.said, self.numbers)]
         if not any(found):
             return []
         moments = [0.0 if moment is None and number == 0 else moment for moment, number in zip(found, self.numbers)]
@@ -91,6 +94,7 @@ def words_of(text: str) -> Set[str]:
     return {it.lower() for it in WORD.findall(text)}
 
 
+@functools.lru_cache(maxsize=65536, typed=True)
 def text_of(value: Scalar) -> str:
     """A value as `--up` names it.
 
@@ -135,6 +139,8 @@ def number_of(value: Scalar) -> Optional[float]:
         return None
     if isinstance(value, str):
         text = value.strip()
+        if not text[:1] in NUMERAL:
+            return None
         number = float(text) if len(text) < 40 and NUMBER.fullmatch(text) else math.nan
     else:
         number = float(value) if abs(value) < 1e300 else math.inf
