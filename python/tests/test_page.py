@@ -1,5 +1,5 @@
-"""The examples of README.md and of docs/OPERATING.md are run: each line `$ ..` of a block `console`, with what it prints.
-And the types of the package are checked, if mypy is there."""
+"""The examples of README.md, docs/OPERATING.md and docs/DUMPS.md are run: each line `$ ..` of a block `console`, with
+what it prints. And the types of the package are checked, if mypy is there."""
 
 import os
 import pathlib
@@ -16,6 +16,7 @@ from tagzirk.programs import CHECKOUT, find
 PAGES = {
     CHECKOUT / "python" / "README.md": ("import", "mend", "each", "history", "metrics", "report"),
     CHECKOUT / "docs" / "OPERATING.md": ("status", "diff", "each"),
+    CHECKOUT / "docs" / "DUMPS.md": ("import",),
 }
 BLOCK = re.compile(r"^```console\n(.*?)^```$", re.DOTALL | re.MULTILINE)
 COMMAND = re.compile(r"^\$ (.*)\n((?:(?!\$ ).*\n)*)", re.MULTILINE)
