@@ -44,6 +44,8 @@ def said_behind(line: str) -> Said:
 def with_what_is_behind(text: str, rows: List[Row]) -> Optional[Views]:
     """The links that lines of two names say, with what stands behind them; None if no state may stand there, or if
     lines are others. Comments count if one has a word of a state."""
+    if "#" not in text and "{" not in text:
+        return None
     lines = text.split("\n")
     said = [said_behind(lines[row.number - 1]) for row in rows]
     if not any(said) or not all(len(row.words) == 2 and all(row.words) for row in rows):

@@ -25,12 +25,12 @@ class Row(NamedTuple):
     @property
     def words(self) -> List[str]:
         """Its words, with white space or one comma between two."""
-        return re.split(r"\s*,\s*|\s+", self.text)
+        return re.split(r"\s*,\s*|\s+", self.text) if "," in self.text else self.text.split()
 
 
 def is_comment(line: str) -> bool:
     """Whether a line is a comment by another mark than `#`, with white space or nothing behind it."""
-    return line.split(None, 1)[0] in MARKS
+    return line[0] in "/%;-" and line.split(None, 1)[0] in MARKS
 
 
 def rows_of(text: str) -> List[Row]:
@@ -41,7 +41,7 @@ def rows_of(text: str) -> List[Row]:
     """
     rows = []
     for number, line in enumerate(text.split("\n"), 1):
-        bare = COMMENT.sub("", line).strip()
+        bare = (COMMENT.sub("", line) if "#" in line else line).strip()
         attributes = ATTRIBUTES.search(bare) if bare.endswith("}") else None
         if bare and not is_comment(bare):
             rows.append(Row(number, bare[: attributes.start()].rstrip() if attributes else bare))
