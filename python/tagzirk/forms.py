@@ -117,7 +117,8 @@ def of_json(text: str, asked: Asked) -> Optional[Views]:
             raise BadDump(f"line {why.lineno}: it is no JSON: {why.msg}") from None
         return None
     except Twice:
-        if is_views(json.loads(text)):
+        # overlay says of views which name stands twice, and where
+        if is_surely_views(text):
             return None
         raise
     if isinstance(value, dict) and len(value) == 1 and key_in(value, PEER_KEYS) and not key_around(value):
@@ -126,3 +127,11 @@ def of_json(text: str, asked: Asked) -> Optional[Views]:
             "all hosts, or their folder; the name of each is then the host's"
         )
     return None if is_views(value) and is_json(text) else views_of(value, asked)
+
+
+def is_surely_views(text: str) -> bool:
+    """Whether a text is views in JSON, whatever keys stand twice."""
+    try:
+        return is_views(json.loads(text))
+    except ValueError:
+        return False

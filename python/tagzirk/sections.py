@@ -5,7 +5,7 @@ from __future__ import annotations
 
 import csv
 import re
-from typing import Dict, Iterator, List, NamedTuple, Optional, Sequence
+from typing import Dict, Iterator, List, NamedTuple, Optional, Sequence, Set
 
 from .errors import BadDump
 from .graph_files import Graph
@@ -13,7 +13,7 @@ from .limits import need_declarable
 from .values import Scalar
 
 # A word, or a text in quotes.
-WORD = re.compile(r'"[^"]*"|[^\s"]+')
+WORD = re.compile(r'"[^"]*"|[^ \t\r\f\v"]+')
 
 
 class Line(NamedTuple):
@@ -71,7 +71,7 @@ def need_words(line: Line, count: int) -> List[str]:
 
 def pajek(text: str) -> Graph:
     """Pajek: `*Vertices`, then `*Edges` for links, `*Arcs` for listings; or both as lists. Labels are names."""
-    graph, section = Graph("Pajek", label="label"), ""
+    graph, section, told = Graph("Pajek", label="label"), "", set()  # type: Graph, str, Set[str]
     for line in lines_of(text, "%"):
         if line.text.startswith("*"):
             section = line.words[0].lower()
@@ -89,6 +89,9 @@ def pajek(text: str) -> Graph:
         if section == "*vertices":
             if words[0] not in graph.hosts:
                 raise BadDump(f"{line.place}{words[0][:40]} is not one of the {len(graph.hosts)} vertices")
+            if words[0] in told:
+                raise BadDump(f"{line.place}the host {words[0]} stands there twice")
+            told.add(words[0])
             graph.hosts[words[0]].update({"label": words[1]} if len(words) > 1 else {}, **rest(words[2:]))
         elif section in ("*edges", "*arcs"):
             words = need_words(line, 2)
