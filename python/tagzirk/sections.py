@@ -24,10 +24,17 @@ class Line(NamedTuple):
 
     @property
     def words(self) -> List[str]:
-        """Its words; texts in quotes are one word each, without these."""
-        if self.text.count('"') % 2:
+        """Its words, with white space between; texts in quotes are one word each, without these."""
+        words, at = [], 0
+        for found in WORD.finditer(self.text):
+            between = self.text[at : found.start()]
+            if between.strip() or at and not between:
+                raise BadDump(f"{self.place}a text in quotes has no end, or no space behind it: {self.text[:60]}")
+            words.append(found[0][1:-1] if found[0][0] == '"' else found[0])
+            at = found.end()
+        if self.text[at:].strip():
             raise BadDump(f"{self.place}a text in quotes has no end: {self.text[:60]}")
-        return [it[1:-1] if it[0] == '"' else it for it in WORD.findall(self.text)]
+        return words
 
     @property
     def place(self) -> str:
@@ -137,7 +144,9 @@ def leda(text: str) -> Graph:
     count = lines[at].numbers(1, 1)[0]
     need_declarable(count)
     for number, line in enumerate(lines[at + 1 : at + 1 + count], 1):
-        label = line.text[2:-2] if line.text.startswith("|{") and line.text.endswith("}|") else ""
+        label = line.text[2:-2]
+        if line.text != f"|{{{label}}}|":
+            raise BadDump(f"{line.place}a host of LEDA is as |{{NAME}}|: {line.text[:60]}")
         graph.host(str(number), {"label": label or str(number)})
     links = lines[at + 1 + count :]
     for line in links[1:]:
