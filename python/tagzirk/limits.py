@@ -13,7 +13,7 @@ MOST = 600_000
 # count of hosts.
 MOST_IMPLIED = 100_000
 # How many bytes a packed dump may have when it is unpacked.
-MOST_UNPACKED = 4_000_000
+MOST_UNPACKED = 2_000_000
 # How many bytes of YAML are read where libyaml is not there, in Python alone.
 MOST_SLOW_YAML = 300_000
 # How deep values may be nested.

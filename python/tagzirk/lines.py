@@ -104,16 +104,20 @@ def words_of(row: Row) -> List[str]:
     """The words of a row, of which `;` or a comma may stand between two, and quotes around each."""
     if ";" in row.text:
         return [it.strip().strip('"') for it in row.text.rstrip(";").split(";")]
-    has_quotes = any(it in row.text for it in "\"'")
-    return has_quotes and unquoted(row.text) or row.words
+    return has_quotes(row) and unquoted(row.text) or row.words
+
+
+def has_quotes(row: Row) -> bool:
+    return '"' in row.text or "'" in row.text
 
 
 def is_weighted(rows: List[Row]) -> bool:
     """Whether each line is two names and a number that is no name, or names in quotes."""
-    count = len(words_of(rows[0]))
-    if count == 2 or any(";" in row.text for row in rows):
-        are_two = count == 2 and all(len(words_of(row)) == 2 for row in rows)
-        return are_two and any(";" not in row.text and words_of(row) != row.words for row in rows)
+    count, quoted = len(words_of(rows[0])), [row for row in rows if has_quotes(row)]
+    if any(";" in row.text for row in rows) or count == 2 and not quoted:
+        return False
+    if count == 2:
+        return all(len(words_of(row)) == 2 for row in rows) and any(words_of(row) != row.words for row in quoted)
     words = [words_of(row) for row in rows]
     if not all(len(it) == 3 and NUMBER.fullmatch(it[2]) for it in words):
         return False

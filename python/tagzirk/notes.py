@@ -34,7 +34,8 @@ def lines_in(text: str) -> List[Line]:
     for number, line in enumerate(text.split("\n"), 1):
         bare = line.strip()
         if bare and bare[0] != "#":
-            found.append(Line(number, [it.strip("\"'") for it in re.split(r"[\s,;]+", bare) if it]))
+            words = bare.replace(",", " ").replace(";", " ").split()
+            found.append(Line(number, [it.strip("\"'") for it in words] if '"' in bare or "'" in bare else words))
     return found
 
 

@@ -205,9 +205,9 @@ def tgf(text: str) -> Graph:
 
 def is_tgf(text: str) -> bool:
     """Whether a text is TGF: one line is # alone, hosts with labels stand above it, and links of these alone below."""
-    lines = [line.text for line in lines_of(text)]
-    if lines.count("#") != 1:
+    if len(re.findall(r"^[ \t]*#[ \t\r]*$", text, re.MULTILINE)) != 1:
         return False
+    lines = [line.text for line in lines_of(text)]
     at = lines.index("#")
     keys = [line.split()[0] for line in lines[:at]]
     labels = {line.partition(" ")[2].strip() for line in lines[:at]}

@@ -3,6 +3,7 @@ stands for nothing is None, and a whole number that is written as Python writes 
 
 from __future__ import annotations
 
+import itertools
 import re
 from typing import Any, Dict, List, NamedTuple, Optional, Union
 
@@ -27,7 +28,7 @@ def begins_yaml(text: str) -> bool:
     >>> begins_yaml('{"a": ["b"]}'), begins_yaml("a: b c\\n"), begins_yaml("a b\\n")
     (False, False, False)
     """
-    lines = [line for line in map(str.strip, text.split("\n")) if line and line[0] != "#"][:2]
+    lines = [*itertools.islice((it for it in map(str.strip, text.split("\n")) if it and it[0] != "#"), 2)]
     if not lines:
         return False
     first = lines[0]
