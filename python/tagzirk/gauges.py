@@ -16,6 +16,7 @@ from .programs import Program
 from .proofs import programs
 from .reports import Report, analysed
 from .stale import one_sided
+from .taken import doubts_in
 
 # How a text file of metrics begins.
 MARK = "# HELP tagzirk_"
@@ -54,7 +55,8 @@ class Sample(NamedTuple):
 class Metrics:
     """The values of metrics, and the hosts in the cut. `fault` says why the dump could not be read, or is empty. If it
     is not, the metrics say only that it was not read, and when. `labels` are labels of all of them, `stale` counts
-    one-sided listings by host, and `proved` has the programs that were asked."""
+    one-sided listings by host, and `proved` has the programs that were asked. `doubts` are notes on the dump that say
+    why its number may be too high."""
 
     values: Dict[str, float]
     cut: Tuple[str, ...] = ()
@@ -62,6 +64,7 @@ class Metrics:
     labels: Dict[str, str] = field(default_factory=dict)
     stale: Dict[str, int] = field(default_factory=dict)
     proved: Dict[str, bool] = field(default_factory=dict)
+    doubts: Tuple[str, ...] = field(default=(), compare=False)
 
     @property
     def samples(self) -> List[Sample]:
@@ -156,7 +159,7 @@ def metrics(
         return Metrics(values, fault=in_words(why), labels=named)
     values.update(tagzirk_dump_read=1.0, **numbers(dump, graph, report))
     hosts = {shown(host): number for host, number in stale.items()}
-    return Metrics(values, tuple(map(shown, report.cut)), "", named, hosts, proved)
+    return Metrics(values, tuple(map(shown, report.cut)), "", named, hosts, proved, tuple(doubts_in(dump.notes)))
 
 
 def numbers(dump: Dump, graph: NamedGraph[str], report: Report[str]) -> Dict[str, float]:

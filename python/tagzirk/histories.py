@@ -17,6 +17,7 @@ from .outputs import write
 from .programs import Program
 from .progress import Progress, each_at_once, processors
 from .reports import Report, analysed
+from .taken import doubts_in
 
 # A day and a time of day in a file's name, with or without signs between, or seconds since 1970.
 STAMP = re.compile(
@@ -32,7 +33,8 @@ COLUMNS = ("time", "nodes", "links", "k", "cut", "one_sided", "without_entry", "
 class Moment:
     """What one dump of a history says: when it was taken, its nodes, links and number, a smallest cut by name, how many
     listings the other end does not answer, and how many names have no entry. Of a dump that can't be read `fault` says
-    why, and all else is None. The number and the cut were confirmed by overlay-check."""
+    why, and all else is None. The number and the cut were confirmed by overlay-check; `doubts` are notes on the dump
+    that say why the number may be too high."""
 
     time: Optional[datetime.datetime]
     file: str
@@ -43,6 +45,7 @@ class Moment:
     one_sided: Optional[int] = None
     without_entry: Optional[int] = None
     fault: str = field(default="", compare=False)
+    doubts: Tuple[str, ...] = field(default=(), compare=False)
 
     @property
     def row(self) -> List[str]:
@@ -145,9 +148,8 @@ def history(
         except Exception as why:
             # a moment that can't be read is a row too
             return Moment(time, file, fault=in_words(why))
-        return Moment(
-            time, file, len(graph.ids), len(graph.links), report.k, report.cut, dump.one_sided, dump.without_entry
-        )
+        sizes, doubts = (len(graph.ids), len(graph.links)), tuple(doubts_in(dump.notes))
+        return Moment(time, file, *sizes, report.k, report.cut, dump.one_sided, dump.without_entry, doubts=doubts)
 
     times = sorted(times_of(files).items(), key=lambda it: (it[1] is None, it[1].timestamp() if it[1] else 0))
     return list(each_at_once(moment, times, workers or processors(), "dump", progress))

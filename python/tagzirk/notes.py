@@ -16,6 +16,8 @@ MOST_TOLD = 3
 # Words of a line that counts what the others have.
 COUNTING = frozenset("total sum count links edges nodes hosts rows lines records entries peers".split())
 PORT = re.compile(r"(.+):[0-9]{1,5}")
+# How the note on comments begins.
+COMMENTED = "comments are passed over, though they may say what is down"
 # A comment behind something else.
 COMMENT = re.compile(r"(?<=\S)[ \t]+(?:#|//)[ \t]*(.+)")
 ADDRESS = re.compile(r"[0-9.]+")
@@ -171,7 +173,7 @@ def commented(text: str) -> List[str]:
     if not told:
         return []
     first = f"{len(told)}, as in line {told[0][0]}: {shown(told[0][1])}"
-    return [f"comments are passed over, though they may say what is down: {first}"]
+    return [f"{COMMENTED}: {first}"]
 
 
 def in_two_columns(graph: NamedGraph[str], lines: Sequence[Line]) -> List[str]:

@@ -8,6 +8,7 @@ from typing import Callable, Dict, List, NamedTuple, Optional, Sequence, Set, Tu
 from .asked import Asked
 from .errors import BadDump
 from .fields import MISSING, Field, fields_of, moment_of, most_of, number_of, span_of, text_of
+from .notes import COMMENTED
 from .states import Kind, kind_of
 from .values import Scalar, Statement, Views, one_of
 
@@ -15,6 +16,10 @@ from .values import Scalar, Statement, Views, one_of
 MOST_SHOWN = 5
 # How a field of hosts or of links is told from one of the other that has the same name.
 HOST, LINK = "host:", "link:"
+
+
+# How the note on fields begins that may say what is down.
+DOUBT = "taken all, though some may be down"
 
 
 class Up(NamedTuple):
@@ -49,8 +54,13 @@ def taken_of(views: Views, asked: Asked) -> Tuple[Views, List[str]]:
     notes += [f"{it.name} is {next(iter(it.counts))} of all {len(it.said)} {it.of}" for it in same[:MOST_SHOWN]]
     maybe = [it for it, kind in kinds if kind is Kind.TOLD and len(it.counts) > 1]
     if maybe:
-        notes.append(f"taken all, though some may be down: {many(maybe)}; --up FIELD=VALUE takes what has this value")
+        notes.append(f"{DOUBT}: {many(maybe)}; --up FIELD=VALUE takes what has this value")
     return views, notes
+
+
+def doubts_in(notes: Sequence[str]) -> List[str]:
+    """Those notes on a dump without which its k may be believed and be too high."""
+    return [it for it in notes if it.startswith((DOUBT, COMMENTED))]
 
 
 def up_of(text: str) -> Up:

@@ -14,6 +14,7 @@ from tagzirk.values import Views
 
 from . import misreads
 from .misreads import ALL, HOSTS, UP, dot, each, graph, hosts, lines, others, seen
+from .test_commands import Commands
 
 
 def asked_by(words):
@@ -230,6 +231,40 @@ class Ups(Dumps):
         for values, wanted in ("0..", "ab bc ef"), ("0.5..7", "ab bc"), ("..0", "cd"), ("7..", "bc ef"), ("7..7", "bc"):
             dump = self.read(place, Asked(up=(f"rtt={values}",), all=True))
             self.assertEqual(links_of(dump), {tuple(it) for it in wanted.split()}, values)
+
+
+class InCommands(Commands):
+    def test_options_and_words(self):
+        place = self.file("state.json", hosts({"state": "up"}, {"state": "down"}))
+        for words, k in (("--up", "state=up"), 2), (("--all",), 5), (("--up", "state=up,down"), 5):
+            out, err, status = self.tagzirk("status", *words, place)
+            self.assertEqual((f"k is {k}" in out, status), (True, 0), err)
+        for command in "status", "each", "history", "import", "report":
+            out, err, status = self.tagzirk(command, place)
+            self.assertEqual((status, "some may be down: of 30 listings" in err), (1, True), command)
+        for up in "state", "=up":
+            out, err, status = self.tagzirk("status", "--up", up, place)
+            self.assertEqual((out, status, "--up takes FIELD=VALUE" in err), ("", 2, True), err)
+
+    def test_no_number_without_a_word(self):
+        # each command that says k tells of what may be down
+        place = self.file("codes.json", hosts({"zustand": "A"}, {"zustand": "B"}))
+        other = self.file("other.json", hosts({"zustand": "A"}, {"zustand": "B"}))
+        for words in (
+            ("status", place),
+            ("status", "--at-least", 3, place),
+            ("diff", place, other),
+            ("each", place),
+            ("history", place, other),
+            ("metrics", "--textfile", self.room / "a.prom", place),
+            ("mend", "--to", 5, place),
+            ("report", place),
+            ("import", place),
+        ):
+            out, err, status = self.tagzirk(*words)
+            self.assertIn("some may be down: of 30 listings zustand is B (16) or A (14)", err, words)
+            self.assertEqual(status, 0, words)
+        self.assertIn("and so of 1 more dumps", self.tagzirk("history", place, other)[1])
 
 
 def field(values, name="x", of="links", missing=0):

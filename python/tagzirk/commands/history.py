@@ -50,6 +50,10 @@ def run_history(words: argparse.Namespace) -> int:
     for it in moments:
         if it.fault:
             told(f"tagzirk history: {it.fault}")
+    doubtful = [it for it in moments if it.doubts]
+    if doubtful:
+        more = f"; and so of {len(doubtful) - 1} more dumps" if len(doubtful) > 1 else ""
+        told(f"{doubtful[0].file}: {'; '.join(doubtful[0].doubts)}{more}")
     if picture:
         picture.write(picture_of(moments))
     return 1 if any(it.fault for it in moments) else 0

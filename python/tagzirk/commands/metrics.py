@@ -6,7 +6,7 @@ import argparse
 from typing import TYPE_CHECKING
 
 from ..gauges import MARK, label_of, metrics
-from .words import Parents, command, fault, options_of, output
+from .words import Parents, command, fault, options_of, output, told
 
 if TYPE_CHECKING:
     from .words import Commands
@@ -32,6 +32,8 @@ def run_metrics(words: argparse.Namespace) -> int:
     textfile = output(words, "--textfile", words.textfile, MARK)
     made = metrics(words.files or ["-"], options_of(words), labels=dict(words.label))
     textfile.write(made.text)
+    for doubt in made.doubts:
+        told(doubt)
     if made.fault:
         fault(words, made.fault)
     return 1 if made.fault else 0

@@ -11,10 +11,12 @@ from typing import TYPE_CHECKING, Callable, Sequence
 from .. import slips
 from ..asked import Asked
 from ..dumps import Dump, Options, read_dump
+from ..errors import BadDump
 from ..forms import FORMS
 from ..graphs import UNSHOWN, code, shown
 from ..outputs import Output
 from ..proofs import strangers
+from ..taken import up_of
 
 if TYPE_CHECKING:
     Commands = argparse._SubParsersAction[argparse.ArgumentParser]
@@ -56,6 +58,7 @@ def common_words() -> Parents:
         "--up",
         action="append",
         default=[],
+        type=up_words,
         metavar="FIELD=VALUE[,VALUE]",
         help="take only what has one of these values in this field, and leave out what is down; may be repeated",
     )
@@ -100,6 +103,15 @@ def command(
     made.add_argument("files", nargs="+" if is_of_many else "*", metavar="FILE", help=files)
     made.set_defaults(run=run, name=name)
     return made
+
+
+def up_words(text: str) -> str:
+    """What `--up` takes, as somebody typed it."""
+    try:
+        up_of(text)
+    except BadDump as why:
+        raise argparse.ArgumentTypeError(str(why)) from None
+    return text
 
 
 def at_least_one(text: str) -> int:
