@@ -2,9 +2,9 @@
 
 `analyse` finds the fewest crashes that split a graph, `check` asks about a certificate, and `run` runs a scenario of a
 simulated world. `mend` finds links to add, `each` tells what each single crash does, `worst` which of the smallest cuts
-cut off most, and `widest` which crashes cut off more than one host. `status` says of a dump what is asked first,
-and `differences` what changed between two. `read_dump` reads what a cluster says of its links, and `history`, `metrics` and `page` tell of
-dumps. The command tagzirk calls these.
+cut off most, and `widest` which crashes cut off more than one host. `read_dump` reads
+what a cluster says of its links. `status` says of a dump what is asked first, and `differences` what changed between
+two; `history`, `metrics` and `page` tell of dumps too. The command tagzirk calls these.
 
 >>> import tagzirk
 >>> report = tagzirk.analyse([("a", "b"), ("b", "c"), ("c", "d"), ("d", "a")])

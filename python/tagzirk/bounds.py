@@ -1,8 +1,8 @@
 """What k is after each of many crashes, by few certificates: `numbers_after`.
 
 A graph *withstands* m if a crash of fewer than m hosts, whichever they are, leaves all survivors joined. k is the
-greatest m that a graph withstands, unless every two hosts are linked: then it withstands every m. Let G withstand k, and
-let X be the hosts of a crash.
+greatest m that a graph withstands, unless every two hosts are linked: then it withstands every m. Let G withstand k,
+and let X be the hosts of a crash.
 
 - From below: G without X withstands k less the number of hosts of X. For a crash of the rest is, together with X, a
   crash of G.
@@ -86,7 +86,8 @@ class Bounds:
         del self.least[crash], self.most[crash]
 
     def learn_cut(self, cut: Hosts) -> List[Hosts]:
-        """A crash of these hosts may part others, which bounds the numbers from above. The components that it leaves."""
+        """A crash of these hosts may part others, which bounds numbers from above. Gives the components that it
+        leaves."""
         pieces = self.bits.pieces(cut)
         for crash, known in list(self.most.items()):
             rest = cut & ~crash

@@ -1,4 +1,5 @@
-"""The hosts of a dump that are looked at alone, by patterns of their names: so a dump may have more than can be analysed."""
+"""The hosts of a dump that are looked at alone, by patterns of their names: so a dump may have more hosts than can be
+analysed."""
 
 from __future__ import annotations
 
@@ -28,7 +29,8 @@ def matching(names: Iterable[str], patterns: Sequence[str]) -> Tuple[Set[str], s
     if not kept:
         first = f", as {shown(every[0])}" if every else ""
         raise BadDump(f"--only {asked} matches the name of no host{first}; `*` in it is any text: --only 'ams-*'")
-    return kept, f"looked at alone, as --only {asked} asks: {len(kept)} of {len(every)} hosts, and the links between them"
+    number = f"{len(kept)} of {len(every)} hosts"
+    return kept, f"looked at alone, as --only {asked} asks: {number}, and the links between them"
 
 
 def only_views(views: Views, patterns: Sequence[str]) -> Tuple[Views, List[str]]:

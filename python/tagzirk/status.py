@@ -69,10 +69,11 @@ def status(
     """What a dump says of its overlay: k, the cut, and who is cut off. Names that have no entry are left out, and it is
     told what k is with them. The hosts of `without` are left out too; with a `group` only its hosts must stay joined.
 
-    >>> import pathlib, tempfile
+    >>> import json, pathlib, tempfile
     >>> with tempfile.TemporaryDirectory() as room:
     ...     file = pathlib.Path(room, "net.json")
-    ...     _ = file.write_text('{"a.x": ["b.x", "gone"], "b.x": ["a.x", "c.x"], "c.x": ["b.x", "d.x"], "d.x": ["c.x"]}')
+    ...     views = {"a.x": ["b.x", "gone"], "b.x": ["a.x", "c.x"], "c.x": ["b.x", "d.x"], "d.x": ["c.x"]}
+    ...     _ = file.write_text(json.dumps(views))
     ...     it = status([str(file)])
     ...     less = status([str(file)], without=["a"])
     >>> it.report.k, it.report.cut, it.pieces, it.dead.names, it.dead.report.k

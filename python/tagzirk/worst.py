@@ -16,7 +16,7 @@ from .reports import Report, analysed
 
 # All cuts are found if that takes at most so many steps from a host to a host, some seconds; for k of 1 and 2 always up
 # to so many hosts. Else the search ends after fewer steps.
-MOST_STEPS, MOST_HOSTS, ENOUGH_STEPS = 3_000_000, 400, 500_000
+MOST_STEPS, MOST_HOSTS, ENOUGH_STEPS = 3_000_000, 400, 300_000
 # So many hosts, at most one more, are taken two by two, to ask for a smallest cut that parts them; and of so many hosts
 # with k links these are taken for a cut.
 SPREAD, MOST_WEAK = 6, 64
@@ -141,45 +141,14 @@ class Hunt:
         those that differ by one host from one that was found, the worst first."""
         for peers in [it for it in self.bits.peers if number_of(it) == self.k][:MOST_WEAK]:
             self.note(peers)
-        spread = range(0, len(self.peers), max(1, len(self.peers) // SPREAD))
-        apart = [(a, b) for a, b in itertools.combinations(spread, 2) if not self.bits.peers[a] >> b & 1]
-        for cut in each_at_once(lambda it: self.between(*it), apart, workers, "smallest cuts: between hosts", progress):
+        spread = self.bits.nodes[:: max(1, len(self.peers) // SPREAD)]
+        cut = self.parting_two(self.graph, spread)
+        self.note(cut)
+        # if no smallest cut parts two of these, none parts what is around them
+        pairs = itertools.combinations(spread, 2) if cut else []
+        for cut in each_at_once(lambda it: self.between(*it), pairs, workers, "smallest cuts: between hosts", progress):
             self.note(cut)
         self.exchange(progress)
-
-    def between(self, a: int, b: int) -> Hosts:
-        """A smallest cut that parts the surroundings of two hosts, by their places: wide ones if that can be."""
-        for near, far in self.surroundings(a, b):
-            report = self.ask(self.merged(near, far), sorted((self.bits.nodes[a], self.bits.nodes[b])))
-            if not report.is_linked and report.k == self.k:
-                return self.bits.of(self.graph.ids[it] for it in report.cut)
-        return 0
-
-    def surroundings(self, a: int, b: int) -> Iterator[Tuple[Dict[int, int], Dict[int, int]]]:
-        """Whom one host and another one have around them, the widest first: hosts that are nearer to it than to the
-        other one, by two links or more, so that no link goes from one surroundings to the other. Each host has the one
-        that it stands for."""
-        of_a, of_b = self.balls(1 << a), self.balls(1 << b)
-        radius = max(len(of_a), len(of_b)) - 1
-        while True:
-            yield self.nearer(a, of_a, of_b, radius), self.nearer(b, of_b, of_a, radius)
-            if radius == 0:
-                return
-            radius //= 2
-
-    def nearer(self, host: int, own: List[Hosts], others: List[Hosts], radius: int) -> Dict[int, int]:
-        """The surroundings of a host up to so many links away."""
-        around = 1 << host
-        for at, ball in enumerate(own[: radius + 1]):
-            around |= ball & ~others[min(at + 1, len(others) - 1)]
-        return dict.fromkeys(self.bits.ids(around), self.bits.nodes[host])
-
-    def balls(self, host: Hosts) -> List[Hosts]:
-        """All hosts that are so many links away from one, or fewer: of none, one, two links and so on."""
-        balls = [host]
-        while balls[-1] != self.bits.all:
-            balls.append(balls[-1] | self.bits.around(balls[-1]))
-        return balls
 
     def exchange(self, progress: Optional[Progress]) -> None:
         """Finds cuts that differ by one host from one that was found, the worst first, as long as there are steps."""
@@ -199,6 +168,47 @@ class Hunt:
     def badness(self, cut: Hosts) -> Tuple[int, Hosts]:
         """Where a cut stands among others, the worst first."""
         return -self.found[cut], cut
+
+    def parting_two(self, graph: NamedGraph[Any], members: Sequence[int]) -> Hosts:
+        """A smallest cut that parts two of these hosts in a graph; nobody if there is none."""
+        report = self.ask(graph, sorted(members))
+        if report.is_linked or report.k > self.k:
+            return 0
+        return self.bits.of(self.graph.ids[it] for it in report.cut)
+
+    def between(self, a: int, b: int) -> Hosts:
+        """A smallest cut that parts two hosts with what is around them, the wider the better; nobody if no such cut
+        parts them."""
+        if b in self.graph.peers[a] or not self.parting_two(self.graph, [a, b]):
+            return 0
+        found = (self.parting_two(self.merged(near, far), [a, b]) for near, far in self.surroundings(a, b))
+        return next((cut for cut in found if cut), 0)
+
+    def surroundings(self, a: int, b: int) -> Iterator[Tuple[Dict[int, int], Dict[int, int]]]:
+        """Whom one host and another one have around them, the widest first: hosts that are nearer to it than to the
+        other one, by two links or more, so that no link goes from one surroundings to the other. Each host has the one
+        that it stands for."""
+        of_a, of_b = (self.balls(self.bits.of([host])) for host in (a, b))
+        radius = max(len(of_a), len(of_b)) - 1
+        while True:
+            yield self.nearer(a, of_a, of_b, radius), self.nearer(b, of_b, of_a, radius)
+            if radius == 0:
+                return
+            radius //= 2
+
+    def nearer(self, host: int, own: List[Hosts], others: List[Hosts], radius: int) -> Dict[int, int]:
+        """The surroundings of a host up to so many links away."""
+        around = own[0]
+        for at, ball in enumerate(own[: radius + 1]):
+            around |= ball & ~others[min(at + 1, len(others) - 1)]
+        return dict.fromkeys(self.bits.ids(around), host)
+
+    def balls(self, host: Hosts) -> List[Hosts]:
+        """All hosts that are so many links away from one, or fewer: of none, one, two links and so on."""
+        balls = [host]
+        while balls[-1] != self.bits.all:
+            balls.append(balls[-1] | self.bits.around(balls[-1]))
+        return balls
 
     def merged(self, near: Dict[int, int], far: Dict[int, int]) -> NamedGraph[Any]:
         """The graph in which all surroundings of a host are that host."""

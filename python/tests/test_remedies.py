@@ -120,12 +120,14 @@ class Each(Commands):
         for _ in range(8):
             nodes, links = some_graph(source, 8)
             crashes = tagzirk.each(views_of(nodes, links), is_of_pairs=True, workers=1)
-            self.assertEqual({frozenset(it.name) for it in crashes}, set(map(frozenset, itertools.combinations(nodes, 2))))
+            pairs = set(map(frozenset, itertools.combinations(nodes, 2)))
+            self.assertEqual({frozenset(it.name) for it in crashes}, pairs)
             for it in crashes:
                 left = [node for node in nodes if node not in it.name]
                 kept = [link for link in links if not set(link) & set(it.name)]
                 fewest = fewest_that_cut_off(left, kept, 1)
-                self.assertEqual((it.k, it.is_linked), (len(left) - 1 if fewest is None else fewest, fewest is None), links)
+                number = len(left) - 1 if fewest is None else fewest
+                self.assertEqual((it.k, it.is_linked), (number, fewest is None), links)
                 self.assertEqual(len(it.cut_off), number_cut_off(nodes, links, it.name))
 
     def test_few_certificates(self):
@@ -159,14 +161,15 @@ class Each(Commands):
         out, err, status = self.tagzirk("each", path, "--racks", racks, "--pairs", "--site", "^([a-f])$")
         self.assertEqual(status, 0)
         self.assertIn(
-            "The fewest racks whose loss splits it are 2: racks R1, R2 cut off 2 hosts: c, leaf; site c (1 host) is cut off"
-            ,
+            "The fewest racks whose loss splits it are 2: racks R1, R2 cut off 2 hosts: c, leaf; "
+            "site c (1 host) is cut off",
             out,
         )
         self.assertIn("R1 + R2                       0  2 hosts: c, leaf; site c (1 host) is cut off\n", out)
         self.assertEqual(len(out.split("\n\n")[1].splitlines()), 1 + 6)
         said = json.loads(self.tagzirk("each", path, "--racks", racks, "--json")[0])
-        self.assertEqual(said["fewest_racks"], {"racks": ["R1", "R2"], "cut_off": ["c", "leaf"], "number": 2, "tried": 2})
+        fewest = said["fewest_racks"]
+        self.assertEqual((fewest["racks"], fewest["cut_off"], fewest["tried"]), (["R1", "R2"], ["c", "leaf"], 2))
         self.assertEqual({it["name"]: it["k"] for it in said["crashes"]}, dict.fromkeys(("R1", "R2", "R3", "R4"), 1))
 
     def test_racks(self):

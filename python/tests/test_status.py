@@ -45,8 +45,10 @@ class Status(Commands):
     def test_what_is_printed(self):
         # without both relays each site is alone, and without fewer hosts nobody is
         lines = self.lines("--site", "^([a-z]+)-[0-9]+[.]")
-        self.assertEqual(lines[0], "k is 2: of 14 hosts, a crash of relay-1, relay-2 cuts off 8 hosts, and fewer crashes "
-                                   "cut off nobody.")
+        self.assertEqual(
+            lines[0],
+            "k is 2: of 14 hosts, a crash of relay-1, relay-2 cuts off 8 hosts, and fewer crashes cut off nobody.",
+        )
         self.assertIn("Sites fra (4 hosts), hel (4 hosts) are cut off.", lines)
         self.assertEqual(
             lines[-1],
@@ -80,13 +82,16 @@ class Status(Commands):
         self.assertIn("|k=2;3:;1:;0 hosts=14;;;0 links=24;;;0\n", self.tagzirk("status", self.dump, "--at-least", 3)[0])
 
     def test_names(self):
-        self.assertEqual(self.lines("--without", "relay-1,hel-0")[-2], "Left out, as --without says: relay-1, hel-0.example.net.")
+        self.assertEqual(
+            self.lines("--without", "relay-1,hel-0")[-2],
+            "Left out, as --without says: relay-1, hel-0.example.net.",
+        )
         listed = self.file("down.txt", "# down since nine\nrelay-1\n\nhel-0.example.net\n")
         self.assertEqual(self.lines("--without", f"@{listed}"), self.lines("--without", "relay-1,hel-0"))
         # two sites are joined by both relays; hosts of one site are all linked
         self.assertRegex(self.lines("--group", "fra-2,hel-2")[0], "^k is 2 for the 2 hosts of the group: Crashing ")
-        self.assertIn("k is 3: every two of the 4 hosts of the group are linked", "".join(
-            self.lines("--group", ",".join(SITES["fra"]))))
+        all_linked = self.lines("--group", ",".join(SITES["fra"]))
+        self.assertIn("k is 3: every two of the 4 hosts of the group are linked", all_linked[0])
         for word, told in (
             ("relay-3", "relay-3 is no host of the dump; did you mean relay-"),
             ("Fra-0", "Fra-0 is no host of the dump; did you mean fra-0"),
@@ -122,7 +127,8 @@ class Only(Commands):
     def test_all_hosts_are_as_without_it(self):
         path = self.file("net.json", dump_with_dead())
         for words in [], ["--entries"], ["--either"], ["--either", "--entries"]:
-            self.assertEqual(self.tagzirk("import", path, *words)[0], self.tagzirk("import", path, "--only", "*", *words)[0])
+            out, _, status = self.tagzirk("import", path, *words)
+            self.assertEqual((self.tagzirk("import", path, "--only", "*", *words)[0], status), (out, 0))
 
     def test_graph_file(self):
         path = self.file("net.graph", named_graph(OVERLAY).text_with_names)

@@ -32,7 +32,8 @@ def add(commands: Commands, parents: Parents) -> None:
 def run_diff(words: argparse.Namespace) -> int:
     """Prints what changed."""
     if len(words.files) != 2:
-        told(f"tagzirk diff takes two dumps, OLD and NEW, and not {len(words.files)}; a folder of one file a host is one")
+        number = len(words.files)
+        told(f"tagzirk diff takes two dumps, OLD and NEW, and not {number}; a folder of one file a host is one")
         return 2
     with Progress() as progress:
         it = differences(words.files[:1], words.files[1:], options_of(words), progress=progress)
@@ -77,7 +78,8 @@ def said_of_side(side: Side) -> str:
 def said_of_changes(hosts: Sequence[str], links: Sequence[Link]) -> str:
     """Hosts and links, in a line."""
     parts = [f"{counted(len(hosts), 'host')}: {some(hosts)}"] if hosts else []
-    parts += [f"{counted(len(links), 'link')} between hosts of both: {some(list(map(link_told, links)))}"] if links else []
+    if links:
+        parts.append(f"{counted(len(links), 'link')} between hosts of both: {some(list(map(link_told, links)))}")
     return f"{'; '.join(parts)}." if parts else "nothing."
 
 

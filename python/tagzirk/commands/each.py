@@ -48,7 +48,8 @@ def add(commands: Commands, parents: Parents) -> None:
     it = command(commands, "each", run_each, text, parents.dump, parents.at_once)
     it.add_argument("--racks", metavar="RACKS", help="a file of lines HOST RACK: all hosts of a rack crash at once")
     it.add_argument("--pairs", action="store_true", help="every two hosts, or racks, crash together")
-    it.add_argument("--rows", type=at_least_one, metavar="N", help=f"print the N worst; of pairs {MOST_PAIRS} without it")
+    rows = f"print the N worst; of pairs {MOST_PAIRS} without it"
+    it.add_argument("--rows", type=at_least_one, metavar="N", help=rows)
     it.add_argument("--without", action="append", default=[], metavar="HOSTS", help="as if these had crashed before")
     it.add_argument("--site", metavar="REGEX", help="the site of a host, by its name: `^([a-z]+)-` is hel of hel-7")
     it.add_argument("--csv", action="store_true", help="print the table as CSV, and nothing else")
@@ -70,7 +71,8 @@ class Told:
 
 def run_each(words: argparse.Namespace) -> int:
     """Prints what each single crash does."""
-    graph = dump_of(words).graph
+    dump = dump_of(words)
+    graph = dump.graph
     left_out = hosts_of(words.without, list(graph.ids), "--without")
     graph = graph.without({graph.ids[it] for it in left_out})
     racks = racks_in(words.racks, graph, left_out) if words.racks else None
@@ -78,6 +80,9 @@ def run_each(words: argparse.Namespace) -> int:
     kind = "host" if racks is None else "rack"
     with Progress() as progress:
         report: Report[str] = analysed(graph)
+        if report.k == 0 and dump.without_entry and not words.entries:
+            dead = counted(dump.without_entry, "name")
+            told(f"k is 0 with {dead} that no entry has, as of dead peers; --entries leaves them out")
         crashes = each(graph, racks, report, is_of_pairs=words.pairs, workers=words.workers, progress=progress)
         if words.csv:
             progress.end()
@@ -135,16 +140,14 @@ def name_of(crash: Crash[str]) -> str:
 def table_of(of: Told, is_of_pairs: bool, rows: Optional[int]) -> List[str]:
     """The crashes as a table for a person: all, or the worst."""
     number = rows or (MOST_PAIRS if is_of_pairs else len(of.crashes))
-    cells = [(f"after the crash of {'two ' if is_of_pairs else ''}{of.kind}{'s' if is_of_pairs else ''}", "k", "cut off")]
+    cells = [(f"after the crash of {f'two {of.kind}s' if is_of_pairs else of.kind}", "k", "cut off")]
     for it in of.crashes[:number]:
         k = "-" if it.k is None else f"{it.k} all linked" if it.is_linked else str(it.k)
         cells.append((name_of(it), k, said_of_crash(it, of)))
     wide = [max(len(row[at]) for row in cells) for at in range(2)]
     lines = [f"{a:{wide[0]}}  {b:{wide[1]}}  {c}" for a, b, c in cells]
     if number < len(of.crashes):
-        rest = of.crashes[number]
-        k = "all linked" if rest.is_linked else f"k {rest.k} or more"
-        lines.append(f"and {len(of.crashes) - number} more, with {k}; --rows N shows N, --csv and --json have all")
+        lines.append(f"and {len(of.crashes) - number} more, none worse; --rows N shows N, --csv and --json have all")
     return lines
 
 

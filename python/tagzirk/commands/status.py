@@ -38,7 +38,8 @@ def add(commands: Commands, parents: Parents) -> None:
         it.add_argument(
             "--without", action="append", default=[], metavar="HOSTS", help="as if these had crashed; @FILE is a list"
         )
-        it.add_argument("--group", action="append", metavar="HOSTS", help="only these must stay joined; @FILE is a list")
+        group = "only these must stay joined; @FILE is a list"
+        it.add_argument("--group", action="append", metavar="HOSTS", help=group)
         it.add_argument("--site", metavar="REGEX", help="the site of a host, by its name: `^([a-z]+)-` is hel of hel-7")
         it.add_argument("--json", action="store_true", help="print all of it as JSON, and nothing else")
 
@@ -114,6 +115,8 @@ def cut_told(it: Status) -> Cut[str]:
 def head_of(it: Status, cut: Cut[str]) -> str:
     """The first line: k, and what it means."""
     report, hosts = it.report, counted(len(it.graph.ids), "host")
+    if len(it.graph.ids) == 1:
+        return f"k is 0: there is one host alone, {some(list(it.graph.ids))}."
     if report.is_linked:
         who = hosts if report.group is None else f"the {counted(len(report.group), 'host')} of the group"
         return f"k is {report.k}: every two of {who} are linked, so no crash parts two that survive."

@@ -44,7 +44,7 @@ def worst_lines(found: Worst[str], k: int, sites: Optional[Sites], most: int) ->
     if found.is_all and found.found == 1:
         return ["No other single crash cuts off anybody." if k == 1 else f"No other {k} crashes cut off anybody."]
     number = "all" if found.is_all else "those found; there may be others, which cut off more"
-    head = f"{found.found} smallest cuts, of {counted(k, 'host')} each ({number}). The worst:"
+    head = f"{counted(found.found, 'smallest cut')}, of {counted(k, 'host')} each ({number}). The worst:"
     return [head, *(f"  {said_of_cut(it, sites)}" for it in found.cuts[:most])]
 
 
