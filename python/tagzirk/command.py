@@ -12,13 +12,13 @@ import threading
 from typing import Dict, Iterator, List, NoReturn, Optional, Sequence, Tuple
 
 from . import slips
-from .commands import diff, each, history, importing, mending, metrics, report, status
+from .commands import collecting, diff, each, history, importing, mending, metrics, report, status
 from .commands.words import READS, common_words, fault, told
 from .errors import TagzirkError, in_words
 from .proofs import versions
 
 # The commands, in the order in which help shows them.
-COMMANDS = (status, diff, importing, mending, each, history, metrics, report)
+COMMANDS = (status, diff, importing, mending, each, history, metrics, report, collecting)
 DESCRIPTION = "From a dump of a running overlay to answers that overlay-check confirmed, and to remedies."
 START = """Start here: `tagzirk status FILE` tells in names how few crashes split the overlay of which FILE is a dump,
 and `tagzirk report FILE > report.html` makes a page of it. `tagzirk COMMAND --help` has the options of a command,

@@ -154,7 +154,8 @@ def dump_of(words: argparse.Namespace, is_graph_taken: bool = True) -> Dump:
 
 def fault(words: argparse.Namespace, text: str) -> None:
     """Says what could not be done, and what may help."""
-    tips = [*slips.of_files(words.files, words.name), *strangers()]
+    are_files = vars(words).get("are_files", True)
+    tips = [*slips.of_files(words.files, words.name), *strangers()] if are_files else []
     told("\n".join([f"tagzirk {words.name}: {text}", *(f"tip: {it}" for it in tips)]))
 
 
