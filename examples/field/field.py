@@ -26,6 +26,8 @@ from dataclasses import dataclass
 from typing import Callable, ClassVar, FrozenSet, Iterable, Mapping, NoReturn, Optional, Sequence, Tuple, TypeVar
 
 TOP = pathlib.Path(__file__).resolve().parents[2]
+# The package tagzirk of this repository, which makes the dumps.
+sys.path.insert(0, str(TOP / "python"))
 # How many relays there are, and how many hosts each of the two clusters has then, unless others are asked for.
 SIZES = "2x5,3x6,4x7"
 # So many hosts an overlay has at most: the daemons of all rounds run at once.

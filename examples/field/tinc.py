@@ -3,20 +3,20 @@
 `overlay` on overlays of tinc.
 
 Each host is a daemon of tinc without a network device, which links to its neighbours by TCP. The dump is the graph that
-one daemon writes in DOT once a minute, and that `overlay import --dot` reads as it is. Whom a daemon reaches it writes
-into its log at the signal USR2. README.md says what is tried.
+one daemon writes in DOT once a minute, and that `tagzirk collect tinc` prints and `overlay import --dot` reads as it
+is. Whom a daemon reaches it writes into its log at the signal USR2. README.md says what is tried.
 """
 
 from __future__ import annotations
 
 import re
-import shlex
 import signal
 import subprocess
 import sys
 from typing import Mapping, Optional
 
 import field
+from tagzirk import collect
 
 # In so many seconds a link that could not be made is tried again.
 RETRY = 5
@@ -52,8 +52,6 @@ class Tinc(field.Overlay):
 
     def configuration(self, host: str) -> str:
         """What tinc.conf says. Of two neighbours the later one connects, when the other already listens."""
-        # so that a reader never sees half of a dump
-        graph, part = (shlex.quote(str(self.folder / host / name)) for name in ("graph.dot", "graph.part"))
         lines = [
             f"Name = {host}",
             "DeviceType = dummy",
@@ -61,15 +59,19 @@ class Tinc(field.Overlay):
             f"BindToAddress = {self.addresses[host]}",
             f"Port = {self.port}",
             f"MaxTimeout = {RETRY}",
-            f"GraphDumpFile = |cat > {part} && mv {part} {graph}",
+            f"GraphDumpFile = {self.folder / host / 'graph.dot'}",
             *(f"ConnectTo = {it}" for it in sorted(self.links[host]) if it < host),
         ]
         return "".join(f"{line}\n" for line in lines)
 
     def dump(self, since: float) -> Optional[str]:
-        """The graph of the first live host: the file is rewritten at the end of each minute in which it changed."""
-        file = self.folder / self.alive()[0] / "graph.dot"
-        return file.read_text() if file.exists() and file.stat().st_mtime > since else None
+        """The graph of the first live host, as `tagzirk collect tinc` prints it: the file is rewritten at the end of
+        each minute in which it changed."""
+        home = self.folder / self.alive()[0]
+        file = home / "graph.dot"
+        if not file.exists() or file.stat().st_mtime <= since:
+            return None
+        return collect.tinc(str(home), str(home / "pid")).dump
 
     def reached(self, told: Mapping[str, field.Hosts]) -> dict[str, field.Hosts]:
         """The nodes that each live daemon writes into its log as reached."""

@@ -3,7 +3,7 @@
 `overlay` on overlays of Yggdrasil.
 
 Each host is a daemon of Yggdrasil without a network device, which links to its neighbours by TCP. The dump is made of
-what each daemon says of its peers, by `yggdrasilctl getPeers`. One daemon reaches another if that answers
+what each daemon says of its peers, as `tagzirk collect yggdrasil` makes it. One daemon reaches another if that answers
 `yggdrasilctl getNodeInfo`. README.md says what is tried.
 """
 
@@ -16,6 +16,7 @@ from concurrent.futures import ThreadPoolExecutor
 from typing import Any, Mapping, Optional
 
 import field
+from tagzirk import collect
 
 # So many questions are under way at once. The daemon gives one up after six seconds.
 AT_ONCE = 100
@@ -69,14 +70,9 @@ class Yggdrasil(field.Overlay):
         return json.loads(said.stdout) if said.returncode == 0 else None
 
     def dump(self, since: float) -> Optional[str]:
-        """Each live host with the names of its peers, as they say now."""
-        names = {key: host for host, key in self.keys.items()}
-        views = {}
-        for host in self.alive():
-            if (said := self.ask(host, "getPeers")) is None:
-                return None
-            views[host] = [names.get(peer["key"], peer["key"]) for peer in said["peers"]]
-        return json.dumps(views)
+        """Each live host with the names of its peers, as they say now: what `tagzirk collect yggdrasil` prints."""
+        made = collect.yggdrasil([f"{host}=unix://{self.folder / host}.sock" for host in self.alive()])
+        return None if made.notes else made.dump
 
     def reached(self, told: Mapping[str, field.Hosts]) -> dict[str, field.Hosts]:
         """The live hosts that answer each live host, or have answered it before."""
