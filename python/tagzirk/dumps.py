@@ -22,7 +22,7 @@ from .limits import GZIP
 from .notes import Line, commented, lines_in, notes_on
 from .only import only_graph, only_views, plain_views
 from .programs import Program, call, find, refuse
-from .slips import of_contents
+from .contents import of_contents
 from .taken import taken_of
 from .texts import decoded, text_of
 from .values import Views

@@ -1,4 +1,4 @@
-"""Slips: what somebody may have meant by words that the command does not have, and by files that are no dump."""
+"""Slips: what somebody may have meant by words that the command does not have, and by files that are not there."""
 
 from __future__ import annotations
 
@@ -83,6 +83,14 @@ OTHER_OPTIONS: Dict[str, str] = {
     "--header": "--columns FROM,TO names the columns of both ends by their header",
     "--source": "--columns FROM,TO names the columns of both ends",
     "--target": "--columns FROM,TO names the columns of both ends",
+    "--delimiter": "the sign between columns is found by itself; --columns FROM,TO names the columns of both ends",
+    "--separator": "the sign between columns is found by itself; --columns FROM,TO names the columns of both ends",
+    "--sep": "the sign between columns is found by itself; --columns FROM,TO names the columns of both ends",
+    "-d": "the sign between columns is found by itself; --columns FROM,TO names the columns of both ends",
+    "--old": "`tagzirk diff OLD NEW` takes both dumps without an option, the older first",
+    "--new": "`tagzirk diff OLD NEW` takes both dumps without an option, the older first",
+    "--before": "`tagzirk diff OLD NEW` takes both dumps without an option, the older first",
+    "--after": "`tagzirk diff OLD NEW` takes both dumps without an option, the older first",
     "--overwrite": "--force writes over a file that this command did not write",
     "--yes": "--force writes over a file that this command did not write",
     "--overlay": "the variable TAGZIRK_OVERLAY names the program overlay",
@@ -94,39 +102,34 @@ OTHER_OPTIONS: Dict[str, str] = {
     "--version": "`tagzirk --version` prints the version",
     "-V": "`tagzirk --version` prints the version",
 }
-# How a file begins, behind blanks, that is surely no dump: what it is, and what is done with it.
-NO_DUMPS: Tuple[Tuple[bytes, str], ...] = (
-    (rb"<(?:!doctype )?html", "a page of HTML; that of `tagzirk report` has the graph as a file to save"),
-    (rb"<(?:\?xml|!--|!doctype svg|svg)[^\x00]*?<svg|<svg", "a picture"),
-    (rb"\x89png|\xff\xd8\xff|gif8", "a picture"),
-    (rb"%pdf", "a document in PDF"),
-    (rb"\x7felf", "a program"),
-    (rb"#!", "a script"),
-    (rb"pk\x03\x04", "a zip archive: unpack it first"),
-    (rb"\xfd7zxz", "packed by xz: `xzcat FILE | tagzirk COMMAND` reads it"),
-    (rb"bzh", "packed by bzip2: `bzcat FILE | tagzirk COMMAND` reads it"),
-    (rb"\x28\xb5\x2f\xfd", "packed by zstd: `zstdcat FILE | tagzirk COMMAND` reads it"),
-    (rb"sqlite format 3", "a database of SQLite: a query to it can print rows of two names"),
-    (rb"# (?:help|type) ", "a file of metrics for Prometheus, which `tagzirk metrics` makes of a dump"),
-    (rb"\[unit\]", "a unit of systemd"),
-    (rb"report \d+ (?:split|linked|alone)", "an answer of `overlay analyse`, whose last line may be a certificate"),
-    (rb"(?:holds|fails) \d+ (?:split|linked|alone)", "an answer of `overlay-check`"),
-    (rb"time,nodes,links,k,cut,", "a table of `tagzirk history`"),
-    (rb"(?:host|rack),hosts,k,all_linked,", "a table of `tagzirk each --csv`"),
-    (rb"add\t[^\t\n]+\t[^\t\n]+\n", "links to add; `tagzirk mend --graph GRAPHFILE` writes the graph with them"),
-)
-# How a file begins that could not be read, and may be something else.
-PERHAPS: Tuple[Tuple[bytes, str], ...] = (
-    (rb"groups:[ \t\r]*\n[ \t]*- name:", "rules for Prometheus"),
-)
-# Options and words that a command can't do without: how they are given.
-REQUIRED: Dict[str, str] = {
+# Options and words that need a value, or that a command can't do without: how they are given.
+HOW: Dict[str, str] = {
     "--to": "--to 3 asks for links so that no fewer than 3 crashes split the overlay",
     "--textfile": "--textfile FILE.prom writes into the folder of a collector, and --textfile - prints",
     "FILE": "name the dumps, or the folder that they are in",
+    "--at-least": "--at-least 2 asks whether any single crash is survived",
+    "--graph": "--graph GRAPHFILE names the file to write",
+    "--svg": "--svg PICTURE names the file to write",
+    "--columns": "--columns FROM,TO names two columns, with a comma between",
+    "--most-links": "--most-links 2 gives no host more than two links",
+    "KIND": "tinc and yggdrasil are the kinds",
 }
-# So many bytes of a file are looked at.
-FIRST = 4096
+# Words that are given in the place of one that there is.
+CHOICES: Dict[str, str] = {
+    "xml": "--form graphml and --form gexf are forms in XML",
+    "text": "--form edges reads lines of two names",
+    "txt": "--form edges reads lines of two names",
+    "tsv": "--form csv reads tables with tabs too",
+    "table": "--form csv reads tables",
+    "excel": "--form csv reads tables",
+    "jsonl": "--form json reads JSON lines too",
+    "yml": "--form yaml",
+    "graph": "a graph file is known by itself, without --form",
+    "graphviz": "--form dot",
+    "gv": "--form dot",
+    "networkx": "--form json reads node-link JSON, and --form adjacency lists of neighbours",
+    "list": "--form adjacency reads lists of neighbours, and --form edges lines of two names",
+}
 # How the names of files end that commands write.
 OUTPUT_ENDINGS = (".html", ".htm", ".svg", ".png", ".csv", ".graph", ".prom", ".pdf")
 
@@ -134,6 +137,8 @@ OUTPUT_ENDINGS = (".html", ".htm", ".svg", ".png", ".csv", ".graph", ".prom", ".
 def of_command(word: str, rest: Sequence[str], commands: Sequence[str]) -> List[str]:
     """What is said of a first word that is no command."""
     said = f"tagzirk has no command {word!r}"
+    if word in ("-v", "--verbose", "-q", "--quiet"):
+        return [f"tagzirk has no option {word}", OTHER_OPTIONS[word]]
     if word.startswith("-"):
         behind = next((it for it in rest if it in commands), "COMMAND")
         return [f"tagzirk has no option {word.partition('=')[0]!r} before its command: tagzirk {behind} {word} .."]
@@ -150,7 +155,7 @@ def of_command(word: str, rest: Sequence[str], commands: Sequence[str]) -> List[
             f"tagzirk needs a command before the file {word}",
             f"`tagzirk status {word}` tells k and the cut, and `tagzirk report {word} > report.html` makes a page",
         ]
-    return [said]
+    return [said, f"the commands are {', '.join(commands)}; `tagzirk --help` says what each does"]
 
 
 def of_option(word: str, command: str, options: Mapping[str, Sequence[str]]) -> List[str]:
@@ -188,37 +193,20 @@ def of_fault(message: str) -> List[str]:
 
     >>> of_fault("the following arguments are required: --to")[1][:8]
     '--to 3 a'
+    >>> of_fault("argument --form: invalid choice: 'JSON' (choose from 'json', 'dot')")[1]
+    'did you mean json?'
     """
-    missing = message.partition("required: ")[2].split(", ")
-    return [message, *(REQUIRED[it] for it in missing if it in REQUIRED)]
-
-
-def of_contents(data: bytes, is_surely: bool = True) -> Optional[str]:
-    """What a file is that is surely no dump, or with `is_surely` false perhaps none, by how it begins; None if nothing
-    is known of it.
-
-    >>> of_contents(b"<!DOCTYPE html>")[:14], of_contents(b"oslo rome")
-    ('a page of HTML', None)
-    """
-    begin = without_mark(data)
-    for pattern, what in NO_DUMPS if is_surely else (*NO_DUMPS, *PERHAPS):
-        if re.match(pattern, begin, re.IGNORECASE):
-            return what
-    if is_surely:
-        return None
-    strange = sum(it < 9 or 13 < it < 32 or it == 127 for it in begin)
-    return "no text" if strange * 20 > len(begin) and not is_utf_16(begin) else None
-
-
-def is_utf_16(data: bytes) -> bool:
-    """Whether bytes are likely to be text in UTF-16: zeros stand in one half of the places."""
-    zeros = data[::2].count(0), data[1::2].count(0)
-    return min(zeros) * 8 < max(zeros)
-
-
-def without_mark(data: bytes) -> bytes:
-    """How a file begins, without a mark of byte order and blanks."""
-    return data[:FIRST].removeprefix(b"\xef\xbb\xbf").lstrip()
+    needless = re.search(r"argument (\S+): ignored explicit argument (.*)", message)
+    if needless:
+        return [f"{needless[1]} takes no value, and {needless[2]} stands behind it", OTHER_OPTIONS["--output"]]
+    chosen = re.search(r"invalid choice: '(.*?)' \(choose from (.*)\)", message)
+    if chosen:
+        like = nearest(chosen[1], re.findall(r"[\w-]+", chosen[2]))
+        tip = CHOICES.get(chosen[1].lower(), f"did you mean {like}?" if like else "")
+        return [message, tip] if tip else [message]
+    named = re.search(r"^argument (\S+): expected", message)
+    missing = [named[1]] if named else message.partition("required: ")[2].split(", ")
+    return [message, *(HOW[it] for it in missing if it in HOW)]
 
 
 def of_files(places: Sequence[str], command: str) -> List[str]:
@@ -240,6 +228,8 @@ def of_missing(place: str, command: str) -> List[str]:
         return [f"a file is named alone: {place.partition('=')[2]}"]
     if place.endswith(OUTPUT_ENDINGS):
         return [f"{place} is not there; if it is to be written: tagzirk {command} .. > {place}"]
+    if place in (">", "2>", "|"):
+        return [f"{place} is a sign of the shell, and stands without quotes"]
     if place.startswith("@"):
         return [f"a dump is named without @: {place[1:]}"]
     if place.startswith(("http://", "https://")):
@@ -251,10 +241,3 @@ def of_missing(place: str, command: str) -> List[str]:
         return [f"there is no folder {folder}"]
     like = nearest(name, [it.name for it in pathlib.Path(folder or ".").iterdir()])
     return [f"did you mean {os.path.join(folder, like)}?"] if like else []
-
-
-def is_dump(data: bytes) -> bool:
-    """Whether a file that is to be lines `HOST RACK` is a dump: JSON, a graph file, DOT or XML."""
-    lines = (line.strip() for line in without_mark(data).split(b"\n"))
-    first = next((line for line in lines if line and not line.startswith(b"#")), b"")
-    return re.match(rb"[\[{<]|(?:node|link) \d|(?:strict |di)*graph\b", first) is not None

@@ -10,7 +10,7 @@ import sys
 from dataclasses import dataclass
 from typing import TYPE_CHECKING, Any, Dict, List, Optional
 
-from .. import slips
+from ..contents import is_dump
 from ..crashes import Crash, badness, each
 from ..errors import BadDump
 from ..graphs import NamedGraph, shown
@@ -204,7 +204,7 @@ def racks_in(place: str, graph: NamedGraph[str], left_out: List[str]) -> Dict[st
     except UnicodeDecodeError:
         raise BadDump(f"{place}: it is not UTF-8") from None
     except BadDump as why:
-        raise BadDump(f"{why}{swapped if slips.is_dump(data) else ''}") from None
+        raise BadDump(f"{why}{swapped if is_dump(data) else ''}") from None
     if not racks:
         raise BadDump(f"{place}: it names no rack; a line is HOST RACK")
     if all(rack in graph.ids and hosts != [rack] for rack, hosts in racks.items()):
@@ -212,7 +212,8 @@ def racks_in(place: str, graph: NamedGraph[str], left_out: List[str]) -> Dict[st
     known = {host for hosts in racks.values() for host in hosts}
     here = {rack: [it for it in hosts if it in graph.ids] for rack, hosts in racks.items()}
     if not any(here.values()):
-        raise BadDump(f"{place}: none of its {len(known)} hosts is in the dump, as {shown(min(known))}")
+        told_of = swapped if is_dump(data) else ""
+        raise BadDump(f"{place}: none of its {len(known)} hosts is in the dump, as {shown(min(known))}{told_of}")
     gone = sorted(it for it in known if it not in graph.ids and it not in left_out)
     if gone:
         told(f"{place}: not in the dump, and so passed over: {some(gone)}")

@@ -6,7 +6,7 @@ import argparse
 import sys
 from typing import TYPE_CHECKING
 
-from .words import Parents, command, dump_of
+from .words import Parents, command, dump_of, told
 
 if TYPE_CHECKING:
     from .words import Commands
@@ -25,5 +25,8 @@ def add(commands: Commands, parents: Parents) -> None:
 
 def run_import(words: argparse.Namespace) -> int:
     """Prints the graph file."""
-    sys.stdout.write(dump_of(words, is_graph_taken=False).graph_file)
+    dump = dump_of(words, is_graph_taken=False)
+    if not words.files and not dump.has_nodes:
+        told("no FILE was named, so standard input was read: tagzirk import FILE")
+    sys.stdout.write(dump.graph_file)
     return 0

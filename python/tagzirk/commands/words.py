@@ -8,15 +8,14 @@ import sys
 from dataclasses import dataclass
 from typing import TYPE_CHECKING, Callable, Sequence
 
-from .. import slips
 from ..asked import Asked
 from ..dumps import Dump, Options, read_dump
 from ..errors import BadDump
 from ..forms import FORMS
 from ..graphs import UNSHOWN, code, shown
 from ..outputs import Output
-from ..proofs import strangers
 from ..taken import up_of
+from .tips import tips
 
 if TYPE_CHECKING:
     Commands = argparse._SubParsersAction[argparse.ArgumentParser]
@@ -49,9 +48,11 @@ def common_words() -> Parents:
     dump = argparse.ArgumentParser(add_help=False)
     dump.add_argument("--either", action="store_true", help="link two hosts also if only one of them lists the other")
     dump.add_argument("--entries", action="store_true", help="leave out names that others list, and that have no entry")
-    dump.add_argument("--form", choices=FORMS, help="the form of the dump; without it the dump itself decides")
+    forms = f"the form of the dump, if the dump itself is not to decide: {', '.join(FORMS)}"
+    dump.add_argument("--form", choices=FORMS, metavar="FORM", help=forms)
     dump.add_argument("--by", metavar="FIELD", help="the field of an object that names its host")
-    dump.add_argument("--columns", metavar="FROM,TO", help="the columns or fields that are both ends of a link, by name, or of a table by number, as 1,3")
+    ends = "the columns or fields that are both ends of a link, by name, or of a table by number, as 1,3"
+    dump.add_argument("--columns", metavar="FROM,TO", help=ends)
     dump.add_argument("--peers", metavar="KEY", help="the key below which the peers of each host stand in JSON")
     dump.add_argument("--links", metavar="KEY", help="the key below which all links stand in JSON")
     dump.add_argument(
@@ -147,16 +148,12 @@ def dump_of(words: argparse.Namespace, is_graph_taken: bool = True) -> Dump:
     dump = read_dump(words.files or ["-"], options_of(words), is_graph_taken=is_graph_taken)
     for note in dump.notes:
         told(note)
-    if not words.files and not dump.has_nodes:
-        told(f"no FILE was named, so standard input was read: tagzirk {words.name} FILE")
     return dump
 
 
 def fault(words: argparse.Namespace, text: str) -> None:
     """Says what could not be done, and what may help."""
-    are_files = vars(words).get("are_files", True)
-    tips = [*slips.of_files(words.files, words.name), *strangers()] if are_files else []
-    told("\n".join([f"tagzirk {words.name}: {text}", *(f"tip: {it}" for it in tips)]))
+    told("\n".join([f"tagzirk {words.name}: {text}", *(f"tip: {it}" for it in tips(words, text))]))
 
 
 def output(words: argparse.Namespace, option: str, place: str, *marks: str) -> Output:
