@@ -91,7 +91,7 @@ def time_in(name: str) -> Optional[datetime.datetime]:
             year, month, day, hour, minute, second = (int(it or 0) for it in said.groups()[:6])
             zone = datetime.timezone.utc if said[7] else None
             return datetime.datetime(year, month, day, hour, minute, second, tzinfo=zone).astimezone()
-        return datetime.datetime.fromtimestamp(int(epoch[1])).astimezone() if epoch else None
+        return moment_at(int(epoch[1])) if epoch else None
     except ValueError:
         return None
 
@@ -107,8 +107,20 @@ def times_of(files: Sequence[str]) -> Dict[str, Optional[datetime.datetime]]:
 
 def changed(file: str) -> Optional[datetime.datetime]:
     try:
-        return datetime.datetime.fromtimestamp(os.stat(file).st_mtime).astimezone()
+        return moment_at(os.stat(file).st_mtime)
     except OSError:
+        return None
+
+
+def moment_at(seconds: float) -> Optional[datetime.datetime]:
+    """The moment so many seconds after 1970 began, in the zone of this machine; None if no calendar has it.
+
+    >>> moment_at(1e14) is None
+    True
+    """
+    try:
+        return datetime.datetime.fromtimestamp(seconds).astimezone()
+    except (ValueError, OverflowError, OSError):
         return None
 
 

@@ -12,6 +12,7 @@ from typing import Any, Dict, Generic, Iterable, List, Mapping, Optional, Set, T
 from .bits import Bits, Hosts, number_of
 from .errors import BadDump, BadGraph
 from .graphs import NamedGraph, Node, is_name, shown
+from .json_files import parsed
 from .progress import Progress
 
 # So many racks at most are lost at once, and so many sets of racks are tried.
@@ -90,9 +91,11 @@ def racks_of(text: str, name: str) -> Dict[str, List[str]]:
     racks: Dict[str, List[str]] = {}
     if text.lstrip().startswith("{"):
         try:
-            said = json.loads(text)
+            said = parsed(text)
         except json.JSONDecodeError as why:
             raise BadDump(f"{name}: line {why.lineno}: it is no JSON: {why.msg}") from None
+        except BadDump as why:
+            raise BadDump(f"{name}: {why}") from None
         for key, value in said.items():
             if isinstance(value, list):
                 racks.setdefault(key, []).extend(map(str, value))
@@ -104,7 +107,10 @@ def racks_of(text: str, name: str) -> Dict[str, List[str]]:
         if not bare or bare.startswith("#"):
             continue
         between = next((it for it in "\t;," if it in bare), None)
-        words = [it.strip() for it in next(csv.reader([bare], delimiter=between))] if between else bare.split()
+        try:
+            words = [it.strip() for it in next(csv.reader([bare], delimiter=between))] if between else bare.split()
+        except csv.Error as why:
+            raise BadDump(f"{name}: line {number} is no row of a table: {why}") from None
         if len(words) != 2 or not all(words):
             raise BadDump(f"{name}: line {number} is no host with its rack: {shown(bare)}")
         racks.setdefault(words[1], []).append(words[0])

@@ -3,11 +3,11 @@
 from __future__ import annotations
 
 import argparse
-import datetime
 import sys
 from typing import TYPE_CHECKING
 
 from ..dumps import last_change
+from ..histories import moment_at
 from ..pages import page
 from ..progress import Progress
 from .words import Parents, at_least_one, command, dump_of
@@ -28,7 +28,7 @@ def run_report(words: argparse.Namespace) -> int:
     """Prints the page."""
     dump = dump_of(words)
     changed = last_change(words.files)
-    taken = None if changed is None else datetime.datetime.fromtimestamp(changed).astimezone()
+    taken = None if changed is None else moment_at(changed)
     with Progress() as progress:
         text = page(dump, words.to, taken=taken, site=words.site, progress=progress)
     sys.stdout.write(text)
