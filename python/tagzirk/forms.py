@@ -14,6 +14,7 @@ from .graph_files import Graph
 from .json_files import Twice, is_json, json_of
 from .lines import of_lines
 from .matrices import graph6_of, matrix_graph, matrix_of
+from .mermaid import BEGIN as MERMAID, mermaid
 from .neighbours import lgl, metis, multiline
 from .rows import rows_of
 from .sections import dimacs, gdf, is_tgf, leda, lemon, matrix_market, pajek, plain, tgf
@@ -49,6 +50,7 @@ GRAPHS: Dict[str, Callable[[str], Optional[Graph]]] = {
     "multiline": lambda text: multiline(rows_of(text)),
     "graph6": graph6_of,
     "matrix": square,
+    "mermaid": mermaid,
 }
 FORMS = (*NATIVE, "json", "yaml", "csv", "weighted", "adjacency", *GRAPHS)
 # How a text begins in a form, where this leaves no doubt.
@@ -58,6 +60,7 @@ GML = re.compile(
 BEGINS = (
     ("graphml", XML),
     ("gml", GML),
+    ("mermaid", MERMAID),
     ("plain", re.compile(r"graph(?: [0-9.]+){3}\s*\nnode ")),
     ("dot", re.compile(r'(?:/\*|(?://[^\n]*\n\s*)*(?:strict|graph|digraph)(?=[\s{"<]))', re.IGNORECASE)),
     ("matrixmarket", re.compile("%%MatrixMarket", re.IGNORECASE)),

@@ -134,6 +134,14 @@ def parsed_rows(text: str, begin: int, between: str) -> List[Tuple[int, List[str
     return rows
 
 
+def without_rule(rows: List[Tuple[int, List[str]]]) -> List[Tuple[int, List[str]]]:
+    """The rows without a line below the header, and without their count at the end, as psql and sqlite write them."""
+    if rows and all(len(it) > 1 and set(it) <= set("-=") for it in rows[0][1]):
+        rows = rows[1:]
+    is_count = len(rows) > 1 and FOOTER.fullmatch(" ".join(rows[-1][1])) and len(rows[-1][1]) < len(rows[0][1])
+    return rows[:-1] if is_count else rows
+
+
 def with_header(text: str, columns: Optional[str]) -> Optional[Tuple[Table, Ends]]:
     """The table whose first line that is no comment is a header: one that names two columns that are known or were
     asked for. No row below has these names, but for the whole header, which `cat` may repeat."""
@@ -144,7 +152,7 @@ def with_header(text: str, columns: Optional[str]) -> Optional[Tuple[Table, Ends
     ends = ends_by_name(header, columns)
     if not ends:
         return None
-    table = Table("a table", header, parsed_rows(text, begin + 1, between))
+    table = Table("a table", header, without_rule(parsed_rows(text, begin + 1, between)))
     names = {header[it].lower() for it in ends.places}
     others = (row for _, row in table.rows if row != header)
     is_name = not columns and any(cell.lower() in names for row in others for cell in cells_at(row, ends))

@@ -145,7 +145,8 @@ TABLES = (
     form("psql", " source | target | cost \n--------+--------+------\n" + each_link(" {a}     | {b}     |    1\n") + "(7 rows)\n\n"),
     form("psql with unknown columns", " a | b | cost \n---+---+------\n" + each_link(" {a} | {b} | 1\n") + "(7 rows)\n", "--columns", "a,b"),
     form("psql with a title", "   Links\n source | target \n--------+--------\n" + each_link(" {a} | {b}\n") + "(7 rows)\n"),
-    form("psql without alignment", "source|target\n" + each_link("{a}|{b}\n") + "(7 rows)\n", told="line 9 has 1 columns"),
+    form("psql without alignment", "source|target\n" + each_link("{a}|{b}\n") + "(7 rows)\n"),
+    form("sqlite, columns", "source  target  cost\n------  ------  ----\n" + each_link("{a}      {b}      1\n")),
     form("psql with frames", "┌────────┬────────┐\n│ source │ target │\n├────────┼────────┤\n" + each_link("│ {a}     │ {b}     │\n") + "└────────┴────────┘\n(7 rows)\n"),
     form(
         "mysql",
@@ -236,6 +237,10 @@ GRAPHS = (
     form("DOT with other ports of numbers", "graph { n1:7946 -- n2:7947; n1:7948 -- n3:7 }", told="are one node to DOT"),
     form("DOT with HTML", "graph { " + each_link("{a} -- {b} [label=<<b>{at}</b>>]; ") + "}"),
     form("DOT with names that need quotes", "graph { n-1 -- n-2 }", told="needs quotes"),
+    form("Mermaid", "graph TD\n    %% of today\n" + each_link("    {a}[Host {i}] --- {b}\n")),
+    form("Mermaid with directions", "flowchart LR\n" + both_ways("    {a} -->|{i} ms| {b};\n")),
+    form("Mermaid with chains", "graph LR;\n  n1 --- n2 & n4 & n6\n  n2 --- n3 --- n4 --- n5 --- n6;\n  classDef x fill:#f9f\n"),
+    form("Mermaid that is another chart", "graph TD\n  a %% b\n", told="no arrow of Mermaid"),
     form("strict DOT", "// of today\nstrict graph {" + both_ways("{a} -- {b};") + "}"),
 )
 VALUES = (

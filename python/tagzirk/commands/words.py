@@ -23,8 +23,9 @@ if TYPE_CHECKING:
 MOST_NAMES = 8
 
 DUMP_FORMS = """FILE is a dump of what each host lists, in a form of `overlay import`, or as JSON of nodes and links
-(networkx, d3, NetJSON, cytoscape), objects or lists of hosts with their peers, JSON lines, GraphML, GEXF, GML, YAML,
-CSV with a header, lines with weights, `;` or arrows, or lists of neighbours. """
+(networkx, d3, NetJSON, cytoscape), objects or lists of hosts with their peers, JSON lines, YAML, a table (CSV; of psql,
+mysql, Markdown), lines with weights, `;` or arrows, lists of neighbours, GraphML, GEXF, GML, Pajek, METIS, DIMACS and
+others that --form names; or any of these packed by gzip. """
 READS = f"""{DUMP_FORMS}Several files, or a folder, are one file a
 host, whose name is the host's. Without FILE, or with -, standard input is read. Notes on the dump go to standard error.
 """
