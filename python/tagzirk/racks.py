@@ -7,7 +7,7 @@ import itertools
 import json
 import math
 from dataclasses import dataclass
-from typing import Any, Dict, Generic, Iterable, List, Mapping, Optional, Set, Tuple
+from typing import Any, Dict, Generic, Iterable, Iterator, List, Mapping, Optional, Set, Tuple
 
 from .bits import Bits, Hosts, number_of
 from .errors import BadDump, BadGraph
@@ -87,31 +87,45 @@ def racks_of(text: str, name: str) -> Dict[str, List[str]]:
 
     >>> racks_of("oslo-1 R1\\noslo-2 R1\\nberlin-1 R2\\n", "racks")
     {'R1': ['oslo-1', 'oslo-2'], 'R2': ['berlin-1']}
+    >>> racks_of('{"R1": ["oslo-1"], "oslo-2": "R1"}', "racks")
+    {'R1': ['oslo-1', 'oslo-2']}
     """
+    pairs = pairs_of_json(text, name) if text.lstrip().startswith("{") else pairs_of_lines(text, name)
     racks: Dict[str, List[str]] = {}
-    if text.lstrip().startswith("{"):
-        try:
-            said = parsed(text)
-        except json.JSONDecodeError as why:
-            raise BadDump(f"{name}: line {why.lineno}: it is no JSON: {why.msg}") from None
-        except BadDump as why:
-            raise BadDump(f"{name}: {why}") from None
-        for key, value in said.items():
-            if isinstance(value, list):
-                racks.setdefault(key, []).extend(map(str, value))
-            else:
-                racks.setdefault(str(value), []).append(key)
-        return racks
+    for host, rack in pairs:
+        racks.setdefault(rack, []).append(host)
+    return racks
+
+
+def pairs_of_json(text: str, name: str) -> Iterator[Tuple[str, str]]:
+    """Each host with its rack, by a JSON object."""
+    try:
+        said = parsed(text)
+    except json.JSONDecodeError as why:
+        raise BadDump(f"{name}: line {why.lineno}: it is no JSON: {why.msg}") from None
+    except BadDump as why:
+        raise BadDump(f"{name}: {why}") from None
+    if not isinstance(said, dict):
+        raise BadDump(f"{name}: it should be one object, of each rack's list of hosts")
+    for key, value in said.items():
+        for it in value if isinstance(value, list) else [value]:
+            if not isinstance(it, (str, int)) or isinstance(it, bool):
+                raise BadDump(f"{name}: {shown(key)} should have a list of hosts, or be a host with its rack")
+            yield (str(it), key) if isinstance(value, list) else (key, str(it))
+
+
+def pairs_of_lines(text: str, name: str) -> Iterator[Tuple[str, str]]:
+    """Each host with its rack, by lines of both."""
     for number, line in enumerate(text.splitlines(), 1):
         bare = line.strip()
         if not bare or bare.startswith("#"):
             continue
         between = next((it for it in "\t;," if it in bare), None)
         try:
-            words = [it.strip() for it in next(csv.reader([bare], delimiter=between))] if between else bare.split()
+            cells = next(csv.reader([bare], delimiter=between, strict=True)) if between else bare.split()
         except csv.Error as why:
             raise BadDump(f"{name}: line {number} is no row of a table: {why}") from None
+        words = [it.strip() for it in cells]
         if len(words) != 2 or not all(words):
-            raise BadDump(f"{name}: line {number} is no host with its rack: {shown(bare)}")
-        racks.setdefault(words[1], []).append(words[0])
-    return racks
+            raise BadDump(f"{name}: line {number} is no host with its rack: {shown(bare[:200])}")
+        yield words[0], words[1]

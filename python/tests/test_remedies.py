@@ -186,6 +186,12 @@ class Each(Commands):
             ("a\n", "line 1 is no host"),
             ("", "no rack"),
             ("{", "no JSON"),
+            ("[" * 100000, "line 1 is no host"),
+            ('{"R1": ' + "[" * 100000, "nested too deep"),
+            ('{"R1": ["a"], "R1": ["b"]}', "has the key R1 twice"),
+            ('{"R1": {"a": 1}}', "R1 should have a list of hosts"),
+            ('a,"R1\n', "line 1 is no row of a table"),
+            ("a," + "R" * 140000, "field larger than field limit"),
         ):
             _, err, status = self.tagzirk("each", path, "--racks", self.file("bad", text))
             self.assertEqual((status, told in err), (1, True), err)

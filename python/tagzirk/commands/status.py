@@ -82,7 +82,8 @@ def tell(words: argparse.Namespace) -> int:
     else:
         lines = lines_of(it, sites)
         if level is not None:
-            lines[0] = f"{WORDS[level]} - {lines[0]}|{figures_of(it, words.at_least)}"
+            # figures stand behind the first |, so none may stand in a name
+            lines[0] = f"{WORDS[level]} - {lines[0].replace('|', '/')}|{figures_of(it, words.at_least)}"
         print("\n".join(lines))
     return level or 0
 
