@@ -105,8 +105,6 @@ def pairs_of_json(text: str, name: str) -> Iterator[Tuple[str, str]]:
         raise BadDump(f"{name}: line {why.lineno}: it is no JSON: {why.msg}") from None
     except BadDump as why:
         raise BadDump(f"{name}: {why}") from None
-    if not isinstance(said, dict):
-        raise BadDump(f"{name}: it should be one object, of each rack's list of hosts")
     for key, value in said.items():
         for it in value if isinstance(value, list) else [value]:
             if not isinstance(it, (str, int)) or isinstance(it, bool):
