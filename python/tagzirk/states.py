@@ -79,6 +79,12 @@ def kind_of(field: Field) -> Kind:
     return next((kind for kind in (rule(field) for rule in RULES) if kind is not None), Kind.NONE)
 
 
+def clearness(field: Field) -> int:
+    """By how many signs a field says a state: by its name, by yes or no, by words, and by a value everywhere."""
+    asked = (by_name(field), by_pair(field), by_words(field))
+    return asked.count(Kind.ASKED) + (not field.missing)
+
+
 def is_named(field: Field, names: AbstractSet[str]) -> bool:
     return not field.words.isdisjoint(names)
 
@@ -93,7 +99,8 @@ def by_one_value(field: Field) -> Optional[Kind]:
     if len(field.counts) != 1:
         return None
     value = next(iter(field.counts))
-    is_answer = is_pair({value.casefold()}) and not number_of(value) and not is_named(field, KIND_NAMES)
+    is_number = value == "1" or value == "0" and is_named(field, MEASURE_NAMES)
+    is_answer = is_pair({value.casefold()}) and not is_number and not is_named(field, KIND_NAMES)
     return Kind.TOLD if is_named(field, STATE_NAMES) or state_words(value) or is_answer else Kind.NONE
 
 
@@ -137,9 +144,9 @@ def by_pair(field: Field) -> Optional[Kind]:
     values = {it.casefold() for it in field.counts} - NOTHING - {MISSING}
     if not values or not is_pair(values) or values == {"1"}:
         return None
-    if is_named(field, KIND_NAMES | BEGIN_NAMES) or field.is_of_hosts:
-        return Kind.TOLD
-    return Kind.ASKED
+    if is_named(field, KIND_NAMES):
+        return Kind.NONE
+    return Kind.TOLD if is_named(field, BEGIN_NAMES) or field.is_of_hosts else Kind.ASKED
 
 
 def by_nothing(field: Field) -> Optional[Kind]:

@@ -9,7 +9,7 @@ from .asked import Asked
 from .errors import BadDump
 from .fields import MISSING, Field, fields_of, moment_of, most_of, number_of, span_of, text_of
 from .notes import COMMENTED
-from .states import Kind, kind_of
+from .states import Kind, clearness, kind_of
 from .values import Scalar, Statement, Views, one_of
 
 # So many values of a field, and so many fields, are shown.
@@ -45,7 +45,7 @@ def taken_of(views: Views, asked: Asked) -> Tuple[Views, List[str]]:
         notes.append(note)
         settled.append((field.is_of_hosts, field.name))
     kinds = [(it, kind_of(it)) for it in fields_of(views) if (it.is_of_hosts, it.name) not in settled]
-    differ = [it for it, kind in kinds if kind is Kind.ASKED]
+    differ = sorted((it for it, kind in kinds if kind is Kind.ASKED), key=clearness, reverse=True)
     if differ and not asked.all:
         raise BadDump(question(differ))
     if differ:
