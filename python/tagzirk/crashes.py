@@ -68,42 +68,46 @@ def each(
     """
     named: NamedGraph[Node] = graph if isinstance(graph, NamedGraph) else named_graph(graph)
     bits = Bits(named)
-    crashes: List[Tuple[Any, Hosts]] = (
-        [(rack, bits.of(ids_of_rack(named, rack, hosts))) for rack, hosts in racks.items()]
-        if racks is not None
-        else [(name, bits.of([host])) for name, host in named.ids.items()]
-    )
-    if is_of_pairs:
-        demand_few_pairs(crashes)
 
     def ask(of: NamedGraph[Any], members: Optional[List[int]] = None) -> Report[Any]:
         return analysed(of, members, overlay=overlay, overlay_check=overlay_check)
 
+    crashes = crashes_of(named, bits, racks)
     numbers: Dict[Hosts, Number] = {}
     base, at_once = number_in(report or ask(named)), workers or processors()
-    if is_of_pairs and racks is None:
-        singles = numbers_after(named, base, left_by(crashes, bits), ask, at_once, progress)
-        numbers = numbers_after_two(named, singles, ask, at_once, progress)
     if is_of_pairs:
+        demand_few_pairs(crashes)
+        if racks is None:
+            singles = numbers_after(named, base, left_by(crashes, bits), ask, at_once, progress)
+            numbers = numbers_after_two(named, singles, ask, at_once, progress)
         crashes = [((a, b), one | other) for (a, one), (b, other) in itertools.combinations(crashes, 2)]
     if not numbers:
         numbers = numbers_after(named, base, left_by(crashes, bits), ask, at_once, progress)
     names = named.names
+    return sorted((crash_of(name, hosts, numbers.get(hosts), bits, names) for name, hosts in crashes), key=badness)
 
-    def crash(name: Any, hosts: Hosts) -> Crash[Node]:
-        number = numbers.get(hosts)
-        # where k is above 0 all that are left are joined
-        is_split = number is not None and number.k == 0 and not number.is_linked
-        cut_off = bits.cut_off(hosts) if is_split else 0
-        return Crash(
-            name,
-            tuple(names[it] for it in bits.ids(hosts)),
-            number.k if number else None,
-            number is not None and number.is_linked,
-            tuple(names[it] for it in bits.ids(cut_off)),
-        )
 
-    return sorted((crash(name, hosts) for name, hosts in crashes), key=badness)
+def crashes_of(
+    graph: NamedGraph[Node], bits: Bits, racks: Optional[Mapping[Any, Iterable[Node]]]
+) -> List[Tuple[Any, Hosts]]:
+    """The crashes that are asked about: of each host, or of each rack."""
+    if racks is None:
+        return [(name, bits.of([host])) for name, host in graph.ids.items()]
+    return [(rack, bits.of(ids_of_rack(graph, rack, hosts))) for rack, hosts in racks.items()]
+
+
+def crash_of(name: Any, hosts: Hosts, number: Optional[Number], bits: Bits, names: Dict[int, Node]) -> Crash[Node]:
+    """A crash, and what it does: the number of what is left, if a host is."""
+    # where k is above 0 all that are left are joined
+    is_split = number is not None and number.k == 0 and not number.is_linked
+    cut_off = bits.cut_off(hosts) if is_split else 0
+    return Crash(
+        name,
+        tuple(names[it] for it in bits.ids(hosts)),
+        number.k if number else None,
+        number is not None and number.is_linked,
+        tuple(names[it] for it in bits.ids(cut_off)),
+    )
 
 
 def left_by(crashes: Sequence[Tuple[Any, Hosts]], bits: Bits) -> List[Hosts]:

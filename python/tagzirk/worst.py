@@ -251,7 +251,12 @@ def worst(
     is_all = report.k == 0 or hunt.find_all(progress)
     if not is_all:
         hunt.find_some(workers or processors(), progress)
-    bits, names = hunt.bits, named.names
+    return worst_of(hunt, named, most, is_all)
+
+
+def worst_of(hunt: Hunt, graph: NamedGraph[Node], most: int, is_all: bool) -> Worst[Node]:
+    """What a search found, by names."""
+    bits, names = hunt.bits, graph.names
 
     @lru_cache(maxsize=None)
     def cut_of(hosts: Hosts) -> Cut[Node]:
@@ -263,9 +268,9 @@ def worst(
         return Cut(crashed, away, len(pieces))
 
     cuts = sorted(hunt.found, key=hunt.badness)
-    worst_of: Dict[int, Hosts] = {}
+    worst_with: Dict[int, Hosts] = {}
     for cut in cuts:
         for at in places_of(cut):
-            worst_of.setdefault(at, cut)
-    of = {names[bits.nodes[at]]: cut_of(cut) for at, cut in sorted(worst_of.items())}
+            worst_with.setdefault(at, cut)
+    of = {names[bits.nodes[at]]: cut_of(cut) for at, cut in sorted(worst_with.items())}
     return Worst(tuple(map(cut_of, cuts[:most])), len(cuts), is_all, of)

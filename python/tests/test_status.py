@@ -11,7 +11,7 @@ from tagzirk.graphs import named_graph
 from tagzirk.racks import fewest_racks
 from tagzirk.worst import worst
 
-from .test_commands import CLIQUES, Commands, edges_of, views_of
+from .test_commands import Commands, edges_of, views_of
 from .test_remedies import fewest_that_cut_off, number_cut_off, pieces_of, some_graph
 
 # Three sites of four hosts, each in a ring with both diagonals; relays join each site with the next one.
