@@ -104,7 +104,8 @@ impl Components {
             size: members.len(),
             with,
             rank: 0,
-        })
+        })?;
+        Ok(())
     }
 
     /// Says of each component which rank it has.
