@@ -6,7 +6,7 @@ import ast
 from typing import Dict, List, Optional
 
 from .fields import fields_of
-from .rows import ATTRIBUTES, COMMENT, Row
+from .rows import Row
 from .states import Kind, kind_of, state_words
 from .values import Said, Scalar, Views, said_of
 
@@ -14,16 +14,12 @@ from .values import Said, Scalar, Views, said_of
 MOST_LONG = 4096
 
 
-def attributes_in(line: str) -> Dict[str, Scalar]:
-    """The attributes in brackets at the end of a line.
+def attributes_in(text: str) -> Dict[str, Scalar]:
+    """The attributes in brackets that stand behind names.
 
-    >>> attributes_in("a b {'state': 'down', 'weight': 3}")
-    {'state': 'down', 'weight': 3}
-    >>> attributes_in("a b {down}")
-    {'attributes': '{down}'}
+    >>> attributes_in("{'state': 'down', 'weight': 3}"), attributes_in("{down}"), attributes_in("{}")
+    ({'state': 'down', 'weight': 3}, {'attributes': '{down}'}, {})
     """
-    found = ATTRIBUTES.search(line) if line.endswith("}") else None
-    text = line[found.start() :].strip() if found else ""
     if not text or text.replace(" ", "") == "{}":
         return {}
     try:
@@ -33,21 +29,15 @@ def attributes_in(line: str) -> Dict[str, Scalar]:
     return said_of(value) if isinstance(value, dict) else {"attributes": text[:MOST_LONG]}
 
 
-def said_behind(line: str) -> Said:
-    """What stands behind the names on a line."""
-    bare = COMMENT.sub("", line).strip()
-    found = COMMENT.search(line)
-    comment = found[0].strip().lstrip("#").strip() if found else ""
-    return {**attributes_in(bare), **({"comment": comment} if state_words(comment) else {})}
+def said_behind(row: Row) -> Said:
+    """What stands behind the names on a line: attributes, and a comment that has a word of a state."""
+    return {**attributes_in(row.attributes), **({"comment": row.comment} if state_words(row.comment) else {})}
 
 
-def with_what_is_behind(text: str, rows: List[Row]) -> Optional[Views]:
+def with_what_is_behind(rows: List[Row]) -> Optional[Views]:
     """The links that lines of two names say, with what stands behind them; None if no state may stand there, or if
     lines are others. Comments count if one has a word of a state."""
-    if "#" not in text and "{" not in text:
-        return None
-    lines = text.split("\n")
-    said = [said_behind(lines[row.number - 1]) for row in rows]
+    said = [said_behind(row) for row in rows]
     if not any(said) or not all(len(row.words) == 2 and all(row.words) for row in rows):
         return None
     views = Views("lines of two names, each a link")

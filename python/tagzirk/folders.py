@@ -88,8 +88,7 @@ def peers_in(text: str, host: str, place: str, asked: Asked) -> Any:
                     f"line {row.number} has several words: of several files each is of one host, with the name "
                     "of a peer on each line"
                 )
-        lines = text.split("\n")
-        said = [said_behind(lines[row.number - 1]) for row in rows]
+        said = [said_behind(row) for row in rows]
         return [{"name": row.text, **beside} if beside else row.text for row, beside in zip(rows, said)]
     try:
         value = json_of(text) if form == "json" else yaml_of(text)

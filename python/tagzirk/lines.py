@@ -78,7 +78,7 @@ def of_shape(text: str, rows: List[Row]) -> Optional[Views]:
         return of_adjacency(rows)
     if is_weighted(rows) or COMMENTS.search(text) and all(len(row.words) == 2 for row in rows):
         return of_weighted(rows)
-    return with_what_is_behind(text, rows)
+    return with_what_is_behind(rows)
 
 
 def graph_of(text: str, rows: List[Row]) -> Optional[Graph]:

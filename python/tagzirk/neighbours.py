@@ -5,6 +5,7 @@ from __future__ import annotations
 import re
 from typing import Dict, List, Optional, Set, Tuple
 
+from .beside import said_behind
 from .errors import BadDump
 from .graph_files import Graph
 from .limits import need_declarable
@@ -56,7 +57,7 @@ def multiline(rows: List[Row]) -> Optional[Graph]:
             return None
         graph.hosts.setdefault(words[0], {})
         for it in peers:
-            graph.link(words[0], it.text)
+            graph.link(words[0], it.text, said=said_behind(it))
             is_long = True
         at += 1 + count
     return graph if is_long else None

@@ -17,10 +17,13 @@ WORD = re.compile(r"\"([^\"]*)\"(?=[\s,;]|$)|'([^']*)'(?=[\s,;]|$)|([^\s,;\"'][^
 
 
 class Row(NamedTuple):
-    """A line that is not skipped: its number, and its text without a comment."""
+    """A line that is not skipped: its number, its text without what is behind it, and this: attributes in brackets, as
+    networkx writes them, and a comment."""
 
     number: int
     text: str
+    attributes: str = ""
+    comment: str = ""
 
     @property
     def words(self) -> List[str]:
@@ -34,17 +37,19 @@ def is_comment(line: str) -> bool:
 
 
 def rows_of(text: str) -> List[Row]:
-    """The lines of a text but those that are blank or comments, without the attributes that networkx writes.
+    """The lines of a text but those that are blank or comments.
 
-    >>> [row.text for row in rows_of("# seen\\n% at noon\\na b {}\\n\\nb c # late\\n")]
-    ['a b', 'b c']
+    >>> rows_of("# seen\\n% at noon\\na b {}\\n\\nb c # late\\n")
+    [Row(number=3, text='a b', attributes='{}', comment=''), Row(number=5, text='b c', attributes='', comment='late')]
     """
     rows = []
     for number, line in enumerate(text.split("\n"), 1):
-        bare = (COMMENT.sub("", line) if "#" in line else line).strip()
-        attributes = ATTRIBUTES.search(bare) if bare.endswith("}") else None
+        found = COMMENT.search(line) if "#" in line else None
+        bare = (line[: found.start()] if found else line).strip()
+        at = ATTRIBUTES.search(bare) if bare.endswith("}") else None
         if bare and not is_comment(bare):
-            rows.append(Row(number, bare[: attributes.start()].rstrip() if attributes else bare))
+            text, attributes = (bare[: at.start()].rstrip(), bare[at.start() :].strip()) if at else (bare, "")
+            rows.append(Row(number, text, attributes, found[0].strip(" \t\r#") if found else ""))
     return rows
 
 

@@ -316,11 +316,19 @@ ASKED = [
     ("status.tsv", lines("from\tto\tStatus\n", "{a}\t{b}\t{it}", "Up", "Down"), ["--up", "Status=Up"], "tatus"),
     ("empty.csv", lines("source,target,rtt\n", "{a},{b},{it}", 2.5, ""), ["--up", "rtt=2.5"], "rtt"),
     ("seen.csv", lines("source,target,seen\n", "{a},{b},{it}", f"{NEW}0", f"{OLD}0"), ["--up", "seen=..60"], "seen"),
-    ("columns.csv", lines("x,y,alive\n", "{a},{b},{it}", "Y", "N"), ["--columns", "x,y", "--up", "alive=Y"], ""),
     ("state-first.csv", lines("state,source,target\n", "{it},{a},{b}", "up", "down"), ["--up", "state=up"], "state"),
     ("flags.edges", lines("", "{a} {b} {it}", 1, 0), ["--up", "3=1"], "column 3"),
     ("flags-semicolon.edges", lines("", "{a};{b};{it}", 1, 0), ["--up", "3=1"], "column 3"),
     ("attributes.edges", lines("", "{a} {b} {{'state': '{it}'}}", "up", "down"), ["--up", "state=up"], "state"),
+    (
+        "multiline.adjlist",
+        "".join(
+            f"{it} {len(HOSTS) - at}\n" + lines("", "{b} {{'up': {it}}}", True, False, [(it, b) for b in HOSTS[at:]])
+            for at, it in enumerate(HOSTS, 1)
+        ),
+        ["--up", "up=true"],
+        "up is",
+    ),
     ("comments.edges", lines("", "{a} {b} # {it}", "up", "down"), ["--up", "comment=up"], "comment"),
     ("label.dot", dot("", '[label="down"]'), ["--up", "label="], "label"),
     ("invis.dot", dot("", "[style=invis]"), ["--up", "style="], "style"),
