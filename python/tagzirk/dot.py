@@ -95,8 +95,8 @@ class Part:
 
 
 class Reader:
-    """Reads the statements of a text of DOT: `attributes` of each node, which nodes have a statement of their `own`, and
-    the `edges`."""
+    """Reads the statements of a text of DOT: `attributes` of each node, which nodes have a statement of their `own`,
+    and the `edges`."""
 
     def __init__(self, text: str) -> None:
         self.text, self.tokens, self.arrow = text, tokens_of(text), "--"

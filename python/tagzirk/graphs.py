@@ -18,8 +18,8 @@ Graph = Union[Any, Iterable[Sequence[Node]], Mapping[Node, Iterable[Node]]]
 MOST_ID = 2**32 - 1
 # How many names, or listings, a message tells at most.
 MOST_TOLD = 10
-# Control characters, and halves of surrogate pairs, which a graph file shows as codes; and what a person does not see, or
-# what lets a text look like another one: spaces without width, what turns the direction of text, ends of lines.
+# Control characters, and halves of surrogate pairs, which a graph file shows as codes; and what a person does not see,
+# or what lets a text look like another one: spaces without width, what turns the direction of text, ends of lines.
 CONTROLS = "\0-\x1f\x7f-\x9f\ud800-\udfff"
 OF_FILES = re.compile(f"[{CONTROLS}]")
 UNSHOWN = re.compile(f"[{CONTROLS}\u061c\u200b\u200e\u200f\u2028-\u202e\u2060-\u206f\ufeff]")

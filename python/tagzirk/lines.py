@@ -1,5 +1,5 @@
-"""Dumps that are lines of text, in forms that `overlay import` does not read: tables, weights, arrows, `;`, brackets and
-quotes, and lists of neighbours."""
+"""Dumps that are lines of text, in forms that `overlay import` does not read: tables, weights, arrows, `;`, brackets
+and quotes, and lists of neighbours."""
 
 from __future__ import annotations
 
@@ -124,8 +124,8 @@ def is_weighted(rows: List[Row]) -> bool:
     names = {name for it in words for name in it[:2]}
     if len({it[0] for it in words}) == 1 < len(words) and all(NUMBER.fullmatch(it[1]) for it in words):
         raise BadDump(
-            f"each line begins with {words[0][0]}: if it is no host, --columns 2,3 takes the names behind it, and if it is "
-            "one, say --form weighted"
+            f"each line begins with {words[0][0]}: if it is no host, --columns 2,3 takes the names behind it, and if it "
+            "is one, say --form weighted"
         )
     if all(it[2] in names for it in words):
         raise BadDump(
@@ -148,7 +148,8 @@ def of_weighted(rows: List[Row], is_directed: bool = False) -> Views:
         has_weights = has_weights or len(words) > 2
         said: Dict[str, Scalar] = {str(at): word for at, word in enumerate(words[2:], 3)}
         views.edge(words[0], words[1], is_directed, said)
-    views.kind = "lines of two names" + ", each a listing" * is_directed + ", whose weights are passed over" * has_weights
+    views.kind = "lines of two names" + ", each a listing" * is_directed
+    views.kind += ", whose weights are passed over" * has_weights
     return views
 
 

@@ -38,8 +38,8 @@ def is_number(cell: str) -> bool:
 
 
 def matrix_of(text: str, least: int = LEAST_ROWS) -> Optional[Matrix]:
-    """The adjacency matrix that a text is, or None: numbers alone in a square of some size, or with a row above it and a
-    column before it that have the same names."""
+    """The adjacency matrix that a text is, or None: numbers alone in a square of some size, or with a row above it and
+    a column before it that have the same names."""
     lines = [line for line in text.split("\n") if line.strip() and line.lstrip()[0] not in "#%"]
     if not lines or len(cells_of(lines[:1])[0]) not in (len(lines), len(lines) - 1):
         return None

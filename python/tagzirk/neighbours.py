@@ -46,8 +46,8 @@ def of_adjacency(rows: List[Row]) -> Views:
 
 
 def multiline(rows: List[Row]) -> Optional[Graph]:
-    """What networkx writes as lists of many lines: a host and the number of its neighbours, and below it a line for each
-    of these. None if the lines are none."""
+    """What networkx writes as lists of many lines: a host and the number of its neighbours, and below it a line for
+    each of these. None if the lines are none."""
     graph, at, is_long = Graph("lists of neighbours, each on a line of its own", is_open=True), 0, False
     while at < len(rows):
         words = rows[at].words

@@ -212,7 +212,9 @@ def is_tgf(text: str) -> bool:
     keys = [line.split()[0] for line in lines[:at]]
     labels = {line.partition(" ")[2].strip() for line in lines[:at]}
     ends = [line.split(None, 2)[:2] for line in lines[at + 1 :]]
-    return bool(ends) and not labels <= set(keys) and len(set(keys)) == len(keys) and all(len(it) == 2 and set(it) <= set(keys) for it in ends)
+    known = set(keys)
+    has_names = len(known) == len(keys) and not labels <= known
+    return has_names and bool(ends) and all(len(it) == 2 and set(it) <= known for it in ends)
 
 
 def plain(text: str) -> Graph:

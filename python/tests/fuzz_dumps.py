@@ -6,8 +6,8 @@ it is read or refused with a message, that it ends, that each host of a second r
 one of the second reading too; so k is not higher. Second readings are of a few lines here, or by networkx, yaml or
 Graphviz, as far as these are there. TAGZIRK_OVERLAY names the program overlay.
 
-By hand, `--minutes 10` goes on for so long. The status is 0 if all cases passed, and 1 if not; a case that failed is kept
-in the folder that is told.
+By hand, `--minutes 10` goes on for so long. The status is 0 if all cases passed, and 1 if not; a case that failed is
+kept in the folder that is told.
 """
 
 import argparse
@@ -159,7 +159,9 @@ def fault_of(form, data, options):
         return ""
     hosts, pairs = set(map(in_file, second[0])), {frozenset(map(in_file, it)) for it in second[1]}
     lost, added = hosts ^ set(graph.ids), links - pairs
-    return f"hosts differ: {sorted(lost)}" if lost else f"links are added: {sorted(map(sorted, added))}" if added else ""
+    if lost:
+        return f"hosts differ: {sorted(lost)}"
+    return f"links are added: {sorted(map(sorted, added))}" if added else ""
 
 
 def kind_of(dump):

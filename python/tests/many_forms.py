@@ -78,7 +78,11 @@ LINES = (
     form("KONECT with weights and times", "% sym weighted\n" + each_link("{i} {j} 5 1700000000\n"), hosts=NUMBERS),
     form("KONECT with directions", "% asym unweighted\n" + both_ways("{i} {j}\n"), hosts=NUMBERS),
     form("KONECT of two kinds", "% bip unweighted\n" + each_link("{i} {j}\n"), told="bipartite"),
-    form("SNAP", "# Undirected graph\n# Nodes: 6 Edges: 7\n# FromNodeId\tToNodeId\n" + each_link("{i}\t{j}\n"), hosts=NUMBERS),
+    form(
+        "SNAP",
+        "# Undirected graph\n# Nodes: 6 Edges: 7\n# FromNodeId\tToNodeId\n" + each_link("{i}\t{j}\n"),
+        hosts=NUMBERS,
+    ),
     form("weights", each_link("{a} {b} 0.{at}\n")),
     form("weights behind commas", each_link("{a},{b},3.5\n")),
     form("names in quotes, and weights", each_link('"{a}","{b}",5\n')),
@@ -119,7 +123,12 @@ LINES = (
     form("SIF", each_link("{a} pp {b}\n"), "--columns", "1,3"),
     form("SIF with tabs", each_link("{a}\tpp\t{b}\n"), "--columns", "1,3"),
     form("flags behind pairs", each_link("{a} {b} up\n"), "--columns", "1,2"),
-    form("two lines in front", "Topology of today\nseen by 10.0.0.1 at noon\n" + each_link("{a} {b} 1.0\n"), "--skip", "2"),
+    form(
+        "two lines in front",
+        "Topology of today\nseen by 10.0.0.1 at noon\n" + each_link("{a} {b} 1.0\n"),
+        "--skip",
+        "2",
+    ),
     form("UTF-16", ("\ufeff" + each_link("{a} {b} 1.0\n")).encode("utf-16-le")),
     form("gzip", gzip.compress(each_link("{a} {b}\n").encode())),
     form("gzip of two parts", gzip.compress(each_link("{a} {b}\n").encode()) + gzip.compress(b"n1 n2\n")),
@@ -132,7 +141,12 @@ TABLES = (
     form("CSV", "source,target,cost\n" + each_link("{a},{b},{at}\n")),
     form("CSV of Gephi", "Source;Target;Type;Id;Label;Weight\n" + each_link("{a};{b};Undirected;{at};;1.0\n")),
     form("CSV in quotes", '"id","source","target"\n' + each_link('"{at}","{a}","{b}"\n')),
-    form("CSV with unknown columns", "n,left end,right end\n" + each_link("{at},{a},{b}\n"), "--columns", "left end,right end"),
+    form(
+        "CSV with unknown columns",
+        "n,left end,right end\n" + each_link("{at},{a},{b}\n"),
+        "--columns",
+        "left end,right end",
+    ),
     form("CSV without a header", each_link("{at},{a},{b},x\n"), "--columns", "2,3"),
     form("words without a header", each_link("{a} via {b} 3\n"), "--columns", "1,3"),
     form("TSV without a header", each_link("{a}\t{at} ms\t{b}\n"), "--columns", "1,3"),
@@ -142,12 +156,30 @@ TABLES = (
     form("many peers in a cell, with spaces", "node\tneighbors\n" + each_host("{a}\t{peers}\n", " ")),
     form("many peers in a cell, of Postgres", "host|peers\n" + each_host("{a}|{{{peers}}}\n", ",")),
     form("two tables one behind the other", 2 * ("source,target\n" + each_link("{a},{b}\n"))),
-    form("psql", " source | target | cost \n--------+--------+------\n" + each_link(" {a}     | {b}     |    1\n") + "(7 rows)\n\n"),
-    form("psql with unknown columns", " a | b | cost \n---+---+------\n" + each_link(" {a} | {b} | 1\n") + "(7 rows)\n", "--columns", "a,b"),
-    form("psql with a title", "   Links\n source | target \n--------+--------\n" + each_link(" {a} | {b}\n") + "(7 rows)\n"),
+    form(
+        "psql",
+        " source | target | cost \n--------+--------+------\n"
+        + each_link(" {a}     | {b}     |    1\n")
+        + "(7 rows)\n\n",
+    ),
+    form(
+        "psql with unknown columns",
+        " a | b | cost \n---+---+------\n" + each_link(" {a} | {b} | 1\n") + "(7 rows)\n",
+        "--columns",
+        "a,b",
+    ),
+    form(
+        "psql with a title",
+        "   Links\n source | target \n--------+--------\n" + each_link(" {a} | {b}\n") + "(7 rows)\n",
+    ),
     form("psql without alignment", "source|target\n" + each_link("{a}|{b}\n") + "(7 rows)\n"),
     form("sqlite, columns", "source  target  cost\n------  ------  ----\n" + each_link("{a}      {b}      1\n")),
-    form("psql with frames", "┌────────┬────────┐\n│ source │ target │\n├────────┼────────┤\n" + each_link("│ {a}     │ {b}     │\n") + "└────────┴────────┘\n(7 rows)\n"),
+    form(
+        "psql with frames",
+        "┌────────┬────────┐\n│ source │ target │\n├────────┼────────┤\n"
+        + each_link("│ {a}     │ {b}     │\n")
+        + "└────────┴────────┘\n(7 rows)\n",
+    ),
     form(
         "mysql",
         "+--------+--------+\n| source | target |\n+--------+--------+\n"
@@ -157,8 +189,20 @@ TABLES = (
     form("Markdown", "| source | target | cost |\n|--------|:------:|-----:|\n" + each_link("| {a} | {b} | 3 |\n")),
     form("Markdown without a frame", "source | target\n--- | ---\n" + each_link("{a} | {b}\n")),
     form("Markdown with unknown columns", "| x | y |\n|---|---|\n" + each_link("| {a} | {b} |\n"), "--columns", "1,2"),
-    form("cockroach", "  source_id | target_id\n------------+------------\n" + each_link("  {a}  |  {b}\n") + "(7 rows)\n\nTime: 3ms total\n"),
-    form("olsrd", "Table: Topology\nDest. IP\tLast hop IP\tLQ\n" + both_ways("{a}\t{b}\t1.000\n"), "--skip", "1", "--columns", "Dest. IP,Last hop IP"),
+    form(
+        "cockroach",
+        "  source_id | target_id\n------------+------------\n"
+        + each_link("  {a}  |  {b}\n")
+        + "(7 rows)\n\nTime: 3ms total\n",
+    ),
+    form(
+        "olsrd",
+        "Table: Topology\nDest. IP\tLast hop IP\tLQ\n" + both_ways("{a}\t{b}\t1.000\n"),
+        "--skip",
+        "1",
+        "--columns",
+        "Dest. IP,Last hop IP",
+    ),
     form("SQLite", each_link("{at}|{a}|{b}\n"), "--columns", "2,3"),
     form("neo4j", ":START_ID,:END_ID,:TYPE\n" + each_link("{a},{b},LINK\n")),
 )
@@ -179,17 +223,48 @@ LEDA = "LEDA.GRAPH\nstring\nint\n{direction}6\n" + each_host("|{{{{{a}}}}}|\n")
 MTX = "%%MatrixMarket matrix coordinate pattern {kind}\n% of today\n6 6 {count}\n"
 
 GRAPHS = (
-    form("GraphML", f'<?xml version="1.0"?>\n<graphml xmlns="http://graphml.graphdrawing.org/xmlns"><graph edgedefault="undirected">{XML}</graph></graphml>'),
+    form(
+        "GraphML",
+        f'<?xml version="1.0"?>\n<graphml xmlns="http://graphml.graphdrawing.org/xmlns"><graph edgedefault="undirected">{XML}</graph></graphml>',
+    ),
     form("GraphML with labels", f"<graphml><graph>{XML_BY_NUMBER}</graph></graphml>", "--by", "label"),
     form("GraphML by ids", f"<graphml><graph>{XML_BY_NUMBER}</graph></graphml>", hosts=NUMBERS),
-    form("GraphML of yEd", '<graphml xmlns:y="x"><key for="node" id="d1" yfiles.type="nodegraphics"/><graph edgedefault="undirected">' + each_host('<node id="{a}"><data key="d1"><y:ShapeNode><y:NodeLabel>{a}</y:NodeLabel></y:ShapeNode></data></node>') + each_link('<edge source="{a}" target="{b}"><data key="d2"><y:PolyLineEdge/></data></edge>') + "</graph></graphml>"),
+    form(
+        "GraphML of yEd",
+        '<graphml xmlns:y="x"><key for="node" id="d1" yfiles.type="nodegraphics"/><graph edgedefault="undirected">'
+        + each_host('<node id="{a}"><data key="d1"><y:ShapeNode><y:NodeLabel>{a}</y:NodeLabel></y:ShapeNode></data></node>')
+        + each_link('<edge source="{a}" target="{b}"><data key="d2"><y:PolyLineEdge/></data></edge>')
+        + "</graph></graphml>",
+    ),
     form("GraphML of two graphs", f"<graphml><graph>{XML}</graph><graph/></graphml>", told="a second graph"),
-    form("GraphML of groups", f'<graphml><graph>{XML}<node id="g"><graph><node id="n7"/></graph></node></graph></graphml>', told="a graph in it"),
-    form("GEXF 1.2", GEXF.replace("{version}", "2draft").format(nodes=GEXF_NODES.replace("viz:", ""), edges=GEXF_EDGES)),
+    form(
+        "GraphML of groups",
+        f'<graphml><graph>{XML}<node id="g"><graph><node id="n7"/></graph></node></graph></graphml>',
+        told="a graph in it",
+    ),
+    form(
+        "GEXF 1.2",
+        GEXF.replace("{version}", "2draft").format(nodes=GEXF_NODES.replace("viz:", ""), edges=GEXF_EDGES),
+    ),
     form("GEXF 1.3", GEXF13.format(nodes=GEXF_NODES, edges=GEXF_EDGES)),
-    form("XGMML", f'<?xml version="1.0"?>\n<graph label="net" directed="0" xmlns="http://www.cs.rpi.edu/XGMML">{XML}</graph>'),
-    form("GXL", "<gxl><graph edgemode=\"undirected\">" + XML.replace("source=", "from=").replace("target=", "to=") + "</graph></gxl>"),
-    form("DGML", "<DirectedGraph><Nodes>" + each_host('<Node Id="{a}"/>') + "</Nodes><Links>" + both_ways('<Link Source="{a}" Target="{b}"/>') + "</Links></DirectedGraph>"),
+    form(
+        "XGMML",
+        f'<?xml version="1.0"?>\n<graph label="net" directed="0" xmlns="http://www.cs.rpi.edu/XGMML">{XML}</graph>',
+    ),
+    form(
+        "GXL",
+        "<gxl><graph edgemode=\"undirected\">"
+        + XML.replace("source=", "from=").replace("target=", "to=")
+        + "</graph></gxl>",
+    ),
+    form(
+        "DGML",
+        "<DirectedGraph><Nodes>"
+        + each_host('<Node Id="{a}"/>')
+        + "</Nodes><Links>"
+        + both_ways('<Link Source="{a}" Target="{b}"/>')
+        + "</Links></DirectedGraph>",
+    ),
     form("GML", GML),
     form("GML with a head", 'Creator "by hand"\nVersion 1\n' + GML),
     form("GML by ids", GML, "--by", "id", hosts=NUMBERS),
@@ -208,15 +283,37 @@ GRAPHS = (
     form("DIMACS that is torn", "p edge 6 7\ne 1 2\n", told="declares 7 links and has 1"),
     form("Matrix Market", MTX.format(kind="symmetric", count=7) + each_link("{j} {i}\n"), hosts=NUMBERS),
     form("Matrix Market, general", MTX.format(kind="general", count=14) + both_ways("{i} {j}\n"), hosts=NUMBERS),
-    form("Matrix Market that is torn", MTX.format(kind="symmetric", count=7) + "2 1\n", told="declares 7 links and has 1"),
+    form(
+        "Matrix Market that is torn",
+        MTX.format(kind="symmetric", count=7) + "2 1\n",
+        told="declares 7 links and has 1",
+    ),
     form("graph6", GRAPH6 + "\n", hosts=PLACES),
     form("graph6 with a head", ">>graph6<<" + GRAPH6 + "\n", hosts=PLACES),
     form("LEMON", LEMON + "@edges\n    label weight\n" + each_link("{p} {q} {at} 0.5\n"), "--by", "name"),
-    form("LEMON by labels", LEMON + "@arcs\n    label\n" + both_ways("{i} {j} 0\n").replace("6", "0").replace("@attributes", ""), hosts=["1", "2", "3", "4", "5", "0"]),
-    form("LEDA", LEDA.format(direction="-2\n").replace("{{", "{").replace("}}", "}") + "7\n" + each_link("{i} {j} 0 |{{{at}}}|\n")),
-    form("LEDA with directions", LEDA.format(direction="-1\n").replace("{{", "{").replace("}}", "}") + "14\n" + both_ways("{i} {j} 0 |{{}}|\n")),
+    form(
+        "LEMON by labels",
+        LEMON + "@arcs\n    label\n" + both_ways("{i} {j} 0\n").replace("6", "0").replace("@attributes", ""),
+        hosts=["1", "2", "3", "4", "5", "0"],
+    ),
+    form(
+        "LEDA",
+        LEDA.format(direction="-2\n").replace("{{", "{").replace("}}", "}")
+        + "7\n"
+        + each_link("{i} {j} 0 |{{{at}}}|\n"),
+    ),
+    form(
+        "LEDA with directions",
+        LEDA.format(direction="-1\n").replace("{{", "{").replace("}}", "}") + "14\n" + both_ways("{i} {j} 0 |{{}}|\n"),
+    ),
     form("LEDA that is torn", LEDA.format(direction="-2\n") + "7\n1 2 0 |{}|\n", told="declares 7 links and has 1"),
-    form("GDF", "nodedef>name VARCHAR,label VARCHAR\n" + each_host("{a},'host {i}'\n") + "edgedef>node1 VARCHAR,node2 VARCHAR,weight DOUBLE\n" + each_link("{a},{b},1.0\n")),
+    form(
+        "GDF",
+        "nodedef>name VARCHAR,label VARCHAR\n"
+        + each_host("{a},'host {i}'\n")
+        + "edgedef>node1 VARCHAR,node2 VARCHAR,weight DOUBLE\n"
+        + each_link("{a},{b},1.0\n"),
+    ),
     form("TGF", each_host("{i} {a}\n") + "#\n" + each_link("{i} {j}\n")),
     form("TGF with labels of links", each_host("{i} {a}\n") + "#\n" + each_link("{i} {j} fibre {at}\n")),
     form("Graphviz, plain", PLAIN),
@@ -226,20 +323,40 @@ GRAPHS = (
     form("a matrix in brackets", "[" + ROWS.replace(" ", ", ").replace("\n", "],\n[") + "]\n", hosts=NUMBERS),
     form("a matrix with names", "," + ",".join(HOSTS) + "\n" + NAMED_ROWS),
     form("a matrix with names and a corner", "host," + ",".join(HOSTS) + "\n" + NAMED_ROWS),
-    form("a matrix with names in the first row of columns alone", "\t".join(HOSTS) + "\n" + NAMED_ROWS.replace(",", "\t")),
-    form("a matrix without zeros", "\n".join(" ".join(str(1 + (i != j) * (i + j)) for j in range(6)) for i in range(6)), told="which of them are links"),
+    form(
+        "a matrix with names in the first row of columns alone",
+        "\t".join(HOSTS) + "\n" + NAMED_ROWS.replace(",", "\t"),
+    ),
+    form(
+        "a matrix without zeros",
+        "\n".join(" ".join(str(1 + (i != j) * (i + j)) for j in range(6)) for i in range(6)),
+        told="which of them are links",
+    ),
     form("DOT", "graph {\n" + each_link("  {a} -- {b};\n") + "}\n"),
     form("DOT with directions", "digraph g {\n" + both_ways("  {a} -> {b} [weight=1, label=x];\n") + "}\n"),
-    form("DOT of tinc", "digraph {\n" + each_host('\t"{a}" [label = "{a}"];\n') + both_ways('\t"{a}" -> "{b}" [w = 3, weight = 0.3];\n') + "}\n"),
+    form(
+        "DOT of tinc",
+        "digraph {\n"
+        + each_host('\t"{a}" [label = "{a}"];\n')
+        + both_ways('\t"{a}" -> "{b}" [w = 3, weight = 0.3];\n')
+        + "}\n",
+    ),
     form("DOT with subgraphs", "graph { n1 -- {n2 n4 n6}; subgraph cluster_a { n2 -- n3 } n3 -- {n4} n5 -- {n4 n6} }"),
     form("DOT with ports", "graph { " + each_link("{a}:p{at} -- {b}:q:n; ") + "}"),
     form("DOT with ports of numbers", "graph { " + each_link("{a}:7946 -- {b}:7946; ") + "}"),
-    form("DOT with other ports of numbers", "graph { n1:7946 -- n2:7947; n1:7948 -- n3:7 }", told="are one node to DOT"),
+    form(
+        "DOT with other ports of numbers",
+        "graph { n1:7946 -- n2:7947; n1:7948 -- n3:7 }",
+        told="are one node to DOT",
+    ),
     form("DOT with HTML", "graph { " + each_link("{a} -- {b} [label=<<b>{at}</b>>]; ") + "}"),
     form("DOT with names that need quotes", "graph { n-1 -- n-2 }", told="needs quotes"),
     form("Mermaid", "graph TD\n    %% of today\n" + each_link("    {a}[Host {i}] --- {b}\n")),
     form("Mermaid with directions", "flowchart LR\n" + both_ways("    {a} -->|{i} ms| {b};\n")),
-    form("Mermaid with chains", "graph LR;\n  n1 --- n2 & n4 & n6\n  n2 --- n3 --- n4 --- n5 --- n6;\n  classDef x fill:#f9f\n"),
+    form(
+        "Mermaid with chains",
+        "graph LR;\n  n1 --- n2 & n4 & n6\n  n2 --- n3 --- n4 --- n5 --- n6;\n  classDef x fill:#f9f\n",
+    ),
     form("Mermaid that is another chart", "graph TD\n  a %% b\n", told="no arrow of Mermaid"),
     form("strict DOT", "// of today\nstrict graph {" + both_ways("{a} -- {b};") + "}"),
 )
@@ -249,22 +366,68 @@ VALUES = (
     form("JSON, objects with peers", of_json({host: {"peers": peers} for host, peers in VIEWS.items()})),
     form("JSON, a list of hosts", of_json([{"name": host, "peers": peers} for host, peers in VIEWS.items()])),
     form("JSON lines", "".join(json.dumps({"host": host, "neighbors": peers}) + "\n" for host, peers in VIEWS.items())),
-    form("JSON, hosts below a key", of_json({"cluster": "x", "nodes": [{"id": host, "peers": peers} for host, peers in VIEWS.items()]})),
-    form("JSON, nodes and links", of_json({"nodes": [{"id": it} for it in HOSTS], "links": [{"source": a, "target": b} for a, b in LINKS]})),
-    form("JSON of d3, by places", of_json({"nodes": [{"name": it} for it in HOSTS], "links": [{"source": i - 1, "target": j - 1} for i, j in RING]})),
-    form("JSON Graph Format", of_json({"graph": {"directed": False, "nodes": {it: {} for it in HOSTS}, "edges": [{"source": a, "target": b} for a, b in LINKS]}})),
-    form("JSON of cytoscape", of_json({"elements": {"nodes": [{"data": {"id": it}} for it in HOSTS], "edges": [{"data": {"id": f"{a}{b}", "source": a, "target": b}} for a, b in LINKS]}})),
+    form(
+        "JSON, hosts below a key",
+        of_json({"cluster": "x", "nodes": [{"id": host, "peers": peers} for host, peers in VIEWS.items()]}),
+    ),
+    form(
+        "JSON, nodes and links",
+        of_json({"nodes": [{"id": it} for it in HOSTS], "links": [{"source": a, "target": b} for a, b in LINKS]}),
+    ),
+    form(
+        "JSON of d3, by places",
+        of_json({"nodes": [{"name": it} for it in HOSTS], "links": [{"source": i - 1, "target": j - 1} for i, j in RING]}),
+    ),
+    form(
+        "JSON Graph Format",
+        of_json({"graph": {"directed": False, "nodes": {it: {} for it in HOSTS}, "edges": [{"source": a, "target": b} for a, b in LINKS]}}),
+    ),
+    form(
+        "JSON of cytoscape",
+        of_json({"elements": {"nodes": [{"data": {"id": it}} for it in HOSTS], "edges": [{"data": {"id": f"{a}{b}", "source": a, "target": b}} for a, b in LINKS]}}),
+    ),
     form("JSON, pairs", of_json([list(it) for it in LINKS])),
-    form("JSON of olsrd", of_json({"pid": 7, "topology": [{"lastHopIP": f"n{i}", "destinationIP": f"n{j}", "tcEdgeCost": 1024} for i, peers in PEERS.items() for j in peers]}), "--links", "topology", "--columns", "lastHopIP,destinationIP"),
-    form("JSON of lnd", of_json({"nodes": [{"pub_key": it, "alias": it.upper()} for it in HOSTS], "edges": [{"channel_id": str(at), "node1_pub": a, "node2_pub": b} for at, (a, b) in enumerate(LINKS)]}), "--by", "pub_key", "--columns", "node1_pub,node2_pub"),
-    form("JSON, hosts in objects", of_json({"n1": {"peers": {"n2": {}, "n4": {}, "n6": {}}}, **{host: {"peers": dict.fromkeys(peers, {})} for host, peers in VIEWS.items()}})),
-    form("JSON with another key", of_json({host: {"Swarm": peers, "Version": 3} for host, peers in VIEWS.items()}), "--peers", "Swarm"),
+    form(
+        "JSON of olsrd",
+        of_json({"pid": 7, "topology": [{"lastHopIP": f"n{i}", "destinationIP": f"n{j}", "tcEdgeCost": 1024} for i, peers in PEERS.items() for j in peers]}),
+        "--links",
+        "topology",
+        "--columns",
+        "lastHopIP,destinationIP",
+    ),
+    form(
+        "JSON of lnd",
+        of_json({"nodes": [{"pub_key": it, "alias": it.upper()} for it in HOSTS], "edges": [{"channel_id": str(at), "node1_pub": a, "node2_pub": b} for at, (a, b) in enumerate(LINKS)]}),
+        "--by",
+        "pub_key",
+        "--columns",
+        "node1_pub,node2_pub",
+    ),
+    form(
+        "JSON, hosts in objects",
+        of_json({"n1": {"peers": {"n2": {}, "n4": {}, "n6": {}}}, **{host: {"peers": dict.fromkeys(peers, {})} for host, peers in VIEWS.items()}}),
+    ),
+    form(
+        "JSON with another key",
+        of_json({host: {"Swarm": peers, "Version": 3} for host, peers in VIEWS.items()}),
+        "--peers",
+        "Swarm",
+    ),
     form("JSON, a key twice", '{"n1": {"peers": ["n2"]}, "n1": {"peers": []}}', told="n1 twice"),
     form("YAML, lists", "---\n" + each_host("{a}: [{peers}]\n", ", ")),
     form("YAML, items", "---\n" + each_host("{a}:\n  - {peers}\n", "\n  - ")),
     form("YAML without a head", each_host("{a}: [{peers}]\n", ", ")),
-    form("YAML, nodes and links", "---\ndirected: false\nnodes:\n" + each_host("- id: {a}\n") + "links:\n" + each_link("- {{source: {a}, target: {b}}}\n")),
-    form("YAML with anchors", "---\nn1: &x [n2, n4, n6]\nn2: [n1, n3]\nn3: [n2, n4]\nn4: [n1, n3, n5]\nn5: [n4, n6]\nn6: [n1, n5]\n"),
+    form(
+        "YAML, nodes and links",
+        "---\ndirected: false\nnodes:\n"
+        + each_host("- id: {a}\n")
+        + "links:\n"
+        + each_link("- {{source: {a}, target: {b}}}\n"),
+    ),
+    form(
+        "YAML with anchors",
+        "---\nn1: &x [n2, n4, n6]\nn2: [n1, n3]\nn3: [n2, n4]\nn4: [n1, n3, n5]\nn5: [n4, n6]\nn6: [n1, n5]\n",
+    ),
     form("YAML, a key twice", "---\nn1: [n2]\nn1: [n3]\n", told="n1 stands twice"),
     form("YAML, two documents", "---\nn1: [n2]\n---\nn2: [n1]\n", told="a second document"),
 )

@@ -1,5 +1,5 @@
-"""Second readings of dumps, by other programs or in a few lines: the hosts of a dump and its links, or None if it can't be
-read so. `READINGS` has one for some of `many_forms`, by name."""
+"""Second readings of dumps, by other programs or in a few lines: the hosts of a dump and its links, or None if it can't
+be read so. `READINGS` has one for some of `many_forms`, by name."""
 
 import contextlib
 import csv
@@ -16,7 +16,8 @@ with contextlib.suppress(ImportError):
     import yaml
 
 # What Graphviz' gvpr prints of a graph: each name, by its number of bytes, and both ends of each edge.
-GVPR = 'N { printf("%d %s\\n", length($.name), $.name); } E { printf("%d %d %s%s\\n", length($.tail.name), length($.head.name), $.tail.name, $.head.name); }'
+GVPR = 'N { printf("%d %s\\n", length($.name), $.name); }'
+GVPR += ' E { printf("%d %d %s%s\\n", length($.tail.name), length($.head.name), $.tail.name, $.head.name); }'
 
 
 def of_graph(pairs, hosts=()):
