@@ -4,9 +4,7 @@ ghost use Rattle.ov_arguments.specs.Telling.{ask_for_help, command_named, help_b
 ghost use Rattle.ov_arguments.specs.Telling.{is_version_option, name_of, telling_asked};
 
 use crate::clap_commands_and_help::command;
-use crate::grow_and_sweep_clap_commands::{
-    CommandName, command as growing_command, command_tree,
-};
+use crate::grow_and_sweep_clap_commands::{CommandName, command as growing_command, command_tree};
 use clap::error::ErrorKind;
 use clap::{ArgMatches, Error as ClapError};
 use ov_ids::OutOfMemory;

@@ -87,29 +87,29 @@ asked_by analysis lists gone group = record {
 
 -- the status of an analysis of the graph file of these bytes
 module _ {W : Type 0} (bytes : List ℕ) (asked : AnalysisAsked) (contents : W → Option (List ℕ)) (old new : SinkState W)
-    where
-  status_told : (status : ℕ) → WasTold bytes asked contents old new (Ok status) → IsStatusFor bytes asked status
-  status_told status (gone, group, did, are, left, is, same) =
-      let t = is.tells in
-      (did.answered, more bytes t.0 asked gone group did.answered are left t.1, same)
+  where
+    status_told : (status : ℕ) → WasTold bytes asked contents old new (Ok status) → IsStatusFor bytes asked status
+    status_told status (gone, group, did, are, left, is, same) =
+        let t = is.tells in
+        (did.answered, more bytes t.0 asked gone group did.answered are left t.1, same)
 
-  status_printed : (status : ℕ) → WasPrintedAlone bytes asked contents old new (Ok status)
-      → IsStatusFor bytes asked status
-  status_printed status (no_gone, no_group, no_names, (Ok answered, is, same)) =
-      let p = is.prints in
-      let answers = plain p.0 p.1 asked asked.certificate answered no_gone no_group p.3 in
-      let same_status : status ≡ alarm_status asked.least answered = cc in
-      (answered, subst (λ b. IsAnsweredOf b asked answered) p.2 answers, same_status)
-  status_printed status (no_gone, no_group, no_names, (Err f, is, same)) = absurd cc
+    status_printed : (status : ℕ) → WasPrintedAlone bytes asked contents old new (Ok status)
+        → IsStatusFor bytes asked status
+    status_printed status (no_gone, no_group, no_names, (Ok answered, is, same)) =
+        let p = is.prints in
+        let answers = plain p.0 p.1 asked asked.certificate answered no_gone no_group p.3 in
+        let same_status : status ≡ alarm_status asked.least answered = cc in
+        (answered, subst (λ b. IsAnsweredOf b asked answered) p.2 answers, same_status)
+    status_printed status (no_gone, no_group, no_names, (Err f, is, same)) = absurd cc
 
-  status_of_bytes : (status : ℕ) → WasAnalysed bytes asked contents old new (Ok status)
-      → IsStatusFor bytes asked status
-  status_of_bytes status (inl is) = status_told status is
-  status_of_bytes status (inr is) = status_printed status is
+    status_of_bytes : (status : ℕ) → WasAnalysed bytes asked contents old new (Ok status)
+        → IsStatusFor bytes asked status
+    status_of_bytes status (inl is) = status_told status is
+    status_of_bytes status (inr is) = status_printed status is
 
-  -- and of a reader that had them
-  pub status_of_reader : (reader : Option (List ℕ)) (result : Result ℕ CommandFault)
-      → IfSome reader (λ xs. bytes ≡ xs) → WasAnalysed bytes asked contents old new result
-      → IfOk result (IsStatusOfReader reader asked)
-  status_of_reader reader (Ok status) same is = (bytes, same, status_of_bytes status is)
-  status_of_reader reader (Err f) same is = tt
+    -- and of a reader that had them
+    pub status_of_reader : (reader : Option (List ℕ)) (result : Result ℕ CommandFault)
+        → IfSome reader (λ xs. bytes ≡ xs) → WasAnalysed bytes asked contents old new result
+        → IfOk result (IsStatusOfReader reader asked)
+    status_of_reader reader (Ok status) same is = (bytes, same, status_of_bytes status is)
+    status_of_reader reader (Err f) same is = tt

@@ -16,8 +16,8 @@ use ov_ids::NodeId;
 use ov_io::Sink;
 use ov_lines::FileKind;
 use ov_reasons::{
-    STANDARD_INPUT, analysis_reason, bytes_of, group_reason, opened, print_fault,
-    print_reason, print_unread_tip, tell_typing,
+    STANDARD_INPUT, analysis_reason, bytes_of, group_reason, opened, print_fault, print_reason,
+    print_unread_tip, tell_typing,
 };
 use ov_run_meaning::RunFault;
 use std::io::{Read, Write};

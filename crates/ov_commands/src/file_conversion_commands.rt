@@ -72,7 +72,14 @@ pub fn picture_asked(
         Some(path) => {
             let reader = opened(rt, path)?;
             let names = names_asked(rt, picture.names.as_deref())?;
-            picture_from(rt, reader, Some(path), names.as_deref(), &picture, &mut sink)
+            picture_from(
+                rt,
+                reader,
+                Some(path),
+                names.as_deref(),
+                &picture,
+                &mut sink,
+            )
         }
     }
 }

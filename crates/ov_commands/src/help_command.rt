@@ -1,4 +1,4 @@
-ghost use Rattle.std.specs.Prelude.{◌≡◌, ◌<◌, IfOk, string_bytes};
+ghost use Rattle.std.specs.Prelude.{◌≡◌, ◌<◌, IfOk};
 ghost use Rattle.ov_io.specs.Device.{most_faults};
 ghost use Rattle.ov_commands.specs.Code.Endings.{WasWritten};
 ghost use Rattle.ov_commands.specs.Statuses.{HasDone};
@@ -22,11 +22,7 @@ pub fn tell_asked(rt: &HostRuntime, telling: Telling) -> Result<u8, CommandFault
 }
 
 /// Prints a text.
-fn tell_into<W: Write>(
-    rt: &HostRuntime,
-    text: &str,
-    sink: &mut Sink<W>,
-) -> Result<u8, CommandFault>
+fn tell_into<W: Write>(rt: &HostRuntime, text: &str, sink: &mut Sink<W>) -> Result<u8, CommandFault>
     requires { sink.old.faults < most_faults }
     ensures told { HasDone (WasWritten text.now W.contents sink.old.writer sink.new.writer) result }
     ensures status { IfOk result (λ status. status ≡ 0) }

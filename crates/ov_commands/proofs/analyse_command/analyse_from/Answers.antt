@@ -15,7 +15,7 @@ returns-clause-answer g c =
     let old = c.args.sink.now in
     let new = c.analyse_told-answer.new.sink in
     let analysis = subst (λ b. IsAnalysisOf (Some b) g.W.Write.contents old asked.ids asked.certificate new
-        c.analyse_told-answer.result) same c.analyse_told-answer.ensures.analysis in
+    c.analyse_told-answer.result) same c.analyse_told-answer.ensures.analysis in
     let was : WasAnalysed bytes asked g.W.Write.contents old new c.status_of_analysis.result = inr (
       ap (option_map (λ text. text.items)) none.0,
       ap (option_map (λ text. text.items)) none.1,
