@@ -1,5 +1,5 @@
 //! What `overlay` tells of itself: help, and its version.
-ghost use Rattle.std.specs.Prelude.{◌≡◌, drop, map, string_bytes};
+ghost use Rattle.std.specs.Prelude.{◌≡◌, map, string_bytes};
 ghost use Rattle.ov_arguments.specs.Telling.{ask_for_help, command_named, help_behind, help_of, is_help_option};
 ghost use Rattle.ov_arguments.specs.Telling.{is_version_option, name_of, telling_asked};
 

@@ -1,5 +1,5 @@
 -- What is left decides.
-use Rattle.std.proofs.Common.{◌≡◌, ℕ, length, map, string_bytes}
+use Rattle.std.proofs.Common.{◌≡◌, length, map, string_bytes}
 use Rattle.ov_arguments.specs.Telling.{ask_for_help}
 use Rattle.ov_arguments.proofs.help_and_version.ask_for_help.Given as goal
 
