@@ -1,5 +1,5 @@
 -- Which words of a command line ask `overlay` to tell of itself: for help, or for its version. Chosen here.
-use Rattle.std.specs.Prelude.{ℕ, Bool, false, not, List, [], ◌∷◌, codes, Option, Some, None}
+use Rattle.std.specs.Prelude.{ℕ, Bool, false, ◌&&◌, ◌||◌, not, List, [], ◌∷◌, codes, Option, Some, None}
 use Rattle.std.specs.Prelude.{find, if◌then◌else◌, option_map}
 use Rattle.std.specs.Str.{bytes_eq}
 use Rattle.ov_arguments.specs.declared.help_and_version.CommandTopic.{CommandTopic}

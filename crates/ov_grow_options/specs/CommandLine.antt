@@ -1,6 +1,7 @@
 -- The command that grows an overlay with given options.
-use Rattle.std.specs.Prelude.{ℕ, Bool, List, [], ◌++◌, Option, Some, None, codes, ◌==◌, if◌then◌else◌}
+use Rattle.std.specs.Prelude.{ℕ, Bool, List, [], ◌++◌, Option, Some, None, codes, decimal, ◌==◌, if◌then◌else◌}
 use Rattle.ov_ids.specs.ParamsState.{ParamsState}
+use Rattle.ov_ids.specs.RefillNames.{refill_name}
 use Rattle.ov_ids.specs.declared.refill_rule.Refill.{Refill}
 use Rattle.ov_ids.specs.declared.refill_rule.Refill.TheVariants.{Never}
 use Rattle.ov_grow_options.specs.declared.options.GrowOptions.{GrowOptions}
