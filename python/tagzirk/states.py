@@ -121,8 +121,11 @@ def by_words(field: Field) -> Optional[Kind]:
     """Values with words of states. If all have the same such words, as `Up 3 hours` and `Up 2 days`, they are one."""
     words = {text: frozenset(state_words(text)) for text in field.counts if text != MISSING}
     with_words = sum(field.counts[text] for text, it in words.items() if it)
-    if not with_words or len(words) > MOST_VALUES and 2 * with_words < len(field.said):
+    if not with_words:
         return None
+    if len(words) > MOST_VALUES and 2 * with_words < len(field.said):
+        # a word of some among other values, as a timeout among round trips
+        return Kind.TOLD
     return Kind.TOLD if len(set(words.values())) == 1 and not field.missing else Kind.ASKED
 
 

@@ -312,6 +312,7 @@ class Rules(unittest.TestCase):
             (["a", "b", "c", "d"], {}, Kind.NONE),
             (["up", "down", "joining"], {}, Kind.ASKED),
             (["north", "DOWN", "south"], {"name": "region"}, Kind.ASKED),
+            ([*map(str, range(20)), "timeout"], {"name": "rtt"}, Kind.TOLD),
             ([1764493200, 1764493230], {"name": "t"}, Kind.TOLD),
             ([1764493200, 1764493290], {"name": "t"}, Kind.ASKED),
             ([1764493200, 1764400000], {"name": "created"}, Kind.NONE),
