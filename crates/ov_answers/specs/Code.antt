@@ -3,6 +3,7 @@
 pub mod Begun
 pub mod Files
 pub mod Sentences
+pub mod Rows
 pub mod GivenNames
 pub mod TextFaults
 pub mod ToldOfGraph

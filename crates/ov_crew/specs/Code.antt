@@ -3,4 +3,5 @@ pub mod Turns
 pub mod Crews
 pub mod Parts
 pub mod Ascending
-pub mod Kept
+pub mod Examined
+pub mod Searched

@@ -1,3 +1,4 @@
+ghost use Rattle.std.specs.Prelude.{◌≡◌};
 ghost use Rattle.std.specs.Iterator.{IsFinite};
 ghost use Rattle.ov_grow.specs.Sweeps.{AreSwept, IsSweepOf};
 

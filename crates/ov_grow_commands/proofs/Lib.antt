@@ -1,2 +1,1 @@
 pub mod KeptRows
-pub mod RowFiles

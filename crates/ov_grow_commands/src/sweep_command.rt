@@ -86,9 +86,12 @@ fn read_and_print(
 fn print_rows(rt: &HostRuntime, rows: &[Row]) -> Result<(), GrowthFault> {
     let form = RowForm::of_rows(rows);
     let header = header_text(rt.alloc(), form)?;
-    let mut sink = Sink::new(rt.stdout());
-    sink.write_all(&header)?;
-    Ok(write_rows(rt.alloc(), form, rows, &mut sink)?)
+    Sink::new(rt.stdout()).write_all(&header)?;
+    match write_rows(rt, form, rows) {
+        Ok(()) => Ok(()),
+        Err(SweepFault::OutOfMemory) => Err(GrowthFault::OutOfMemory),
+        Err(_) => Err(GrowthFault::Write),
+    }
 }
 
 /// Grows the overlays of a sweep, and prints their rows, or what is told of them, and writes the picture if one is
@@ -108,7 +111,8 @@ fn grow_and_print<T: Threads + Sync>(
             }
             Err(refused_run(rt, &refused))
         }
-        Err(fault) => Err(told(rt, GrowthFault::from(fault))),
+        Err(SweepFault::Write) => Err(told(rt, GrowthFault::Write)),
+        Err(SweepFault::OutOfMemory) => Err(told(rt, GrowthFault::OutOfMemory)),
     }
 }
 

@@ -1,9 +1,8 @@
-ghost use Rattle.std.specs.Prelude.{◌≡◌, ◌<◌, ◌^◌, length};
+ghost use Rattle.std.specs.Prelude.{◌≡◌, length};
 ghost use Rattle.std.specs.Iterator.{YieldsFirstRef, item_count};
 ghost use Rattle.ov_lists.specs.Code.Cut.{paths_from, AreEnds};
 
 use crate::ids_of_one_path::id_range;
-use crate::path_ends::{EndIter, Ends};
 use ov_ids::NodeId;
 use std::marker::Model;
 
@@ -11,7 +10,7 @@ use std::marker::Model;
 #[derive(Drop)]
 pub struct PathIter<'a> {
     ids: &'a [NodeId],
-    ends: EndIter<'a>,
+    ends: &'a [u32],
     start: usize,
 }
 
@@ -21,21 +20,20 @@ impl<'a> Model for PathIter<'a> {
 
     ghost Value = { List (List ℕ) };
 
-    ghost view = { λ i. paths_from i.start i.ends i.ids.now };
+    ghost view = { λ i. paths_from i.start i.ends.now i.ids.now };
 
-    ghost invariant = { λ i. AreEnds i.start i.ends (length i.ids.now) };
+    ghost invariant = { λ i. AreEnds i.start i.ends.now (length i.ids.now) };
 }
 
 impl<'a> PathIter<'a> {
     /// The paths that are written in `ids`, each up to one of the ends.
-    pub(crate) fn new(ids: &'a [NodeId], ends: &'a Ends) -> PathIter<'a>
+    pub(crate) fn new(ids: &'a [NodeId], ends: &'a [u32]) -> PathIter<'a>
         requires { AreEnds 0 ends.now (length ids.now) }
-        ensures paths { result ≡ paths_from 0 ends.now ids.now }
-        ensures few { length ends.now < 2 ^ 64 }
+        ensures { result ≡ paths_from 0 ends.now ids.now }
     {
         PathIter {
             ids,
-            ends: ends.iter(),
+            ends,
             start: 0,
         }
     }
@@ -49,9 +47,11 @@ impl<'a> Iterator for PathIter<'a> {
     ghost remaining = { item_count (λ i. i) };
 
     fn next(&mut self) -> Option<&'a [NodeId]> {
-        let end = self.ends.next_end()?;
+        let (end, rest) = self.ends.split_first()?;
+        let end = *end as usize;
         let path = id_range(self.ids, self.start, end);
         self.start = end;
+        self.ends = rest;
         Some(path)
     }
 }

@@ -168,9 +168,8 @@ fn file_text(alloc: Global, report: &Report) -> Result<String, OutOfMemory>
 {
     let checked = report.checked();
     let (cert, graph, group) = (checked.cert(), checked.graph(), checked.members());
-    let mut text = to_text_group(alloc, cert, graph, group, report.moment())?;
-    text.push_str("\n")?;
-    Ok(text)
+    let text = to_text_group(alloc, cert, graph, group, report.moment())?;
+    Ok(format!(in alloc; "{text}\n")?)
 }
 
 /// Writes the lines of packets. If OutOfMemory is returned, the lines of the first packets were written whole, and at

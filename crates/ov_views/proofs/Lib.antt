@@ -1,4 +1,3 @@
-pub mod Fields
 pub mod Keeping
 pub mod Giving
 pub mod LeftOf

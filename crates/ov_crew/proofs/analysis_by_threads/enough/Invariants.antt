@@ -4,10 +4,9 @@ use Rattle.ov_crew.proofs.analysis_by_threads.enough.Given as goal
 
 abbrev pub invariant-loop-levels : goal.invariant-loop-levels
 invariant-loop-levels g l = record {
-  graph : l.levels.search.graph ≡ l.graph;
-  members : l.levels.search.members ≡ l.group;
-  keeping : l.levels.keeping ≡ l.keeping;
+  graph : l.levels.graph ≡ l.graph;
+  members : l.levels.members ≡ l.group;
 }
 
 abbrev pub decreases-loop-levels : goal.decreases-loop-levels
-decreases-loop-levels g l = l.levels.search.left
+decreases-loop-levels g l = l.levels.left

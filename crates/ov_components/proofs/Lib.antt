@@ -1,4 +1,0 @@
-pub mod Rows
-pub mod Grown
-pub mod Divided
-pub mod Surviving
