@@ -2,10 +2,10 @@
 """tries.py [MOST]: the greatest number of levels that an analysis of n nodes can try, for each n from 2 to MOST
 (1,024).
 
-The contracts of `LevelSearch::new` and `CutSearch::new` say at most 2 k + 1 for fewer than 2^k nodes. Here the rule for
-the next level (`next_level` of ov_even/src/level_bounds.rt) is written once more, and every course is gone through:
-each level turns out to be good, or to have a cut of any size that the bounds allow. It prints the numbers of nodes for
-which a course has more than 2 log2 n levels, the logarithm rounded up; when it was run there were none.
+The contract of `LevelSearch::new` says at most 2 k + 1 for fewer than 2^k nodes. Here the rule for the next level
+(`next_level` of ov_even/src/level_bounds.rt) is written once more, and every course is gone through: each level turns
+out to be good, or to have a cut of any size that the bounds allow. It prints the numbers of nodes for which a course
+has more than 2 log2 n levels, the logarithm rounded up; when it was run there were none.
 """
 
 import functools

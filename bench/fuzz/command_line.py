@@ -55,6 +55,9 @@ OPTIONS = {
     "picture": {"names": text, "pair": so_many_ids(2), "fan": so_many_ids(1), "dot": None},
     "graph": {},
 }
+# Words that ask to be told what the program is, and all commands of which help tells.
+HELP, VERSION = {"--help", "-h"}, {"--version", "-V"}
+COMMANDS = {*OPTIONS, *GROWING}
 # Options of which a command takes one at most.
 ONE_OF = {"import": {"views", "edges", "dot"}, "picture": {"pair", "fan"}}
 
@@ -103,6 +106,19 @@ def judge_together(request):
             raise BadArguments from None
 
 
+def telling(texts):
+    """What these words ask to be told, as a command is named: `version`, `help`, or None."""
+    first, *more = texts or [""]
+    if first in VERSION:
+        return "version"
+    if first in HELP or texts == ["help"]:
+        return "help"
+    if first == "help":
+        return "help" if len(more) == 1 and more[0] in COMMANDS else None
+    options = more[:more.index("--")] if "--" in more else more
+    return "help" if first in COMMANDS and not HELP.isdisjoint(options) else None
+
+
 def read_arguments(words):
     """The request of these words, which are bytes each."""
     try:
@@ -111,6 +127,8 @@ def read_arguments(words):
         raise BadArguments from None
     if texts in ([], ["--"]):
         return Request("run")
+    if told := telling(texts):
+        return Request(told)
     command, *texts = texts
     if command in GROWING:
         request = Request(command)

@@ -33,7 +33,7 @@ MOST_STEPS = 15000
 
 
 class BadArguments(Exception):
-    """The arguments are unknown to the command, ask for help, or are not UTF-8."""
+    """The arguments are unknown to the command, or are not UTF-8."""
 
 
 class Open(Exception):

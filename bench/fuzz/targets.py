@@ -9,9 +9,11 @@ from command_line import BadArguments, is_file, read_arguments
 import second_opinion
 from growing_words import Open, answer_grow, answer_sweep
 from named_answers import answer_named
+from scenario_run import Undetermined
 from second_opinion import Answer, answer_analyse, answer_run, check, strict_of
 
 SECONDS = 60
+VERSION = "overlay 1.0, proved with Rattle's logic dac8208d650f15bf"
 # How files begin that gzip, xz, zstd and zip make.
 PACKED = (b"\x1f\x8b", b"\xfd7zXZ", b"(\xb5/\xfd", b"PK\x03\x04")
 # How `run` in fuzz_loop.c takes the words of a graph file's first line.
@@ -131,6 +133,10 @@ def asked(words, data):
         request = read_arguments(words)
     except BadArguments:
         return Answer([], "refused 73", 2)
+    if request.command == "version":
+        return Answer([VERSION])
+    if request.command == "help":
+        return Answer([Undetermined("", many=True)])
     if request.command == "grow":
         return answer_grow(request.options)
     if request.command == "sweep":

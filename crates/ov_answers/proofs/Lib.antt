@@ -6,8 +6,4 @@ pub mod Componentwise
 pub mod Fewer
 pub mod Tellings
 pub mod OfGraph
-pub mod Rows
-pub mod Grown
-pub mod Divided
-pub mod Surviving
 pub mod Written

@@ -3,7 +3,6 @@
 pub mod Begun
 pub mod Files
 pub mod Sentences
-pub mod Rows
 pub mod GivenNames
 pub mod TextFaults
 pub mod ToldOfGraph

@@ -5,7 +5,7 @@ use Rattle.ov_graph.specs.Links.{LinkGraph}
 use Rattle.ov_cert.specs.declared.cert.Cert.{Cert}
 use Rattle.ov_cert.specs.declared.cert.Cert.TheVariants as cert
 use Rattle.ov_graphfile.specs.NamesState.{NamesState, IsNamed}
-use Rattle.ov_answers.specs.Components.{AreComponents}
+use Rattle.ov_components.specs.Components.{AreComponents}
 
 -- a line that says a node: these words, its id, and behind a space its name if it has one
 abbrev pub IsNodeLine : List ℕ → NamesState → ℕ → List ℕ → Type 0

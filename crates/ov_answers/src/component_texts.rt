@@ -3,9 +3,9 @@ ghost use Rattle.std.specs.Prelude.{◌≡◌, ◌++◌, [], codes, decimal, sli
 ghost use Rattle.ov_answers.specs.Code.Begun.{Gains};
 ghost use Rattle.ov_answers.specs.Lines.{sizes_text, IsFirstLargest, AreAllMemberLines, AreComponentLines};
 
-use crate::component_list::Components;
 use crate::name_lines::write_nodes;
 use itoa::Buffer;
+use ov_components::Components;
 use ov_graphfile::Names;
 use ov_ids::NodeId;
 use std::alloc::{AllocError, Global};

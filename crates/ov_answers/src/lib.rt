@@ -1,14 +1,10 @@
 //! Analyses of graph files by themselves: the answer, also with the names of nodes and in sentences, and without some
-//! of the nodes; and the connected components that a crash of nodes leaves.
+//! of the nodes.
 #![tactic(auto)]
 
 mod answer_making;
 mod answer_writing;
-mod bits_of_nodes_outside_cut;
-mod component_list;
 mod component_texts;
-mod components_after_crash;
-mod flood_fill;
 mod graph_file_analysis;
 mod graph_file_analysis_with_names;
 mod graph_without_nodes;
@@ -17,7 +13,6 @@ mod report_or_refusal;
 mod request;
 mod sentences;
 mod survivors_and_least_linked_members;
-mod unique_components_theorem;
 
 pub use graph_file_analysis::{analyse_bytes, analyse_file};
 pub use graph_file_analysis_with_names::analyse_told;
@@ -26,4 +21,3 @@ pub use ov_run_meaning::RunFault;
 pub use report_or_refusal::Answered;
 pub use request::{Request, Told};
 pub use sentences::explanation;
-pub use unique_components_theorem::one_division;

@@ -5,9 +5,9 @@ ghost use Rattle.ov_answers.specs.Lines.{IsNodeLine, AreNodeLines, AreNameLines}
 ghost use Rattle.ov_answers.specs.Code.Begun.{Gains};
 
 use crate::component_texts::write_components;
-use crate::components_after_crash::components_without;
 use itoa::Buffer;
 use ov_cert::{Cert, Split};
+use ov_components::components_without;
 use ov_graph::Graph;
 use ov_graphfile::Names;
 use ov_ids::{NodeId, OutOfMemory};

@@ -3,9 +3,9 @@
 ghost use Rattle.std.specs.Prelude.{◌≡◌, ◌++◌, string_bytes, OnOk};
 ghost use Rattle.ov_answers.specs.Code.Sentences.{fewer_text, more_text};
 
-use crate::components_after_crash::components_without;
 use crate::survivors_and_least_linked_members::{least_linked, members_beside, survivors_of};
 use ov_cert::{Cert, Split};
+use ov_components::components_without;
 use ov_graph::Graph;
 use ov_graphfile::Names;
 use ov_ids::{NodeId, OutOfMemory};

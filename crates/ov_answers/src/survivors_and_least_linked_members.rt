@@ -1,8 +1,8 @@
 //! What sentences count: members of components, and links of nodes.
 ghost use Rattle.std.specs.Prelude.{◌<◌, length};
 
-use crate::component_list::Components;
 use crate::component_texts::component_at;
+use ov_components::Components;
 use ov_graph::Graph;
 use ov_graph::bit_rows::WORDS;
 use ov_ids::{NodeId, OutOfMemory};

@@ -21,7 +21,8 @@ use Rattle.clap.specs.declared.error.kind.ErrorKind.TheVariants.{OutOfMemory as 
 use Rattle.clap.specs.declared.parser.matches.ArgMatches.{ArgMatches}
 use Rattle.clap.specs.declared.parser.matches.ArgMatches.TheViews.{out-ArgMatches, out-SubCommand}
 use Rattle.clap.specs.declared.parser.matches.Found.{Found}
-use Rattle.ov_arguments.specs.Arguments.{AreReadableFor, IsAsked, IsOfGiven, command_given, entry_asked, entry_of}
+use Rattle.ov_arguments.specs.Arguments.{AreReadableFor, IsAsked, IsAskedByCommand, command_given}
+use Rattle.ov_arguments.specs.Arguments.{entry_asked, entry_of}
 use Rattle.ov_arguments.specs.Arguments.{fault_of_parse, file_asked, format_of}
 use Rattle.ov_arguments.specs.Arguments.{group_asked, group_list_asked, is_flagged, least_asked, overlay_command}
 use Rattle.ov_arguments.specs.Arguments.{text_given, workers_asked}
@@ -30,7 +31,7 @@ use Rattle.ov_arguments.specs.declared.arguments.ArgumentsFault.TheVariants.{Out
 use Rattle.ov_arguments.specs.declared.arguments.Request.{Request}
 use Rattle.ov_arguments.specs.declared.clap_commands_and_help.CommandRow.{CommandRow}
 use Rattle.ov_arguments.specs.declared.clap_commands_and_help.OptionRow.{OptionRow}
-use Rattle.ov_arguments.specs.declared.arguments.Request.TheVariants.{Run, Analyse, Import, Picture, Graph}
+use Rattle.ov_arguments.specs.declared.arguments.Request.TheVariants.{Run, Analyse, Import, Picture, Graph, Tell}
 
 -- `clap` says what this command finds
 is_told : is_simple overlay_command ≡ true
@@ -115,7 +116,7 @@ none_found command arguments m is has none =
 
 -- arguments that give no subcommand ask for a run of standard input, without an option
 pub run_given : (arguments : List (List ℕ)) → subcommand_of overlay_command arguments ≡ None
-    → IsOfGiven arguments (Run None (record { explain = false; strict = false; progress = false }))
+    → IsAskedByCommand arguments (Run None (record { explain = false; strict = false; progress = false }))
 run_given arguments none =
     let command : command_given arguments ≡ None = ap (option_map (λ found. found.0)) none in
     let text : (n : List ℕ) → text_given arguments n ≡ None = λ n. ap (λ f. f >>= λ found. first_of n found.1) none in (
@@ -199,6 +200,7 @@ asked_same c d t u e f (Graph file) a = (
   e ∙ a.0,
   ap file_asked (f (codes "file")) ∙ a.1,
 )
+asked_same c d t u e f (Tell telling) a = absurd a
 
 -- texts that are equal to readable ones are readable
 readable_same : (c d : Option (List ℕ)) (t u : List ℕ → Option (List ℕ)) → c ≡ d → ((n : List ℕ) → t n ≡ u n)
@@ -258,12 +260,13 @@ asked_readable command text (Graph file) a = record {
   picture = λ is. other_name command (codes "graph") (codes "picture") a.0 is
       (λ e. let bad : 103 ≡ 112 = e in absurd (omega arith));
 }
+asked_readable command text (Tell telling) a = absurd a
 
 -- what the matches of the subcommand ask for is what the arguments give
 module _ (command : App) (arguments : List (List ℕ)) (m : ArgMatches) (f : Found) (name : List ℕ)
     (is : command ≡ overlay_command) (has : HasMatchesOf command arguments m) (named : Some name ≡ subcommand_name_of m)
     (rows : Some (rows_of f) ≡ option_map (λ p. p.1) (subcommand_rows_of m)) where
-  pub asked_given : (r : Request) → IsAsked (Some name) (first_value f) r → IsOfGiven arguments r
+  pub asked_given : (r : Request) → IsAsked (Some name) (first_value f) r → IsAskedByCommand arguments r
   asked_given = asked_same (command_given arguments) (Some name) (text_given arguments) (first_value f)
       (command_found command arguments m name is has named) (λ n. given_found command arguments m f n is has rows)
 

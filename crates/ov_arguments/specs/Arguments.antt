@@ -1,5 +1,5 @@
 -- What the arguments of a command line ask for, and why they can't be read. Chosen here.
-use Rattle.std.specs.Prelude.{◌≡◌, ◌≢◌, ℕ, Bool, true, false, ◌<◌, ⊤, List, [], ◌∷◌, length, Option, Some, None}
+use Rattle.std.specs.Prelude.{◌≡◌, ◌≢◌, ◌⊎◌, ℕ, Bool, true, false, ◌<◌, ⊤, List, [], ◌∷◌, length, Option, Some, None}
 use Rattle.std.specs.Prelude.{IfSome, codes, nat_eq, nat_le, option_map, string_bytes, if◌then◌else◌}
 use Rattle.std.specs.List.{starts_with}
 use Rattle.std.specs.Str.{bytes_eq}
@@ -14,11 +14,12 @@ use Rattle.clap.specs.declared.error.kind.ErrorKind.TheVariants as parse_error
 use Rattle.ov_ids.specs.Options.{◌>>=◌}
 use Rattle.ov_lines.specs.Lines.{ids_of, long_bits, number_within, workers_of}
 use Rattle.ov_arguments.specs.declared.arguments.Request.{Request}
-use Rattle.ov_arguments.specs.declared.arguments.Request.TheVariants.{Run, Analyse, Import, Picture, Graph}
+use Rattle.ov_arguments.specs.declared.arguments.Request.TheVariants.{Run, Analyse, Import, Picture, Graph, Tell}
 use Rattle.ov_arguments.specs.declared.import_and_picture_requests.AskedEntry.{AskedEntry}
 use Rattle.ov_arguments.specs.declared.import_and_picture_requests.AskedEntry.TheVariants.{Pair, Fan}
 use Rattle.ov_arguments.specs.declared.import_and_picture_requests.DumpFormat.{DumpFormat}
 use Rattle.ov_arguments.specs.declared.import_and_picture_requests.DumpFormat.TheVariants.{Views, Edges, Dot}
+use Rattle.ov_arguments.specs.Telling.{telling_asked}
 use Rattle.ov_arguments.specs.declared.arguments.ArgumentsFault.{ArgumentsFault}
 use Rattle.ov_arguments.specs.declared.arguments.ArgumentsFault.TheVariants.{BadArguments, OutOfMemory}
 
@@ -253,6 +254,7 @@ IsAsked command text (Picture file picture) =
 IsAsked command text (Graph file) =
     (command ≡ Some (codes "graph"))
     × (file_asked (text (codes "file")) ≡ option_map (λ f. string_bytes f) file)
+IsAsked command text (Tell telling) = ⊥
 
 -- the group, the least number and the number of workers that these texts ask for can be read
 pub record AreReadable (text : List ℕ → Option (List ℕ)) : Type 0 where
@@ -267,15 +269,25 @@ pub record AreReadableFor (command : Option (List ℕ)) (text : List ℕ → Opt
   pub dump : command ≡ Some (codes "import") → format_of text ≢ None
   pub picture : command ≡ Some (codes "picture") → entry_of text ≢ None
 
--- what is asked for is what these arguments give: the command, the file, the group, the number of workers and the flags
-abbrev pub IsOfGiven : List (List ℕ) → Request → Type 0
-IsOfGiven arguments request = IsAsked (command_given arguments) (text_given arguments) request
+-- what is asked for is what the command of these arguments asks for, with the file and the options that they give it
+abbrev pub IsAskedByCommand : List (List ℕ) → Request → Type 0
+IsAskedByCommand arguments request = IsAsked (command_given arguments) (text_given arguments) request
 
--- These arguments ask for something: `clap` finds no fault in them, so no request for help either, and what they give
--- to their command can be read.
-abbrev pub AreTaken : List (List ℕ) → Type 0
-AreTaken arguments =
+-- what is asked for is what these arguments give: to tell what they ask to be told; and if that is nothing, what their
+-- command asks for
+abbrev pub IsOfGiven : List (List ℕ) → Request → Type 0
+IsOfGiven arguments (Tell telling) = telling_asked arguments ≡ Some telling
+IsOfGiven arguments request = (telling_asked arguments ≡ None) × IsAskedByCommand arguments request
+
+-- `clap` finds no fault in these arguments, so no request for help either, and what they give to their command can be
+-- read
+abbrev pub AreTakenAsCommand : List (List ℕ) → Type 0
+AreTakenAsCommand arguments =
     (fault_of overlay_command arguments ≡ []) × AreReadableFor (command_given arguments) (text_given arguments)
+
+-- these arguments ask for something: to be told, or by a command
+abbrev pub AreTaken : List (List ℕ) → Type 0
+AreTaken arguments = (telling_asked arguments ≢ None) ⊎ AreTakenAsCommand arguments
 
 -- the fault's number
 abbrev pub number_of : ArgumentsFault → ℕ

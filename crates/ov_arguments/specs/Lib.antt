@@ -2,3 +2,4 @@ pub mod Arguments
 pub mod CommandNames
 pub mod GrowArguments
 pub mod Code
+pub mod Telling

@@ -2,14 +2,16 @@ ghost use Rattle.std.specs.Prelude.{◌≡◌, ◌≢◌, ◌<◌, length, map, 
 ghost use Rattle.std.specs.Prelude.{option_map, IfOk, IfSome, IsErrOf};
 ghost use Rattle.std.specs.IoError.{error_kind};
 ghost use Rattle.clap.specs.Words.{found_of, first_value};
-ghost use Rattle.ov_arguments.specs.Arguments.{AreReadable, AreReadableFor, AreTaken, HasGroupOfIds, IsAsked, entry_of};
-ghost use Rattle.ov_arguments.specs.Arguments.{IsOfGiven, file_asked, group_asked, group_list_asked, is_flagged};
+ghost use Rattle.ov_arguments.specs.Arguments.{AreReadable, AreReadableFor, AreTaken, AreTakenAsCommand, HasGroupOfIds};
+ghost use Rattle.ov_arguments.specs.Arguments.{IsAsked, IsAskedByCommand, IsOfGiven, entry_of, file_asked, group_asked};
+ghost use Rattle.ov_arguments.specs.Arguments.{group_list_asked, is_flagged};
 ghost use Rattle.ov_arguments.specs.Arguments.{is_read_later, least_asked, least_of, workers_asked};
 ghost use Rattle.ov_arguments.specs.Arguments.{fault_of_parse, fault_of_text, format_of, number_of};
 ghost use Rattle.ov_arguments.specs.declared.arguments.ArgumentsFault.TheVariants.{BadArguments};
 ghost use Rattle.ov_arguments.specs.declared.arguments.ArgumentsFault.TheVariants.{OutOfMemory as out_of_memory};
 
 use crate::clap_commands_and_help::command;
+use crate::help_and_version::{Telling, telling_asked};
 use crate::import_and_picture_requests::{
     ImportRequest, PictureRequest, import_of, picture_of, text_of,
 };
@@ -53,6 +55,8 @@ pub enum Request {
     Graph {
         file: Option<String>,
     },
+    /// To print help, or the version.
+    Tell(Telling),
 }
 
 /// What is asked of a run, besides its file.
@@ -94,7 +98,7 @@ pub struct AnalysisRequest {
 /// error. The numbers are chosen here.
 #[derive(Clone, Copy, Debug, PartialEq, Eq)]
 pub enum ArgumentsFault {
-    /// They are no arguments of the command, or ask for help (73).
+    /// They are no arguments of the command (73).
     BadArguments,
     /// An allocation was refused (99).
     OutOfMemory,
@@ -181,14 +185,34 @@ impl From<ClapError> for ArgumentsFault {
 /// - `graph [FILE]`.
 ///
 /// A file that is absent or `-` is standard input. No option may be given twice. After `--` an argument that begins
-/// with `-` is a file. All other arguments are refused with BadArguments (73), also those that ask for help.
-/// OutOfMemory (99) is returned if an allocation was refused. The arguments and the numbers are chosen here.
+/// with `-` is a file.
+///
+/// Or they ask for the version, by `--version` or `-V` in front; for help of the program, by `--help` or `-h` in front,
+/// or by `help` alone; or for help of a command, also of `grow` and `sweep`, by `help` and its name, or by `--help` or
+/// `-h` behind its name and before `--`, whatever else stands there.
+///
+/// All other arguments are refused with BadArguments (73). OutOfMemory (99) is returned if an allocation was refused.
+/// The arguments and the numbers are chosen here.
 pub fn read_arguments(alloc: Global, arguments: &[String]) -> Result<Request, ArgumentsFault>
     ensures group { IfOk result HasGroupOfIds }
     ensures given { IfOk result (IsOfGiven (map (λ argument. string_bytes argument) arguments.now)) }
     ensures taken { AreTaken (map (λ argument. string_bytes argument) arguments.now)
         → (result ≢ Err BadArguments) }
     ensures only { IfOk result (λ _. AreTaken (map (λ argument. string_bytes argument) arguments.now)) }
+{
+    match telling_asked(arguments) {
+        Some(telling) => Ok(Request::Tell(telling)),
+        None => read_command(alloc, arguments),
+    }
+}
+
+/// The same of arguments that ask neither for help nor for the version.
+fn read_command(alloc: Global, arguments: &[String]) -> Result<Request, ArgumentsFault>
+    ensures group { IfOk result HasGroupOfIds }
+    ensures given { IfOk result (IsAskedByCommand (map (λ argument. string_bytes argument) arguments.now)) }
+    ensures taken { AreTakenAsCommand (map (λ argument. string_bytes argument) arguments.now)
+        → (result ≢ Err BadArguments) }
+    ensures only { IfOk result (λ _. AreTakenAsCommand (map (λ argument. string_bytes argument) arguments.now)) }
 {
     let matches = command(alloc)?.try_get_matches_from(arguments)?;
     match matches.subcommand() {

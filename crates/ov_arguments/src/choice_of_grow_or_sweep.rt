@@ -1,6 +1,7 @@
 use crate::GrowArgumentsFault;
 use crate::grow_and_sweep_clap_commands::CommandName;
 use crate::grow_request::{GrowRequest, read_grow_arguments};
+use crate::help_and_version::telling_asked;
 use crate::sweep_request::{SweepRequest, read_sweep_arguments};
 use std::alloc::Global;
 
@@ -14,7 +15,7 @@ pub enum GrowingRequest {
 }
 
 /// Reads arguments of which the first is `grow` or `sweep`: the words behind it are read by `read_grow_arguments` or
-/// `read_sweep_arguments`. None: they name another command, or none.
+/// `read_sweep_arguments`. None: they name another command, or none, or ask for help.
 pub fn read_growing(
     alloc: Global,
     arguments: &[String],
@@ -22,6 +23,9 @@ pub fn read_growing(
     let Some((first, words)) = arguments.split_first() else {
         return Ok(None);
     };
+    if telling_asked(arguments).is_some() {
+        return Ok(None);
+    }
     match CommandName::of(first.as_str()) {
         None => Ok(None),
         Some(CommandName::Grow) => {

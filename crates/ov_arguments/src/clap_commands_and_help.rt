@@ -26,7 +26,6 @@ Runs a scenario file of overlay nodes, analyses a graph file, or grows overlays.
 
 /// What help says below the commands.
 const BELOW: &str = "\
-Two more commands: grow grows an overlay, and sweep many; see overlay help grow and overlay help sweep.
 Without a file, or with -, a command reads standard input.
 Bare overlay is overlay run. overlay --version prints the version.";
 

@@ -23,8 +23,8 @@ pub(crate) fn found_in<'a>(
     }
 }
 
-/// What `clap` says of words in which it found a fault, or of a request for help, with a tip if something is known that
-/// may be meant. The words are shown with the codes of their control characters, so that each is on one line.
+/// What `clap` says of words in which it found a fault, with a tip if something is known that may be meant. The words
+/// are shown with the codes of their control characters, so that each is on one line.
 fn told(
     alloc: Global,
     name: CommandName,

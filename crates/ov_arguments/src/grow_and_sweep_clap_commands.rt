@@ -23,7 +23,7 @@ Examples:
   overlay grow --active 4 --crash 20 --broadcasts 5 > overlay.txt
   overlay grow --row rows.csv:12 --certificates | overlay run";
 
-const GROW_ABOUT: &str = "Grows an overlay, and prints the scenario that grows it again.";
+const GROW_ABOUT: &str = "Grows an overlay, and prints the scenario that grows it again";
 
 const GROW_BELOW: &str = "\
 A lost JOIN is never sent again, so with --loss-join some nodes may never come in.
@@ -52,6 +52,9 @@ P_largest, P_clustering, P_path, P_diameter, P_degree_25, P_degree_50 and P_degr
 sweep\", says what each column is, and what a row of --messages has.
 A lost JOIN is never sent again, so with --loss-join some nodes may never come in.
 A row can be run again by `overlay grow --row FILE:N | overlay run`.";
+
+/// What help of `overlay` says of `overlay sweep`, in the list of all commands.
+const SWEEP_LISTED: &str = "Grows many overlays, and prints a row of each, a summary or a picture";
 
 const GROW_HELP: [&str; 3] = [GROW_EXAMPLES, GROW_ABOUT, GROW_BELOW];
 
@@ -86,24 +89,25 @@ impl CommandName {
     }
 }
 
-/// All commands with their options, of which help is told. Those that grow overlays are not among those that it lists.
+/// All commands with their options, as help of `overlay` lists them.
 ///
 /// The words of these two are parsed by their own part of the tree, and all others by the part without them: `clap` has
 /// exact contracts for commands whose options take no lists and exclude no others.
 pub(crate) fn command_tree<'a>(alloc: Global) -> Result<Command<'a>, AllocError> {
     let others = clap_commands_and_help::command(alloc)?;
     let grow = with_command(others, command(alloc, CommandName::Grow))?;
-    with_command(grow, command(alloc, CommandName::Sweep))
+    let sweep = command(alloc, CommandName::Sweep)?.about(SWEEP_LISTED);
+    with_command(grow, Ok(sweep))
 }
 
-/// A command with the words that it takes. No list tells of it.
+/// A command with the words that it takes.
 pub(crate) fn command<'a>(alloc: Global, name: CommandName) -> Result<Command<'a>, AllocError> {
     let options = options_of(alloc, name)?;
     let command = match name {
         CommandName::Grow => alone(alloc, GROW, GROW_NAME, GROW_HELP),
         CommandName::Sweep => alone(alloc, SWEEP, SWEEP_NAME, SWEEP_HELP),
     };
-    command?.hide(true).args(options)
+    command?.args(options)
 }
 
 /// The options of a command.

@@ -9,8 +9,7 @@ use thiserror::Error;
 /// chosen here.)
 #[derive(Debug, Drop, Error)]
 pub enum GrowArgumentsFault {
-    /// They are no words of the command, or ask for help (73). The reason is the help, or what is wrong; it ends with a
-    /// line feed.
+    /// They are no words of the command (73). The reason is what is wrong; it ends with a line feed.
     #[error("refused 73")]
     BadArguments { reason: String },
     /// An allocation was refused (99).

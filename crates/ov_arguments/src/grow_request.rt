@@ -25,8 +25,8 @@ pub struct GrowRequest {
 /// that is not given has its default.
 ///
 /// BadArguments (73): a word is no option or not what its option takes, an option is given twice, --crash and
-/// --crash-cut are given, or --row and an option of growing, --prwl is above --arwl, --sender is above --nodes, or help
-/// is asked for. OutOfMemory (99): an allocation was refused.
+/// --crash-cut are given, or --row and an option of growing, --prwl is above --arwl, or --sender is above --nodes.
+/// OutOfMemory (99): an allocation was refused.
 pub fn read_grow_arguments(
     alloc: Global,
     words: &[String],

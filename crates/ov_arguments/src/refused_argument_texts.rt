@@ -12,9 +12,6 @@ use ov_lines::{comma_hint, read_ids, read_workers};
 use std::alloc::{AllocError, Global};
 use std::fmt::Write;
 
-/// The program with its version, and the logic that it is proved with. Each kit of that logic may build it.
-const VERSION: &str = "overlay 1.0, proved with Rattle's logic dac8208d650f15bf\n";
-
 /// What is printed of arguments of which one is no text, so that `clap` does not see them.
 const NO_TEXT: &str = "error: an argument is no UTF-8 text\n";
 
@@ -37,19 +34,15 @@ const FORMATS: &str = "error: only one of '--views', '--edges' and '--dot' can b
 const ENTRIES: &str = "error: only one of '--pair' and '--fan' can be given\n\n\
                        For more information, try '--help'.\n";
 
-/// What is said of arguments that `overlay` refuses: help, the version, or what is wrong with them. They are the
-/// arguments after the program's name. An empty list means that an argument is no UTF-8. The text ends with a line
-/// feed; it is empty if nothing is wrong. `clap` makes it, from the arguments that `overlay` takes, except for the
-/// version and for a bad text of an option. A line `tip: ..` below it may say what is meant. OutOfMemory (99) if an
-/// allocation is refused.
+/// What is wrong with arguments that `overlay` refuses. They are the arguments after the program's name. An empty list
+/// means that an argument is no UTF-8. The text ends with a line feed; it is empty if nothing is wrong. `clap` makes it,
+/// from the arguments that `overlay` takes, except for a bad text of an option. A line `tip: ..` below it may say what
+/// is meant. OutOfMemory (99) if an allocation is refused.
 pub fn argument_reasons(alloc: Global, arguments: &[String]) -> Result<String, OutOfMemory> {
-    match arguments.first() {
-        None => Ok(String::from_str(alloc, NO_TEXT)?),
-        Some(first) if matches!(first.as_str(), "--version" | "-V") => {
-            Ok(String::from_str(alloc, VERSION)?)
-        }
-        Some(_) => reasons(alloc, arguments),
+    if arguments.is_empty() {
+        return Ok(String::from_str(alloc, NO_TEXT)?);
     }
+    reasons(alloc, arguments)
 }
 
 /// What `clap` says of these arguments, or what is wrong with the texts that it finds in them.
@@ -102,8 +95,8 @@ fn push_ids_tip(
 }
 
 /// The commands by which these arguments are told: all of them if the first argument is a word and none of those that
-/// `read_arguments` reads, so that help is that of any command, and any may be offered in place of what is none. In
-/// place of a file those that grow overlays are not offered.
+/// `read_arguments` reads, so that any may be offered in place of what is none. In place of a file those that grow
+/// overlays are not offered.
 fn told_by<'a>(alloc: Global, arguments: &[String]) -> Result<Command<'a>, AllocError> {
     match arguments.first() {
         Some(first) if is_word(first) && !is_command(alloc, first.as_str())? => command_tree(alloc),

@@ -134,8 +134,8 @@ impl SweepRequest {
 /// each other (--list and --summary, --at-most-split, --svg or --messages, --read and what grows, --costs, --shape or
 /// --progress, --messages and what is told of runs), --messages stands without --sequential or without broadcasts,
 /// --costs without --broadcasts, the file of --svg is -, a value stands in its list twice, some --prwl is above some
-/// --arwl, some --sender is above some --nodes, there are more than 1,000,000 runs, or help is asked for. OutOfMemory
-/// (99): an allocation was refused.
+/// --arwl, some --sender is above some --nodes, or there are more than 1,000,000 runs. OutOfMemory (99): an allocation
+/// was refused.
 pub fn read_sweep_arguments(
     alloc: Global,
     words: &[String],

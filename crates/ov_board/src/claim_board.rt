@@ -9,7 +9,7 @@ use crate::atomic_exchange_rules::{
 };
 use crate::ghost_views::{BoardSize, SeatView};
 use crate::worker_seat::Seat;
-use atomic_table::{Seat as TableSeat, Table};
+use atomic_table::Table;
 use ov_ids::{OutOfMemory, Workers};
 use std::alloc::Global;
 use std::marker::{Brand, Model};
@@ -23,7 +23,7 @@ pub struct Board {
 }
 
 impl Model for Board {
-    ghost use Rattle.std.specs.Prelude.{◌≡◌, ◌≤◌};
+    ghost use Rattle.std.specs.Prelude.{◌≡◌};
     ghost use Rattle.ov_board.specs.Board.{BoardState};
 
     ghost Value = { BoardState };

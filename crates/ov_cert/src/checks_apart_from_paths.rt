@@ -7,10 +7,10 @@ ghost use Rattle.ov_cert.specs.FrameFlaws.{HasFrameFlaw, flaw_fault};
 ghost use Rattle.ov_cert.specs.Code.Tests.{frame_fault};
 ghost use Rattle.ov_cert.specs.Code.FrameFlaws.{body_flaw, frame_flaw};
 
-use crate::all_linked::unlinked_members;
 use crate::cert::{Cert, Split};
 use crate::fault::CheckFault;
 use crate::flaw_types_apart_from_paths::FrameFlaw;
+use crate::linked_members::unlinked_members;
 use crate::node_set::node_set;
 use crate::side_judging::side_flaw;
 use ov_graph::Graph;

@@ -2,7 +2,7 @@ ghost use Rattle.std.specs.Prelude.{◌≡◌, ◌≢◌, ◌+◌, ℕ, ◌<◌,
 ghost use Rattle.ov_ids.specs.Members.{Has, Ascends};
 ghost use Rattle.ov_graph.specs.Links.{IsGroup};
 ghost use Rattle.ov_graph.specs.Even.{later_members};
-ghost use Rattle.ov_cert.specs.Code.Tests.{is_pair_entry, is_fan_entry, unlinked_before, pairs_after, expected_pairs};
+ghost use Rattle.ov_cert.specs.Code.Tests.{is_pair_entry, is_fan_entry, unlinked_before, expected_pairs};
 ghost use Rattle.ov_cert.specs.Code.Tests.{pairs_fault, fans_fault, IsCheckOf};
 ghost use Rattle.ov_cert.specs.Code.Flaws.{pair_entry_flaw, fan_entry_flaw};
 

@@ -1,12 +1,11 @@
 ghost use Rattle.std.specs.Prelude.{◌≡◌, ◌↔◌, ◌++◌, length, [], IfSome, IsNone, IsOk, IfOk, IfErr, OnOk};
-ghost use Rattle.ov_ids.specs.Members.{Has, Ascends};
 ghost use Rattle.ov_graph.specs.Joined.{IsNodeSet};
 ghost use Rattle.ov_graph.specs.Even.{later_members};
 ghost use Rattle.ov_cert.specs.declared.cert.Cert.TheVariants as cert;
 ghost use Rattle.ov_cert.specs.Verdict.{PassesFrame};
 ghost use Rattle.ov_cert.specs.Entries.{of_pairs, of_fans, AreExpected, IsExpected, HoldsEntry, entry_fault};
 ghost use Rattle.ov_cert.specs.Flaws.{HasEntryFlaw};
-ghost use Rattle.ov_cert.specs.Code.Tests.{unlinked_before, pairs_after, expected_pairs};
+ghost use Rattle.ov_cert.specs.Code.Tests.{unlinked_before, pairs_after};
 
 use crate::cert::Split;
 use crate::entry_judging::{fan_flaw, pair_flaw};

@@ -1,7 +1,6 @@
 //! Certificates of node connectivity, and their checker.
 #![tactic(auto)]
 
-mod all_linked;
 mod cert;
 mod checker;
 mod checks_apart_from_paths;
@@ -12,6 +11,7 @@ mod fault;
 mod first_and_later_members;
 mod flaw_types_apart_from_paths;
 mod graph_with_valid_certificate;
+mod linked_members;
 mod node_set;
 mod own_or_shared_graph;
 mod path_and_entry_flaws;
@@ -20,7 +20,6 @@ mod shared_graph;
 mod side_judging;
 mod valid_certificate_theorems;
 
-pub use all_linked::are_all_linked;
 pub use cert::{Cert, FanPaths, PairPaths, Split};
 pub use checker::{check, check_group};
 pub use checks_apart_from_paths::{check_frame, check_group_frame, frame_flaw};
@@ -31,6 +30,7 @@ pub use expected_entry_with_place_and_fault::Expected;
 pub use fault::CheckFault;
 pub use flaw_types_apart_from_paths::{EndFlaw, FrameFlaw, SetFlaw, SideFlaw};
 pub use graph_with_valid_certificate::Checked;
+pub use linked_members::are_all_linked;
 pub use ov_lists::Paths;
 pub use path_and_entry_flaws::{EntryFlaw, PathFlaw};
 pub use shared_graph::SharedGraph;

@@ -1,6 +1,5 @@
 ghost use Rattle.std.specs.Prelude.{◌≡◌, ◌&&◌, not, [], Some, None, IfOk, IfErr, if◌then◌else◌};
 ghost use Rattle.ov_ids.specs.Sets.{has, adding};
-ghost use Rattle.ov_graph.specs.Links.{LinkGraph};
 ghost use Rattle.ov_cert.specs.Code.Kept.{NodeSetState};
 ghost use Rattle.ov_cert.specs.Code.Tests.{entered};
 ghost use Rattle.ov_cert.specs.Code.Flaws.{first_taken};

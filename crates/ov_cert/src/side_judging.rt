@@ -1,4 +1,4 @@
-ghost use Rattle.std.specs.Prelude.{◌≡◌, ◌||◌, ℕ};
+ghost use Rattle.std.specs.Prelude.{◌≡◌, ℕ};
 ghost use Rattle.ov_ids.specs.Members.{Has, Ascends};
 ghost use Rattle.ov_graph.specs.Code.Tests.{neighbours_in};
 ghost use Rattle.ov_cert.specs.Code.FrameFlaws.{end_flaw, in_cut_flaw, way_out_of, way_out, side_flaw};

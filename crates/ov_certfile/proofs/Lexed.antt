@@ -8,8 +8,8 @@ use Rattle.std.proofs.lemmas.Fmt.{decimal_digit, decimal_step}
 use Rattle.std.specs.Cmp.Lexicographic.{pointwise, same_text}
 use Rattle.json.specs.Token.{Token}
 use Rattle.json.specs.Word.{is_space, ends_word}
-use Rattle.json.specs.Lex.{token, comma, colon, class, operator, operator_lexeme, string_token, between, in_string, lex}
-use Rattle.json.specs.Lex.{lex_byte, fresh, after_value, after_comma, after_key, may_begin, may_close, if_allowed}
+use Rattle.json.specs.Lex.{token, comma, colon, class, operator, operator_lexeme, string_token, between, lex}
+use Rattle.json.specs.Lex.{lex_byte, fresh, after_value, after_key, may_begin, may_close, if_allowed}
 use Rattle.json.specs.Lex.{punctuate}
 use Rattle.json.specs.Lex as lexer
 use Rattle.json.specs.Print.{escape}

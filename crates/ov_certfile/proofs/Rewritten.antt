@@ -11,7 +11,6 @@ use Rattle.ov_cert.specs.declared.cert.Cert.{Cert}
 use Rattle.ov_cert.specs.declared.cert.Cert.TheVariants as cert
 use Rattle.ov_cert.specs.declared.cert.Split.{Split}
 use Rattle.ov_certfile.specs.Common.{are_same}
-use Rattle.ov_certfile.specs.Keys.{said}
 use Rattle.ov_certfile.specs.Forms.{moment_in, last_moment}
 use Rattle.ov_certfile.specs.Kinds.{most_nodes_of}
 use Rattle.ov_certfile.specs.Demands.{demands, first_unmet, FileGraphJudged}

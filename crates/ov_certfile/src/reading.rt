@@ -1,17 +1,15 @@
-ghost use Rattle.std.specs.Prelude.{◌≡◌, ◌≢◌, ℕ, [], ◌∷◌, codes, None, Some, Result, Ok, Err, IfOk, IfErr};
+ghost use Rattle.std.specs.Prelude.{◌≡◌, ◌≢◌, [], ◌∷◌, None, Some, Result, Ok, Err, IfOk, IfErr};
 ghost use Rattle.std.specs.Prelude.{MatchOption, MatchResult};
 ghost use Rattle.serde_json.specs.View.{view};
 ghost use Rattle.serde_json.specs.Read.{read};
 ghost use Rattle.ov_graph.specs.Links.{LinkGraph};
 ghost use Rattle.ov_certfile.specs.declared.file_keys.Key.TheVariants as key;
 ghost use Rattle.ov_certfile.specs.declared.fault.FileFault.{FileFault};
-ghost use Rattle.ov_certfile.specs.Keys.{said};
-ghost use Rattle.ov_certfile.specs.Forms.{count_in};
 ghost use Rattle.ov_certfile.specs.FaultKinds.{kind_of, kind_in, NotJson};
 ghost use Rattle.ov_certfile.specs.Kinds.{version_keys, verdict_keys};
 ghost use Rattle.ov_certfile.specs.Demands.{FileGraphJudged};
 ghost use Rattle.ov_certfile.specs.Says.{SaysFile, SaysText};
-ghost use Rattle.ov_certfile.specs.Code.Reading.{ReadsAt, IsHeaded, IsListed, IsNamed, IsCert, LacksForm, IsGraphFault};
+ghost use Rattle.ov_certfile.specs.Code.Reading.{IsHeaded, IsListed, IsNamed, IsCert, LacksForm, IsGraphFault};
 
 use crate::fault::FileFault;
 use crate::field_reading_and_writing::{read_at, whole_at};

@@ -1,5 +1,5 @@
 //! Fields that are taken off the tokens of a text.
-ghost use Rattle.std.specs.Prelude.{◌≡◌, ◌≤◌, IfOk, OnOk, Some};
+ghost use Rattle.std.specs.Prelude.{◌≡◌, ◌≤◌, IfOk, Some};
 ghost use Rattle.serde_json.specs.Data.{member};
 ghost use Rattle.ov_certfile.specs.Forms.{count_in, list_in, last_moment};
 ghost use Rattle.ov_certfile.specs.Kinds.{name_of};

@@ -2,11 +2,11 @@
 //! memory, and makes nothing of a file with any fault.
 ghost use Rattle.std.specs.Prelude.{◌≡◌, ◌≤◌, ◌++◌, Some, Ok, IfOk, IfSome, OnOk};
 ghost use Rattle.json.specs.Tree.{members_tokens};
-ghost use Rattle.serde_json.specs.Data.{Members, string, no_members, member};
+ghost use Rattle.serde_json.specs.Data.{string, no_members, member};
 ghost use Rattle.serde_json.specs.Written.{members_outline};
-ghost use Rattle.ov_certfile.specs.Forms.{count_in, id_in, ids_in, links_in, pairs_in, fans_in, last_moment};
+ghost use Rattle.ov_certfile.specs.Forms.{count_in, id_in, ids_in, links_in, fans_in, last_moment};
 ghost use Rattle.ov_certfile.specs.Kinds.{name_of, verdict_text, version_number};
-ghost use Rattle.ov_certfile.specs.DataOf.{whole_data, ids_data, list_data, link_data, pair_data, fan_data};
+ghost use Rattle.ov_certfile.specs.DataOf.{whole_data, ids_data, list_data, link_data, fan_data};
 ghost use Rattle.ov_certfile.specs.Says.{SaysText};
 ghost use Rattle.ov_certfile.specs.Code.Tokens.{TakesMembers};
 ghost use Rattle.ov_certfile.specs.Code.Content.{TakesContent, NamedReadsBack, IsGraphWithin};
@@ -19,7 +19,7 @@ use crate::reading::Filed;
 use crate::token_cursor::{Stop, TokenCursor};
 use crate::token_fields::{take_count, take_member, take_moment};
 use crate::version::Version;
-use ov_cert::{Cert, FanPaths, PairPaths, Split};
+use ov_cert::{Cert, FanPaths, Split};
 use ov_graph::{Graph, GraphFault};
 use ov_ids::{NodeId, OutOfMemory, Seq};
 use std::alloc::Global;

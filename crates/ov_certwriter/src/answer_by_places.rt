@@ -1,8 +1,7 @@
 //! The certificate that hauls suffice for, whose paths are lists of places of nodes in the graph, as they were found.
-ghost use Rattle.std.specs.Prelude.{◌≡◌, ◌≤◌, map, length, IfOk};
+ghost use Rattle.std.specs.Prelude.{◌≡◌, map, IfOk};
 ghost use Rattle.ov_graph.specs.Links.{IsGroup};
 ghost use Rattle.ov_cert.specs.Valid.{IsValidForGroup};
-ghost use Rattle.ov_fans.specs.Pieces.{member_at};
 ghost use Rattle.ov_even.specs.Answer.{IsCheckedAnswer};
 ghost use Rattle.ov_even.specs.Hauls.{Suffice};
 ghost use Rattle.ov_even.specs.Naming.{AreFound, named_of};
@@ -14,6 +13,7 @@ ghost use Rattle.ov_certwriter.specs.Code.Placed.{HasEntries};
 use crate::entries_by_places::{PlacedFan, PlacedPair};
 use ov_cert::Cert;
 use ov_even::{FoundPaths, Haul, Piece, outline_of_hauls, wanted_paths};
+use ov_fans::member;
 use ov_graph::Graph;
 use ov_ids::{NodeId, OutOfMemory};
 use std::alloc::Global;
@@ -137,13 +137,4 @@ fn place_entries<'a>(
         }
     }
     Ok(PlacedEntries { pairs, fans })
-}
-
-/// The member at a place, counted from 1.
-fn member(group: &[NodeId], place: u16) -> NodeId
-    requires low { 1 ≤ place }
-    requires high { place ≤ length group.now }
-    ensures { result ≡ member_at group.now place }
-{
-    group[place as usize - 1]
 }

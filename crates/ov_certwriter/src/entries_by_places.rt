@@ -1,15 +1,15 @@
 //! Entries whose paths are lists of places of nodes in the graph, as they were found. Their texts have the ids, which
 //! are looked up as they are put: nothing is allocated.
-ghost use Rattle.std.specs.Prelude.{◌≡◌, ◌<◌, ◌≤◌, ◌+◌, ◌*◌, ℕ, length, Some, None};
+ghost use Rattle.std.specs.Prelude.{◌≡◌, ◌≤◌, ◌+◌, length, Some, None};
 ghost use Rattle.serde_json.specs.Written.{compact_text};
 ghost use Rattle.ov_flow.specs.Flow.{ArePlaces};
 ghost use Rattle.ov_certfile.specs.DataOf.{pair_data, fan_data};
 ghost use Rattle.ov_certwriter.specs.Code.Blocks.{Puts, entry_room};
 ghost use Rattle.ov_certwriter.specs.Code.Placed.{pair_of, fan_of, by_ids};
 
+use crate::byte_putting::{put_byte, put_text, put_whole};
 use crate::entry_texts::Entry;
 use crate::path_texts::{put_paths, room_of};
-use crate::reserved_memory::{put_byte, put_text, put_whole};
 use ov_flow::PlacePaths;
 use ov_graph::Graph;
 use ov_ids::NodeId;

@@ -8,8 +8,8 @@ ghost use Rattle.ov_certwriter.specs.Code.Blocks.{items_after, entries_room, Are
 ghost use Rattle.ov_certwriter.specs.Code.Blocks.{block_text, HaveRoom, HoldParts};
 ghost use Rattle.ov_certwriter.specs.Code.Writing.{WritesFirst};
 
+use crate::byte_putting::put_comma;
 use crate::entry_texts::Entry;
-use crate::reserved_memory::put_comma;
 use ov_ids::OutOfMemory;
 use ov_io::{Sink, WriteFault};
 use std::alloc::{AllocError, Global};

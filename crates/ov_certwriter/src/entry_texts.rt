@@ -1,11 +1,11 @@
-//! What puts the text of an entry of a certificate into memory that is there already, as `reserved_memory` does it; and
+//! What puts the text of an entry of a certificate into memory that is there already, as `byte_putting` does it; and
 //! the texts of lists of ids. An entry's room is the most bytes that its text needs.
 ghost use Rattle.std.specs.Prelude.{◌≤◌, ◌+◌, ◌*◌, length};
 ghost use Rattle.serde_json.specs.Written.{compact_text};
 ghost use Rattle.ov_certfile.specs.DataOf.{ids_data};
 ghost use Rattle.ov_certwriter.specs.Code.Blocks.{Puts};
 
-use crate::reserved_memory::{put_byte, put_comma, put_whole};
+use crate::byte_putting::{put_byte, put_comma, put_whole};
 use ov_ids::NodeId;
 
 /// An entry of a certificate, a pair or a fan.

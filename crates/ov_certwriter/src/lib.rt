@@ -4,13 +4,13 @@
 #![tactic(auto)]
 
 mod answer_by_places;
+mod byte_putting;
 mod certificate_writing;
 mod entries_by_places;
 mod entry_blocks;
 mod entry_rooms;
 mod entry_texts;
 mod path_texts;
-mod reserved_memory;
 mod text_around_entries;
 mod writing_fault;
 

@@ -1,5 +1,5 @@
 //! The texts of paths that are lists of places of nodes in the graph, put into memory that is there already, as
-//! `reserved_memory` does it. The id of each place is looked up as it is put. The paths of a certificate may be
+//! `byte_putting` does it. The id of each place is looked up as it is put. The paths of a certificate may be
 //! millions, so what is called for each stands in its caller when it is compiled.
 ghost use Rattle.std.specs.Prelude.{◌<◌, ◌≤◌, ◌+◌, ◌*◌, ℕ, [], length, Option};
 ghost use Rattle.serde_json.specs.Written.{compact_text};
@@ -10,7 +10,7 @@ ghost use Rattle.ov_certfile.specs.DataOf.{whole_data, ids_data, paths_data};
 ghost use Rattle.ov_certwriter.specs.Code.Blocks.{Puts, items_after, texts_room, entry_room};
 ghost use Rattle.ov_certwriter.specs.Code.Placed.{by_ids, ids_back};
 
-use crate::reserved_memory::{put_byte, put_comma, put_whole};
+use crate::byte_putting::{put_byte, put_comma, put_whole};
 use ov_flow::PlacePaths;
 use ov_graph::Graph;
 use ov_ids::NodeId;

@@ -3,7 +3,7 @@
 ghost use Rattle.std.specs.Prelude.{◌≡◌, ◌≤◌, ◌+◌, ◌-◌, length, string_bytes, IfOk};
 ghost use Rattle.serde_json.specs.Written.{compact_text};
 ghost use Rattle.ov_cert.specs.declared.cert.Cert.TheVariants as cert;
-ghost use Rattle.ov_certfile.specs.DataOf.{ids_data, data_of};
+ghost use Rattle.ov_certfile.specs.DataOf.{ids_data};
 ghost use Rattle.ov_certfile.specs.Forms.{last_moment};
 ghost use Rattle.ov_certwriter.specs.Code.Parts.{without_entries, cut_text, ArePartsOf};
 

@@ -16,7 +16,7 @@ use Rattle.ov_certfile.specs.declared.fault.FileFault.TheVariants.{OutOfMemory}
 use Rattle.ov_certfile.specs.FaultKinds.{Kind, NotJson, kind_of, kind_in}
 use Rattle.ov_certfile.specs.Kinds.{most_nodes_of}
 use Rattle.ov_certfile.specs.Says as file
-use Rattle.ov_certfile.specs.Says.{SaysFile, SaysText}
+use Rattle.ov_certfile.specs.Says.{SaysFile}
 use Rattle.ov_certfile.proofs.OneAnswer.{text_one}
 use Rattle.ov_check.specs.Outcome.{BytesSay, IsRefused, IsOutcome, AreAlike}
 use Rattle.ov_check.specs.declared.outcome_of_file_bytes.Outcome.{Outcome}

@@ -1,20 +1,20 @@
 -- The status of an analysis is that of what was answered.
-use Rattle.std.proofs.Common.{◌≡◌, ℕ, Bool, List, [], Option, Some, None, Result, Ok, Err, IfOk, option_map, refl}
-use Rattle.std.proofs.Common.{subst, string_bytes, sym}
+use Rattle.std.proofs.Common.{◌≡◌, ℕ, Bool, List, [], Option, Some, None, Result, Ok, Err, IfOk, IfSome, option_map}
+use Rattle.std.proofs.Common.{refl, string_bytes, subst, sym, inl, inr}
 use Rattle.ov_graph.specs.Links.{LinkGraph}
 use Rattle.ov_graphfile.specs.NamesState.{NamesState}
 use Rattle.ov_ids.specs.Sets.{without_all}
 use Rattle.ov_io.specs.Device.{SinkState}
-use Rattle.ov_answers.specs.Analysing.{IsAnalysis, IsAnalysisOf, PrintsAnswer}
+use Rattle.ov_answers.specs.Analysing.{IsAnalysis, PrintsAnswer}
 use Rattle.ov_answers.specs.Telling.{IsTelling, TellsAnswer}
 use Rattle.ov_answers.specs.declared.report_or_refusal.Answered.{Answered}
 use Rattle.ov_answers.specs.declared.report_or_refusal.Answered.TheVariants.{Report, NoNodes, BadGroup}
 use Rattle.ov_answers.proofs.Fewer.{loses_nobody}
 use Rattle.ov_arguments.specs.declared.arguments.AnalysisRequest.{AnalysisRequest}
-use Rattle.ov_commands.specs.Alarms.{IsAnswered, IsAnsweredOf, IsAskedBy, IsStatusAsked, IsStatusFor}
-use Rattle.ov_commands.specs.Naming.{AnalysisAsked, AreGone, AreListed, IsGoneGiven, IsGroupLeft, IsListGiven, WasTold}
-use Rattle.ov_commands.specs.Naming.{asked_of, picked}
-use Rattle.ov_commands.specs.Statuses.{HasAnalysed, alarm_status}
+use Rattle.ov_commands.specs.Alarms.{IsAnswered, IsAnsweredOf, IsAskedBy, IsStatusFor, IsStatusOfReader}
+use Rattle.ov_commands.specs.Naming.{AnalysisAsked, AreGone, AreListed, IsGoneGiven, IsGroupLeft, IsListGiven}
+use Rattle.ov_commands.specs.Naming.{WasAnalysed, WasPrintedAlone, WasTold, asked_of, picked}
+use Rattle.ov_commands.specs.Statuses.{alarm_status}
 use Rattle.ov_commands.specs.declared.command_fault.CommandFault.{CommandFault}
 use Rattle.ov_commands.specs.declared.node_lists.NodeLists.{NodeLists}
 
@@ -85,25 +85,31 @@ asked_by analysis lists gone group = record {
   least = refl;
 }
 
--- the status of an analysis without lists, of a reader whose bytes may be known
-pub status_printed : {W : Type 0} (analysis : AnalysisRequest) (asked : AnalysisAsked) (reader : Option (List ℕ))
-    (contents : W → Option (List ℕ)) (old new : SinkState W) (result : Result ℕ CommandFault)
-    → IsAskedBy analysis asked → asked.gone ≡ None → asked.group ≡ None
-    → HasAnalysed asked.least (IsAnalysisOf reader contents old asked.ids asked.certificate new) result
-    → IfOk result (IsStatusAsked analysis)
-status_printed analysis asked reader contents old new (Ok status) by no_gone no_group (Ok answered, is, same) =
-    let p = is.prints in
-    let answers = plain p.0 p.1 asked asked.certificate answered no_gone no_group p.3 in
-    let same_status : status ≡ alarm_status asked.least answered = cc in
-    (p.0, asked, by, (answered, answers, same_status))
-status_printed analysis asked reader contents old new (Ok status) by no_gone no_group (Err f, is, same) = absurd cc
-status_printed analysis asked reader contents old new (Err f) by no_gone no_group is = tt
+-- the status of an analysis of the graph file of these bytes
+module _ {W : Type 0} (bytes : List ℕ) (asked : AnalysisAsked) (contents : W → Option (List ℕ)) (old new : SinkState W)
+  where
+    status_told : (status : ℕ) → WasTold bytes asked contents old new (Ok status) → IsStatusFor bytes asked status
+    status_told status (gone, group, did, are, left, is, same) =
+        let t = is.tells in
+        (did.answered, more bytes t.0 asked gone group did.answered are left t.1, same)
 
--- the status of an analysis that tells more
-pub status_told : {W : Type 0} (analysis : AnalysisRequest) (bytes : List ℕ) (asked : AnalysisAsked)
-    (contents : W → Option (List ℕ)) (old new : SinkState W) (result : Result ℕ CommandFault)
-    → IsAskedBy analysis asked → WasTold bytes asked contents old new result → IfOk result (IsStatusAsked analysis)
-status_told analysis bytes asked contents old new (Ok status) by (gone, group, did, are, left, is, same) =
-    let t = is.tells in
-    (bytes, asked, by, (did.answered, more bytes t.0 asked gone group did.answered are left t.1, same))
-status_told analysis bytes asked contents old new (Err f) by is = tt
+    status_printed : (status : ℕ) → WasPrintedAlone bytes asked contents old new (Ok status)
+        → IsStatusFor bytes asked status
+    status_printed status (no_gone, no_group, no_names, (Ok answered, is, same)) =
+        let p = is.prints in
+        let answers = plain p.0 p.1 asked asked.certificate answered no_gone no_group p.3 in
+        let same_status : status ≡ alarm_status asked.least answered = cc in
+        (answered, subst (λ b. IsAnsweredOf b asked answered) p.2 answers, same_status)
+    status_printed status (no_gone, no_group, no_names, (Err f, is, same)) = absurd cc
+
+    status_of_bytes : (status : ℕ) → WasAnalysed bytes asked contents old new (Ok status)
+        → IsStatusFor bytes asked status
+    status_of_bytes status (inl is) = status_told status is
+    status_of_bytes status (inr is) = status_printed status is
+
+    -- and of a reader that had them
+    pub status_of_reader : (reader : Option (List ℕ)) (result : Result ℕ CommandFault)
+        → IfSome reader (λ xs. bytes ≡ xs) → WasAnalysed bytes asked contents old new result
+        → IfOk result (IsStatusOfReader reader asked)
+    status_of_reader reader (Ok status) same is = (bytes, same, status_of_bytes status is)
+    status_of_reader reader (Err f) same is = tt

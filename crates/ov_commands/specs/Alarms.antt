@@ -1,5 +1,5 @@
 -- With which status `overlay analyse` ends if it has no fault, by what its arguments ask for.
-use Rattle.std.specs.Prelude.{◌≡◌, ℕ, List, Option, option_map, string_bytes}
+use Rattle.std.specs.Prelude.{◌≡◌, ℕ, List, Option, IfSome, option_map, string_bytes}
 use Rattle.ov_graph.specs.Links.{LinkGraph, HasNode, IsGroup}
 use Rattle.ov_graphfile.specs.GraphFiles.{IsGraphFile}
 use Rattle.ov_cert.specs.Valid.{IsValidForGroup, k_of}
@@ -47,8 +47,13 @@ abbrev pub IsStatusFor : List ℕ → AnalysisAsked → ℕ → Type 0
 IsStatusFor bytes asked status =
     (answered : Answered) × IsAnsweredOf bytes asked answered × (status ≡ alarm_status asked.least answered)
 
--- the status of an analysis that these arguments ask for. The bytes of real files are known to no contract: the status
--- is that of the bytes that were read of the graph file, and of the texts that were read of files with lists
-abbrev pub IsStatusAsked : AnalysisRequest → ℕ → Type 0
-IsStatusAsked analysis status =
-    (bytes : List ℕ) × (asked : AnalysisAsked) × IsAskedBy analysis asked × IsStatusFor bytes asked status
+-- the status of what is answered of the graph file of a reader that had these bytes, if they are known
+abbrev pub IsStatusOfReader : Option (List ℕ) → AnalysisAsked → ℕ → Type 0
+IsStatusOfReader reader asked status =
+    (bytes : List ℕ) × IfSome reader (λ xs. bytes ≡ xs) × IsStatusFor bytes asked status
+
+-- the status of what these arguments ask for, of the graph file of such a reader. The bytes of the files of lists are
+-- known to no contract
+abbrev pub IsStatusAsked : Option (List ℕ) → AnalysisRequest → ℕ → Type 0
+IsStatusAsked reader analysis status =
+    (asked : AnalysisAsked) × IsAskedBy analysis asked × IsStatusOfReader reader asked status

@@ -6,7 +6,6 @@ use Rattle.ov_arguments.specs.declared.import_and_picture_requests.ImportRequest
 use Rattle.ov_dot.specs.FaultNumbers as dot
 use Rattle.ov_dot.specs.Readings.{SaysDump as SaysDot, IsRefused as IsDotFault}
 use Rattle.ov_dot.specs.declared.fault.DotFault.TheVariants as dot_fault
-use Rattle.ov_dump.specs.Faults.{IsDumpFault}
 use Rattle.ov_dump.specs.Faults as dump
 use Rattle.ov_dump.specs.declared.dump_and_graph_types.Choice.{Choice}
 use Rattle.ov_dump.specs.declared.dump_and_graph_types.Dump.{Dump}

@@ -13,11 +13,12 @@ use Rattle.ov_graphfile.specs.declared.group_names_fault.GroupFault.{GroupFault}
 use Rattle.ov_ids.specs.Sets.{without_all}
 use Rattle.ov_io.specs.Device.{SinkState}
 use Rattle.ov_lines.specs.Lines.{kept_lines}
+use Rattle.ov_answers.specs.Analysing.{IsAnalysisOf}
 use Rattle.ov_answers.specs.Telling.{IsToldOf}
 use Rattle.ov_answers.specs.declared.request.Told.{Told}
 use Rattle.ov_arguments.specs.declared.arguments.AnalysisRequest.{AnalysisRequest}
 use Rattle.ov_run_meaning.specs.declared.run_fault.RunFault.TheVariants as run
-use Rattle.ov_commands.specs.Statuses.{alarm_status}
+use Rattle.ov_commands.specs.Statuses.{HasAnalysed, alarm_status}
 use Rattle.ov_commands.specs.declared.command_fault.CommandFault.{CommandFault}
 use Rattle.ov_commands.specs.declared.command_fault.CommandFault.TheVariants.{Group, Run}
 use Rattle.ov_commands.specs.declared.node_lists.NodeLists.{NodeLists}
@@ -144,3 +145,17 @@ WasTold bytes asked contents old new (Err (Run fault)) =
 WasTold bytes asked contents old new (Err (Group fault)) =
     (NamesNobody bytes asked.named asked.gone fault ⊎ NamesNobody bytes asked.named asked.group fault) × (new ≡ old)
 WasTold bytes asked contents old new (Err other) = ⊥
+
+-- what came of an analysis of the graph file of these bytes that prints no lines with names, and for which no list is
+-- given: it is printed, and the status is that of the alarm
+abbrev pub WasPrintedAlone : {W : Type 0} → List ℕ → AnalysisAsked → (W → Option (List ℕ)) → SinkState W → SinkState W
+    → Result ℕ CommandFault → Type 0
+WasPrintedAlone bytes asked contents old new result =
+    (asked.gone ≡ None) × (asked.group ≡ None) × (asked.named ≡ false)
+    × HasAnalysed asked.least (IsAnalysisOf (Some bytes) contents old asked.ids asked.certificate new) result
+
+-- what came of an analysis of the graph file of these bytes
+abbrev pub WasAnalysed : {W : Type 0} → List ℕ → AnalysisAsked → (W → Option (List ℕ)) → SinkState W → SinkState W
+    → Result ℕ CommandFault → Type 0
+WasAnalysed bytes asked contents old new result =
+    WasTold bytes asked contents old new result ⊎ WasPrintedAlone bytes asked contents old new result

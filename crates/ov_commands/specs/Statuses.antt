@@ -1,8 +1,9 @@
 -- With which status the program ends after what a command did.
-use Rattle.std.specs.Prelude.{◌≡◌, ◌⊎◌, ℕ, nat_lt, Option, Some, None, Result, Ok, Err, if◌then◌else◌}
+use Rattle.std.specs.Prelude.{◌≡◌, ◌⊎◌, ℕ, nat_lt, List, Option, Some, None, Result, Ok, Err, if◌then◌else◌, IfSome}
 use Rattle.ov_answers.specs.declared.report_or_refusal.Answered.{Answered}
 use Rattle.ov_answers.specs.declared.report_or_refusal.Answered.TheVariants.{Report, NoNodes, BadGroup}
 use Rattle.ov_run_meaning.specs.declared.run_fault.RunFault.{RunFault}
+use Rattle.ov_run_meaning.specs.declared.run_fault.RunFault.TheVariants.{Read, OutOfMemory}
 use Rattle.ov_commands.specs.declared.command_fault.CommandFault.{CommandFault}
 use Rattle.ov_commands.specs.declared.command_fault.CommandFault.TheVariants.{OfFile, Run}
 use Rattle.ov_commands.specs.declared.conversion_fault.FileCommandFault.{FileCommandFault}
@@ -38,3 +39,11 @@ analysis_status least (Err fault) = Err (Run fault)
 abbrev pub HasAnalysed : Option ℕ → (Result Answered RunFault → Type 0) → Result ℕ CommandFault → Type 0
 HasAnalysed least Gives result =
     (answer : Result Answered RunFault) × Gives answer × (result ≡ analysis_status least answer)
+
+-- A command read all bytes of a reader, which are these if they are known, and did so with them, from what there was to
+-- what there is then. Or it did nothing, since the reader failed or memory ran out.
+abbrev pub HasRead : {S : Type 0} → Option (List ℕ) → S → S → (List ℕ → Result ℕ CommandFault → Type 0)
+    → Result ℕ CommandFault → Type 0
+HasRead reader old new Does result =
+    ((bytes : List ℕ) × IfSome reader (λ xs. bytes ≡ xs) × Does bytes result)
+    ⊎ (((result ≡ Err (Run Read)) ⊎ (result ≡ Err (Run OutOfMemory))) × (new ≡ old))

@@ -1,11 +1,11 @@
 //! The commands that turn one file into another.
-ghost use Rattle.std.specs.Prelude.{◌≡◌, ◌<◌, option_map, IfOk};
+ghost use Rattle.std.specs.Prelude.{◌≡◌, ◌<◌, option_map, Some, IfOk, IfSome};
 ghost use Rattle.ov_commands.specs.Dumps.{WasDumpPrinted};
 ghost use Rattle.ov_commands.specs.Pictures.{WasPicturePrinted, chosen_entry};
 ghost use Rattle.ov_commands.specs.Printing.{WasGraphPrinted};
 ghost use Rattle.ov_lines.specs.FileKinds.{behind_mark};
 ghost use Rattle.ov_io.specs.Device.{most_faults};
-ghost use Rattle.ov_commands.specs.Statuses.{HasDone, command_status};
+ghost use Rattle.ov_commands.specs.Statuses.{HasDone, HasRead, command_status};
 
 use crate::command_fault::CommandFault;
 use crate::conversion_fault::FileCommandFault;
@@ -15,9 +15,9 @@ use crate::picture_printing::print_picture;
 use ov_arguments::{ImportRequest, PictureRequest};
 use ov_io::Sink;
 use ov_lines::{FileKind, behind_mark};
-use ov_reasons::{bytes_asked, bytes_of_file, print_file_tip, tell_typing};
+use ov_reasons::{STANDARD_INPUT, bytes_of, opened, print_file_tip, tell_typing};
 use ov_run_meaning::RunFault;
-use std::io::Write;
+use std::io::{Read, Write};
 
 /// Makes a graph file of the dump of a file, or of standard input.
 pub fn import_asked(
@@ -28,32 +28,30 @@ pub fn import_asked(
     ensures status { IfOk result (λ status. status ≡ 0) }
 {
     tell_typing(rt, file.as_deref(), FileKind::Views);
-    let bytes = bytes_asked(rt, file.as_deref())?;
-    import_into(
-        rt,
-        &bytes,
-        file.as_deref(),
-        dump,
-        &mut Sink::new(rt.stdout()),
-    )
+    let mut sink = Sink::new(rt.stdout());
+    match file.as_deref() {
+        None => import_from(rt, rt.stdin(), None, dump, &mut sink),
+        Some(path) => import_from(rt, opened(rt, path)?, Some(path), dump, &mut sink),
+    }
 }
 
-/// Makes a graph file of the dump in these bytes, of the file of this name or of standard input. A byte order mark
-/// before the dump is passed over.
-fn import_into<W: Write>(
+/// Makes a graph file of the dump of a reader, of the file of this name or of standard input. A byte order mark before
+/// the dump is passed over.
+fn import_from<R: Read + Drop, W: Write>(
     rt: &HostRuntime,
-    bytes: &[u8],
+    reader: R,
     file: Option<&str>,
     dump: ImportRequest,
     sink: &mut Sink<W>,
 ) -> Result<u8, CommandFault>
     requires { sink.old.faults < most_faults }
-    ensures imported { HasDone
-        (WasDumpPrinted dump (behind_mark bytes.now) W.contents sink.old.writer sink.new.writer) result }
+    ensures imported { HasRead (R.remaining reader) sink.old.writer sink.new.writer (λ bytes. HasDone
+        (WasDumpPrinted dump (behind_mark bytes) W.contents sink.old.writer sink.new.writer)) result }
     ensures status { IfOk result (λ status. status ≡ 0) }
 {
-    let printed = print_dump(rt, behind_mark(bytes), dump, sink);
-    status_of(with_tip(rt, bytes, file, FileKind::Views, printed))
+    let bytes = bytes_of(rt, reader, file.unwrap_or(STANDARD_INPUT))?;
+    let printed = print_dump(rt, behind_mark(&bytes), dump, sink);
+    status_of(with_tip(rt, &bytes, file, FileKind::Views, printed))
 }
 
 /// Draws the graph of the certificate file of this name, or of standard input, with the names that another file gives.
@@ -65,44 +63,68 @@ pub fn picture_asked(
     ensures status { IfOk result (λ status. status ≡ 0) }
 {
     tell_typing(rt, file.as_deref(), FileKind::Certificate);
-    let bytes = bytes_asked(rt, file.as_deref())?;
-    let names = names_asked(rt, picture.names.as_deref())?;
     let mut sink = Sink::new(rt.stdout());
-    picture_into(
-        rt,
-        &bytes,
-        file.as_deref(),
-        names.as_deref(),
-        &picture,
-        &mut sink,
-    )
-}
-
-/// All bytes of the file with names, if there is one. The faults are those of `bytes_asked`.
-fn names_asked(rt: &HostRuntime, path: Option<&str>) -> Result<Option<Vec<u8>>, RunFault> {
-    match path {
-        None => Ok(None),
-        Some(path) => Ok(Some(bytes_of_file(rt, path)?)),
+    match file.as_deref() {
+        None => {
+            let names = names_asked(rt, picture.names.as_deref())?;
+            picture_from(rt, rt.stdin(), None, names.as_deref(), &picture, &mut sink)
+        }
+        Some(path) => {
+            let reader = opened(rt, path)?;
+            let names = names_asked(rt, picture.names.as_deref())?;
+            picture_from(
+                rt,
+                reader,
+                Some(path),
+                names.as_deref(),
+                &picture,
+                &mut sink,
+            )
+        }
     }
 }
 
-/// Draws the graph of the certificate file of these bytes, of the file of this name or of standard input, with the
-/// names that the bytes of another file give.
-fn picture_into<W: Write>(
+/// All bytes of the file with names, if there is one. The faults are those of `bytes_of`, and that it can't be opened
+/// (71).
+fn names_asked(rt: &HostRuntime, path: Option<&str>) -> Result<Option<Vec<u8>>, RunFault> {
+    match path {
+        None => Ok(None),
+        Some(path) => names_from(rt, opened(rt, path)?, path),
+    }
+}
+
+/// All bytes of a file with names, of which this is the reader and the name.
+fn names_from<R: Read + Drop>(
     rt: &HostRuntime,
-    bytes: &[u8],
+    reader: R,
+    path: &str,
+) -> Result<Option<Vec<u8>>, RunFault>
+    ensures { IfOk result (λ names. IfSome (R.remaining reader)
+        (λ xs. option_map (λ bytes. bytes.items) names ≡ Some xs)) }
+{
+    let bytes = bytes_of(rt, reader, path)?;
+    Ok(Some(bytes))
+}
+
+/// Draws the graph of the certificate file of a reader, of the file of this name or of standard input, with the names
+/// that the bytes of another file give.
+fn picture_from<R: Read + Drop, W: Write>(
+    rt: &HostRuntime,
+    reader: R,
     file: Option<&str>,
     names: Option<&[u8]>,
     picture: &PictureRequest,
     sink: &mut Sink<W>,
 ) -> Result<u8, CommandFault>
     requires { sink.old.faults < most_faults }
-    ensures drawn { HasDone (WasPicturePrinted bytes.now (option_map (λ file. file.now) names.entry)
-        (chosen_entry picture.now.entry) picture.now.dot W.contents sink.old.writer sink.new.writer) result }
+    ensures drawn { HasRead (R.remaining reader) sink.old.writer sink.new.writer (λ bytes. HasDone
+        (WasPicturePrinted bytes (option_map (λ file. file.now) names.entry) (chosen_entry picture.now.entry)
+        picture.now.dot W.contents sink.old.writer sink.new.writer)) result }
     ensures status { IfOk result (λ status. status ≡ 0) }
 {
-    let printed = print_picture(rt, bytes, names, picture, sink);
-    status_of(with_tip(rt, bytes, file, FileKind::Certificate, printed))
+    let bytes = bytes_of(rt, reader, file.unwrap_or(STANDARD_INPUT))?;
+    let printed = print_picture(rt, &bytes, names, picture, sink);
+    status_of(with_tip(rt, &bytes, file, FileKind::Certificate, printed))
 }
 
 /// Writes the graph of the certificate file of this name, or of standard input, as a graph file.
@@ -110,28 +132,33 @@ pub fn graph_asked(rt: &HostRuntime, file: Option<String>) -> Result<u8, Command
     ensures status { IfOk result (λ status. status ≡ 0) }
 {
     tell_typing(rt, file.as_deref(), FileKind::Certificate);
-    let bytes = bytes_asked(rt, file.as_deref())?;
-    graph_into(rt, &bytes, file.as_deref(), &mut Sink::new(rt.stdout()))
+    let mut sink = Sink::new(rt.stdout());
+    match file.as_deref() {
+        None => graph_from(rt, rt.stdin(), None, &mut sink),
+        Some(path) => graph_from(rt, opened(rt, path)?, Some(path), &mut sink),
+    }
 }
 
-/// Writes the graph of the certificate file of these bytes, of the file of this name or of standard input, as a graph
+/// Writes the graph of the certificate file of a reader, of the file of this name or of standard input, as a graph
 /// file.
-fn graph_into<W: Write>(
+fn graph_from<R: Read + Drop, W: Write>(
     rt: &HostRuntime,
-    bytes: &[u8],
+    reader: R,
     file: Option<&str>,
     sink: &mut Sink<W>,
 ) -> Result<u8, CommandFault>
     requires { sink.old.faults < most_faults }
-    ensures written { HasDone (WasGraphPrinted bytes.now W.contents sink.old.writer sink.new.writer) result }
+    ensures written { HasRead (R.remaining reader) sink.old.writer sink.new.writer
+        (λ bytes. HasDone (WasGraphPrinted bytes W.contents sink.old.writer sink.new.writer)) result }
     ensures status { IfOk result (λ status. status ≡ 0) }
 {
-    let printed = print_graph(rt, bytes, sink);
-    status_of(with_tip(rt, bytes, file, FileKind::Certificate, printed))
+    let bytes = bytes_of(rt, reader, file.unwrap_or(STANDARD_INPUT))?;
+    let printed = print_graph(rt, &bytes, sink);
+    status_of(with_tip(rt, &bytes, file, FileKind::Certificate, printed))
 }
 
 /// What the program returns after a command that did so: status 0, or the fault of the command.
-fn status_of(done: Result<(), FileCommandFault>) -> Result<u8, CommandFault>
+pub(crate) fn status_of(done: Result<(), FileCommandFault>) -> Result<u8, CommandFault>
     ensures returned { result ≡ command_status done }
     ensures status { IfOk result (λ status. status ≡ 0) }
 {

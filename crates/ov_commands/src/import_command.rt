@@ -1,4 +1,4 @@
-ghost use Rattle.std.specs.Prelude.{◌≡◌, ◌≢◌, ◌⊎◌, ◌+◌, ◌<◌, Err, IfOk, IfErr};
+ghost use Rattle.std.specs.Prelude.{◌≡◌, ◌<◌, Err, IfOk, IfErr};
 ghost use Rattle.ov_io.specs.Device.{most_faults};
 ghost use Rattle.ov_commands.specs.Dumps.{IsForm, IsUnreadDump, SaysDump, WasDumpPrinted, WasReadAndPrinted};
 ghost use Rattle.ov_commands.specs.Dumps.{command_fault, form_of_kind, number_of_unread};

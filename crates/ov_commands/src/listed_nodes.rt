@@ -7,7 +7,6 @@ ghost use Rattle.ov_commands.specs.declared.command_fault.CommandFault.TheVarian
 
 use crate::command_fault::CommandFault;
 use crate::node_lists::NodeLists;
-use ov_graph::Graph;
 use ov_graphfile::{GraphFileFault, GroupFault, Names, ids_of_group, read_named_graph};
 use ov_ids::NodeId;
 use ov_io::shown_name;

@@ -1,24 +1,25 @@
 //! Lists of nodes that an analysis is asked for, as texts: in the command line, or in files.
-ghost use Rattle.std.specs.Prelude.{◌≡◌, ◌↔◌, ℕ, List, [], ◌∷◌, drop, option_map, string_bytes, IfOk, IsTrue};
-ghost use Rattle.std.specs.Prelude.{MatchOption, None, Some, Ok};
+ghost use Rattle.std.specs.Prelude.{◌≡◌, ◌↔◌, ◌⊎◌, ℕ, List, [], ◌∷◌, drop, option_map, string_bytes, IfOk, IfErr};
+ghost use Rattle.std.specs.Prelude.{IfSome, IsTrue, MatchOption, None, Some, Ok};
 ghost use Rattle.ov_commands.specs.Naming.{list_text, NamesFile, NamesFileGiven, IsListText, IsListGiven, IsGoneGiven};
 
 use ov_arguments::AnalysisRequest;
 use ov_lines::KeptLines;
-use ov_reasons::{bytes_of_file, without_memory};
+use ov_reasons::{bytes_of, opened, without_memory};
 use ov_run_meaning::RunFault;
 use std::alloc::{AllocError, Global};
+use std::io::Read;
 
 /// What an argument begins with that names the file of a list.
 const FILE: char = '@';
 
 /// The texts of the lists that are given: parts with a comma between two, each the name or the id of a node.
 #[derive(Drop)]
-pub(crate) struct NodeLists {
+pub struct NodeLists {
     /// The members of the group, unless their ids are given, or no group is.
-    pub(crate) group: Option<Vec<u8>>,
+    pub group: Option<Vec<u8>>,
     /// The nodes that are gone.
-    pub(crate) gone: Option<Vec<u8>>,
+    pub gone: Option<Vec<u8>>,
 }
 
 impl NodeLists {
@@ -106,7 +107,7 @@ fn text_of(rt: &HostRuntime, argument: &str) -> Result<Vec<u8>, RunFault>
 {
     match path_in(argument) {
         Some(path) => {
-            let text = text_in_file(rt, path)?;
+            let text = text_from(rt, opened(rt, path)?, path)?;
             Ok(text)
         }
         None => {
@@ -116,18 +117,21 @@ fn text_of(rt: &HostRuntime, argument: &str) -> Result<Vec<u8>, RunFault>
     }
 }
 
-/// The text of the list in the file of this name.
-fn text_in_file(rt: &HostRuntime, path: &str) -> Result<Vec<u8>, RunFault>
-    ensures { IfOk result (λ text. (bytes : List ℕ) × (text.items ≡ list_text bytes)) }
+/// The text of the list in a file, of which this is the reader and the name.
+fn text_from<R: Read + Drop>(rt: &HostRuntime, reader: R, path: &str) -> Result<Vec<u8>, RunFault>
+    ensures text { IfOk result (λ text. IfSome (R.remaining reader) (λ xs. text.items ≡ list_text xs)) }
+    ensures list { IfOk result (λ text. (bytes : List ℕ) × (text.items ≡ list_text bytes)) }
+    ensures fault { IfErr result (λ fault. (fault ≡ RunFault.Read) ⊎ (fault ≡ RunFault.OutOfMemory)) }
 {
-    let bytes = bytes_of_file(rt, path)?;
+    let bytes = bytes_of(rt, reader, path)?;
     let text = made(rt, list_text(rt.alloc(), &bytes))?;
     Ok(text)
 }
 
 /// A text that was made, unless memory ran out.
 fn made(rt: &HostRuntime, text: Result<Vec<u8>, AllocError>) -> Result<Vec<u8>, RunFault>
-    ensures { IfOk result (λ v. text ≡ Ok v) }
+    ensures made { IfOk result (λ v. text ≡ Ok v) }
+    ensures memory { IfErr result (λ fault. fault ≡ RunFault.OutOfMemory) }
 {
     match text {
         Ok(text) => Ok(text),

@@ -1,13 +1,13 @@
 -- The hauls and the seats of a crew, put together from what each worker returned.
 use Rattle.std.proofs.Common.{◌≡◌, ℕ, zero, suc, ◌+◌, ◌^◌, ◌<◌, true, List, [], ◌∷◌, ◌++◌, length, Ok}
-use Rattle.std.proofs.Common.{slice_get, Some, refl, sym, ap, ◌∙◌, subst, inl, inr, arith}
+use Rattle.std.proofs.Common.{slice_get, Some, refl, sym, ap, ◌∙◌, arith}
 use Rattle.std.proofs.lemmas.Option.{same_Some, slice_get-get_or}
 use Rattle.std.specs.Prelude.{All}
-use Rattle.ov_ids.specs.Members.{Has}
 use Rattle.ov_graph.specs.Links.{LinkGraph}
 use Rattle.ov_board.specs.Board.{BoardState, SeatState, new_seat}
 use Rattle.ov_even.specs.Levels.{AreNumbersOf}
 use Rattle.ov_even.specs.declared.worker_haul.Haul.{Haul}
+use Rattle.ov_even.specs.declared.worker_haul.Keeping.{Keeping}
 use Rattle.ov_crew.specs.Code.Crews.{IsNewAt, IsRange, Outcome, HasWorked, outcomes, AreHaulsOf}
 
 -- one more worker
@@ -37,35 +37,27 @@ all_new b seats n long has i d low =
     let is = same_Some _ _ (sym (slice_get-get_or seats i d low) ∙ has i (omega (arith, low, long))) in
     (ap (λ (s : SeatState). s.board) is, ap (λ (s : SeatState). s.worker) is)
 
--- what holds of all holds of each
-pub each_of_all : {X : Type 0} (P : X → Type 0) (xs : List X) (x : X) → All P xs → Has xs x → P x
-each_of_all P [] x all h = absurd h
-each_of_all P (y ∷ ys) x all h = elim h [
-  | inl e ↦ subst P e (all 0 y (omega arith))
-  | inr k ↦ each_of_all P ys x (λ i d low. all (suc i) d (omega (arith, low))) k
-]
-
 -- what is known of workers that have worked at the board and were not out of memory
-pub record HaveAllWorked (g : LinkGraph) (q : List ℕ) (first : ℕ) (b : BoardState) (seats : List SeatState)
-    (brought : List Haul) : Type 0 where
-  pub hauls : AreHaulsOf g q first seats brought
+pub record HaveAllWorked (keeping : Keeping) (g : LinkGraph) (q : List ℕ) (first : ℕ) (b : BoardState)
+    (seats : List SeatState) (brought : List Haul) : Type 0 where
+  pub hauls : AreHaulsOf keeping g q first seats brought
   pub board : All (λ s. s.board ≡ b) seats
   pub ended : All (λ s. s.worker.ended ≡ true) seats
 
-pub all_worked : (g : LinkGraph) (q : List ℕ) (first : ℕ) (b : BoardState) (seats : List SeatState)
-    (hauls : List Haul) → length hauls ≡ length seats → All (HasWorked g q first b) (outcomes hauls seats)
-    → HaveAllWorked g q first b seats hauls
-all_worked g q first b [] [] e all = record {
+pub all_worked : (keeping : Keeping) (g : LinkGraph) (q : List ℕ) (first : ℕ) (b : BoardState)
+    (seats : List SeatState) (hauls : List Haul) → length hauls ≡ length seats
+    → All (HasWorked keeping g q first b) (outcomes hauls seats) → HaveAllWorked keeping g q first b seats hauls
+all_worked keeping g q first b [] [] e all = record {
   hauls = tt;
   board = λ i d low. absurd (omega (arith, low));
   ended = λ i d low. absurd (omega (arith, low));
 }
-all_worked g q first b [] (h ∷ hauls) e all = absurd (omega arith)
-all_worked g q first b (s ∷ seats) [] e all = absurd (omega arith)
-all_worked g q first b (s ∷ seats) (h ∷ hauls) e all =
+all_worked keeping g q first b [] (h ∷ hauls) e all = absurd (omega arith)
+all_worked keeping g q first b (s ∷ seats) [] e all = absurd (omega arith)
+all_worked keeping g q first b (s ∷ seats) (h ∷ hauls) e all =
     let o : Outcome = (Ok h, s) in
     let k = all 0 o (omega arith) in
-    let r = all_worked g q first b seats hauls (omega arith) (λ i d low. all (suc i) d (omega (arith, low))) in
+    let r = all_worked keeping g q first b seats hauls (omega arith) (λ i d low. all (suc i) d (omega (arith, low))) in
     record {
       hauls = (k.haul, r.hauls);
       board = both (λ t. t.board ≡ b) k.board r.board;

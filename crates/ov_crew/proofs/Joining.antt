@@ -1,7 +1,7 @@
 -- A list is cut into parts, and joined again.
 use Rattle.std.proofs.Common.{◌≡◌, ℕ, zero, suc, ◌+◌, List, [], ◌∷◌, ◌++◌, length, slice_get, take, drop}
-use Rattle.std.proofs.Common.{Some, map, refl, sym, ◌∙◌, ap, subst, inl, inr, arith, append_assoc}
-use Rattle.std.proofs.lemmas.List.{take-map, drop-map, length-append, length-map, map-append, take-append-drop}
+use Rattle.std.proofs.Common.{Some, map, refl, sym, ◌∙◌, ap, subst, inl, inr, arith}
+use Rattle.std.proofs.lemmas.List.{take-map, drop-map}
 use Rattle.ov_ids.specs.Members.{Has}
 
 take_nil : {X : Type 0} (n : ℕ) → take {A = X} n [] ≡ []
@@ -42,30 +42,3 @@ map_part f xs part size start e =
 pub at_next : {X : Type 0} (seen rest : List X) (x : X) → slice_get (seen ++ x ∷ rest) (length seen) ≡ Some x
 at_next [] rest x = refl
 at_next (y ∷ seen) rest x = at_next seen rest x
-
-drop_nil : {X : Type 0} (n : ℕ) → drop {A = X} n [] ≡ []
-drop_nil zero = refl
-drop_nil (suc n) = refl
-
-drop_more : {X : Type 0} (a b : ℕ) (xs : List X) → drop (a + b) xs ≡ drop b (drop a xs)
-drop_more zero b xs = let e : 0 + b ≡ b = omega arith in ap (λ (n : ℕ). drop n xs) e
-drop_more (suc a) b [] = drop_nil (suc a + b) ∙ sym (drop_nil b)
-drop_more (suc a) b (x ∷ xs) = let e : suc a + b ≡ suc (a + b) = omega arith in rw e (drop_more a b xs)
-
--- the first items, and those behind as many
-taken_first : {X : Type 0} (next xs : List X) → next ≡ take (length next) xs → next ++ drop (length next) xs ≡ xs
-taken_first next xs e = ap (λ l. l ++ drop (length next) xs) e ∙ take-append-drop (length next) xs
-
--- what the next items are mapped to goes behind that of those so far
-pub next_mapped : {X Y : Type 0} (f : X → Y) (xs next : List X) (done : List Y)
-    → next ≡ take (length next) (drop (length done) xs) → done ++ map f (drop (length done) xs) ≡ map f xs
-    → (done ++ map f next) ++ map f (drop (length (done ++ map f next)) xs) ≡ map f xs
-next_mapped f xs next done e is =
-    let rest = drop (length done) xs in
-    let later = drop (length next) rest in
-    let long : length (done ++ map f next) ≡ length done + length next =
-    length-append done (map f next) ∙ ap (λ n. length done + n) (length-map next f) in
-    let left : drop (length (done ++ map f next)) xs ≡ later =
-    ap (λ (n : ℕ). drop n xs) long ∙ drop_more (length done) (length next) xs in
-    ap (λ l. (done ++ map f next) ++ map f l) left ∙ append_assoc done (map f next) (map f later)
-    ∙ ap (λ l. done ++ l) (sym (map-append f next later) ∙ ap (map f) (taken_first next rest e)) ∙ is

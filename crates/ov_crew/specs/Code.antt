@@ -3,5 +3,4 @@ pub mod Turns
 pub mod Crews
 pub mod Parts
 pub mod Ascending
-pub mod Examined
-pub mod Searched
+pub mod Kept

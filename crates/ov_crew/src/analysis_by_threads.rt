@@ -1,22 +1,23 @@
 //! The analysis of a graph and a group by several workers, each in a thread of its own.
-ghost use Rattle.std.specs.Prelude.{◌≡◌, ℕ, ◌<◌, ◌+◌, length, All, IfOk, IfErr, OnOk, true};
-ghost use Rattle.ov_graph.specs.Links.{IsGroup, IsWithinLimit, AreAllLinked};
+ghost use Rattle.std.specs.Prelude.{◌≡◌, ℕ, length, All, IfOk, IfErr, true};
+ghost use Rattle.ov_graph.specs.Links.{IsGroup};
 ghost use Rattle.ov_even.specs.Answer.{IsAnalysed, IsCheckedAnswer};
-ghost use Rattle.ov_even.specs.Hauls.{AreRight, IsSettledGroup, Suffice};
+ghost use Rattle.ov_even.specs.Hauls.{AreRight, IsSettledGroup, IsSettledKeeping, Suffice, SufficeKeeping};
 ghost use Rattle.ov_even.specs.Levels.{AreNumbersOf, IsTried};
+ghost use Rattle.ov_even.specs.Outlines.{IsOutlined};
 ghost use Rattle.ov_even.specs.declared.fault.AnalyseFault.TheVariants.{OutOfMemory as out_of_memory};
-ghost use Rattle.ov_crew.specs.Hauls.{IsHaulOf};
 ghost use Rattle.ov_crew.specs.Code.Crews.{IsNewAt, IsRange, HasWorked, outcomes};
 
 use crate::hook_after_claim::Gate;
 use crate::parallel_paths_by_ids::name_by_crew;
 use crate::threads_by_amount_of_work::Hiring;
-use crate::worker::work_range;
+use crate::worker::work_range_keeping;
 use ov_board::{Board, Seat};
-use ov_cert::{Checked, are_all_linked};
+use ov_cert::{Cert, Checked, are_all_linked};
 use ov_even::{
-    AnalyseFault, Haul, LevelNumbers, LevelSearch, Searched, Unwatched, Watcher,
-    analyse_group_watched as analyse_by_one, assemble_named, level_numbers,
+    AnalyseFault, Haul, Keeping, LevelNumbers, LevelSearch, Searched, Unwatched, Watcher,
+    analyse_group_watched as analyse_by_one, assemble_named, judge_group, level_numbers,
+    outline_group_watched as outline_by_one, outline_of_hauls,
     settle_group_watched as settle_by_one, wanted_paths,
 };
 use ov_graph::Graph;
@@ -95,7 +96,8 @@ fn analyse_by<R: Threads + Sync, G: Gate, W: Watcher>(
 ) -> Result<Checked, AnalyseFault>
     ensures analysed { IsAnalysed graph.now group.now result }
 {
-    let mut hauls = settle_by(rt, alloc, graph, group, hiring, gate, watcher)?;
+    let keeping = Keeping::EachPiece;
+    let mut hauls = settle_by(rt, alloc, graph, group, hiring, keeping, gate, watcher)?;
     let answer = assembled(rt, alloc, graph, group, &hauls, hiring);
     clear_by_crew(rt, &mut hauls, hiring.workers);
     answer
@@ -122,28 +124,52 @@ pub fn settle_group_watched<R: Threads + Sync, G: Gate, W: Watcher>(
         workers,
         sparing: true,
     };
-    settle_by(rt, alloc, graph, group, &hiring, gate, watcher)
+    let keeping = Keeping::EachPiece;
+    settle_by(rt, alloc, graph, group, &hiring, keeping, gate, watcher)
 }
 
-/// The settling by these workers.
+/// Finds the fewest node crashes that split a group, and the cut of an analysis, as `analyse_group_watched` does, but
+/// keeps no paths: the certificate is the outline of one that is valid (Even, SIAM J. Comput. 4, 1975). Workers, gate
+/// and watcher are as there. Faults, in this order: NoNodes (30), the graph has no node; BadGroup (34), the members are
+/// no group. OutOfMemory (99) is returned only if neither applies.
+pub fn outline_group_watched<R: Threads + Sync, G: Gate, W: Watcher>(
+    rt: &R,
+    alloc: Global,
+    graph: &Graph,
+    group: &[NodeId],
+    workers: Workers,
+    gate: &G,
+    watcher: &mut W,
+) -> Result<Cert, AnalyseFault>
+    ensures outlined { IsOutlined graph.now group.now result }
+{
+    if workers == Workers::ONE {
+        return outline_by_one(alloc, graph, group, watcher);
+    }
+    let hiring = Hiring {
+        workers,
+        sparing: true,
+    };
+    let keeping = Keeping::CutsAlone;
+    let hauls = settle_by(rt, alloc, graph, group, &hiring, keeping, gate, watcher)?;
+    Ok(outline_of_hauls(alloc, graph, group, &hauls)?)
+}
+
+/// The settling by these workers, whose hauls keep this.
 fn settle_by<R: Threads + Sync, G: Gate, W: Watcher>(
     rt: &R,
     alloc: Global,
     graph: &Graph,
     group: &[NodeId],
     hiring: &Hiring,
+    keeping: Keeping,
     gate: &G,
     watcher: &mut W,
 ) -> Result<Vec<Haul>, AnalyseFault>
-    ensures settled { IsSettledGroup graph.now group.now result }
+    ensures settled { IsSettledKeeping keeping graph.now group.now result }
 {
-    if graph.nodes().is_empty() {
-        return Err(AnalyseFault::NoNodes);
-    }
-    if !graph.is_group(group) {
-        return Err(AnalyseFault::BadGroup);
-    }
-    Ok(enough(rt, alloc, graph, group, hiring, gate, watcher)?)
+    judge_group(graph, group)?;
+    Ok(enough(rt, alloc, graph, group, hiring, keeping, gate, watcher)?)
 }
 
 /// Drops the pieces of these hauls, in as many threads as there are workers. On dense graphs their paths take hundreds
@@ -172,29 +198,30 @@ fn assembled<R: Threads + Sync>(
     assemble_named(alloc, graph, group, hauls, named)
 }
 
-/// Settles enough pieces for a certificate: none if every two members are linked.
+/// Settles enough pieces: none if every two members are linked.
 fn enough<R: Threads + Sync, G: Gate, W: Watcher>(
     rt: &R,
     alloc: Global,
     graph: &Graph,
     group: &[NodeId],
     hiring: &Hiring,
+    keeping: Keeping,
     gate: &G,
     watcher: &mut W,
 ) -> Result<Vec<Haul>, OutOfMemory>
     requires { IsGroup graph.now group.now }
-    ensures { IfOk result (λ hauls. Suffice graph.now group.now hauls.items) }
+    ensures { IfOk result (λ hauls. SufficeKeeping keeping graph.now group.now hauls.items) }
 {
     if are_all_linked(graph, group) {
         return Ok(Vec::new(alloc));
     }
-    let mut levels = LevelSearch::new(alloc, graph, group);
+    let mut levels = LevelSearch::new(alloc, graph, group, keeping);
     loop {
         let level = levels.level();
         let numbers = level_numbers(graph.nodes().len(), group.len(), level);
         watcher.sees(level, 0, numbers.size as usize);
         let workers = hiring.workers_for(graph, group, level);
-        let hauls = try_level(rt, alloc, graph, group, numbers, workers, gate)?;
+        let hauls = try_level(rt, alloc, graph, group, numbers, workers, keeping, gate)?;
         match levels.take(hauls)? {
             Searched::Enough(hauls) => return Ok(hauls),
             Searched::Again(next) => levels = next,
@@ -210,6 +237,7 @@ fn try_level<R: Threads + Sync, G: Gate>(
     group: &[NodeId],
     numbers: LevelNumbers,
     workers: Workers,
+    keeping: Keeping,
     gate: &G,
 ) -> Result<Vec<Haul>, OutOfMemory>
     requires group { IsGroup graph.now group.now }
@@ -217,10 +245,19 @@ fn try_level<R: Threads + Sync, G: Gate>(
     ensures right { IfOk result (λ hauls. AreRight graph.now group.now hauls.items) }
     ensures tried { (level : ℕ)
         → AreNumbersOf (length graph.now.nodes) (length group.now) level numbers.first numbers.size
-        → IfOk result (λ hauls. IsTried graph.now group.now hauls.items level) }
+        → IfOk result (λ hauls. IsTried keeping graph.now group.now hauls.items level) }
 {
     let (board, seats) = Board::new(alloc, numbers.size, workers)?;
-    let done = run(rt, &board, graph, group, numbers.first, seats, gate)?;
+    let done = run(
+        rt,
+        &board,
+        graph,
+        group,
+        numbers.first,
+        seats,
+        keeping,
+        gate,
+    )?;
     let (hauls, seats) = gather(alloc, done)?;
     board.close(seats);
     Ok(hauls)
@@ -237,20 +274,21 @@ fn run<R: Threads + Sync, G: Gate>(
     group: &[NodeId],
     first: u64,
     seats: Vec<Seat>,
+    keeping: Keeping,
     gate: &G,
 ) -> Result<Vec<Outcome>, OutOfMemory>
     requires group { IsGroup graph.now group.now }
     requires range { IsRange graph.now group.now first board.now.total }
     requires new { All (IsNewAt board.now) seats.items }
     ensures count { IfOk result (λ done. length done.items ≡ length seats.items) }
-    ensures each { IfOk result (λ done. All (HasWorked graph.now group.now first board.now) done.items) }
+    ensures each { IfOk result (λ done. All (HasWorked keeping graph.now group.now first board.now) done.items) }
 {
     let alloc = *seats.allocator();
     let work = |seat: Seat| -> (Result<Haul, OutOfMemory>, Seat)
         requires { IsNewAt board.now seat × IsGroup graph.now group.now
             × IsRange graph.now group.now first board.now.total }
-        ensures { HasWorked graph.entry.now group.entry.now first board.entry.now result }
-    { work_range(alloc, board, graph, group, first, seat, gate) };
+        ensures { HasWorked keeping graph.entry.now group.entry.now first board.entry.now result }
+    { work_range_keeping(alloc, board, graph, group, first, keeping, seat, gate) };
     Ok(thread::map_vec(rt, seats, &work)?)
 }
 

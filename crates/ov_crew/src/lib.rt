@@ -3,17 +3,14 @@
 
 mod analysis_by_threads;
 mod ascending_piece_lookup;
-mod cut_worker;
 mod hook_after_claim;
 mod memory_set_aside;
 mod parallel_paths_by_ids;
-mod pathless_analysis_by_threads;
 mod threads_by_amount_of_work;
 mod worker;
 
 pub use analysis_by_threads::{
-    analyse, analyse_group, analyse_group_watched, settle_group_watched,
+    analyse, analyse_group, analyse_group_watched, outline_group_watched, settle_group_watched,
 };
 pub use hook_after_claim::{Gate, OpenGate};
-pub use pathless_analysis_by_threads::outline_group_watched;
 pub use worker::{work, work_group, work_range};

@@ -1,10 +1,9 @@
 //! Names paths by ids in several threads.
-ghost use Rattle.std.specs.Prelude.{◌≡◌, ℕ, ◌<◌, ◌≤◌, ◌*◌, List, length, map, take, drop, IfOk};
+ghost use Rattle.std.specs.Prelude.{◌≡◌, ℕ, ◌<◌, ◌≤◌, ◌*◌, List, length, map, IfOk};
 ghost use Rattle.ov_even.specs.Naming.{AreFound, named_of};
 ghost use Rattle.ov_even.specs.declared.paths_by_ids.NamedPaths.{NamedPaths as named_paths};
 ghost use Rattle.ov_crew.specs.Code.Parts.{AreParts};
 
-use crate::memory_set_aside::{PIECES_AT_ONCE, set_aside_for_names};
 use crate::threads_by_amount_of_work::Hiring;
 use ov_even::{FoundPaths, NamedPaths, name_paths};
 use ov_graph::Graph;
@@ -52,39 +51,8 @@ fn name_parts<R: Threads + Sync>(
     let name = |_start: usize, part: &[FoundPaths<'_>]| -> Result<Vec<NamedPaths>, OutOfMemory>
         requires { AreFound graph.now group.now part.now }
         ensures { IfOk result (λ named. named.items ≡ map (named_of graph.entry.now group.entry.now) part.entry.now) }
-    { name_part(alloc, graph, group, part) };
+    { name_paths(alloc, graph, group, part) };
     Ok(thread::map_chunks(rt, alloc, found, size, &name)?)
-}
-
-/// The pieces of a part with their paths by ids. Memory is set aside for some of them at a time.
-fn name_part(
-    alloc: Global,
-    graph: &Graph,
-    group: &[NodeId],
-    part: &[FoundPaths<'_>],
-) -> Result<Vec<NamedPaths>, OutOfMemory>
-    requires { AreFound graph.now group.now part.now }
-    ensures { IfOk result (λ named. named.items ≡ map (named_of graph.now group.now) part.now) }
-{
-    let mut all = Vec::with_capacity(alloc, part.len())?;
-    while all.len() < part.len() {
-        let next = next_pieces(part, all.len());
-        set_aside_for_names(alloc, next);
-        let mut named = name_paths(alloc, graph, group, next)?;
-        all.append(&mut named)?;
-    }
-    Ok(all)
-}
-
-/// The next pieces behind so many that are named.
-fn next_pieces<'a, 'b>(part: &'a [FoundPaths<'b>], named: usize) -> &'a [FoundPaths<'b>]
-    requires { named < length part.now }
-    ensures next { result.now ≡ take (length result.now) (drop named part.now) }
-    ensures some { 0 < length result.now }
-{
-    let (_, rest) = part.split_at(named);
-    let (next, _) = rest.split_at(PIECES_AT_ONCE.min(rest.len()));
-    next
 }
 
 /// All parts in one list. Faults: out of memory, if any part is out of memory.

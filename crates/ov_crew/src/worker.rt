@@ -5,17 +5,19 @@ ghost use Rattle.ov_ids.specs.Limits.{number_limit};
 ghost use Rattle.ov_ids.specs.Members.{Has};
 ghost use Rattle.ov_graph.specs.Links.{IsGroup};
 ghost use Rattle.ov_fans.specs.Pieces.{IsPiece};
-ghost use Rattle.ov_fans.specs.Cuts.{IsRight};
 ghost use Rattle.ov_board.specs.Claims.{fresh};
+ghost use Rattle.ov_even.specs.Hauls.{IsKeptOf};
 ghost use Rattle.ov_even.specs.Order.{AreMoreThan, AreSoMany};
 ghost use Rattle.ov_crew.specs.Hauls.{IsHaulOf};
-ghost use Rattle.ov_crew.specs.Code.Turns.{HasTaken, HasStopped, HasSettled};
+ghost use Rattle.ov_crew.specs.Code.Crews.{IsRange};
+ghost use Rattle.ov_crew.specs.Code.Kept.{IsHaulKeeping};
+ghost use Rattle.ov_crew.specs.Code.Turns.{HasTaken, HasStopped, HasSettledKeeping};
 
 use crate::ascending_piece_lookup::AscendingPieces;
 use crate::hook_after_claim::Gate;
 use crate::memory_set_aside::set_memory_aside;
 use ov_board::{Board, Seat};
-use ov_even::Haul;
+use ov_even::{Haul, Keeping, settle_keeping};
 use ov_fans::{Piece, Settled, Settler};
 use ov_graph::Graph;
 use ov_ids::{NodeId, OutOfMemory};
@@ -44,7 +46,32 @@ pub fn work_range<G: Gate>(
     ensures ended { OnOk result.0 (result.1.worker.ended ≡ true) }
     ensures haul { IfOk result.0 (λ h. IsHaulOf graph.now group.now first result.1.worker h.pieces.items) }
 {
-    set_memory_aside(alloc, board.total());
+    let keeping = Keeping::EachPiece;
+    work_range_keeping(alloc, board, graph, group, first, keeping, seat, gate)
+}
+
+/// Does what `work_range` does, with a haul that keeps this.
+pub(crate) fn work_range_keeping<G: Gate>(
+    alloc: Global,
+    board: &Board,
+    graph: &Graph,
+    group: &[NodeId],
+    first: u64,
+    keeping: Keeping,
+    seat: Seat,
+    gate: &G,
+) -> (Result<Haul, OutOfMemory>, Seat)
+    requires group { IsGroup graph.now group.now }
+    requires mine { seat.board ≡ board.now }
+    requires new { seat.worker ≡ fresh }
+    requires range { IsRange graph.now group.now first board.now.total }
+    ensures board { result.1.board ≡ seat.board }
+    ensures number { result.1.number ≡ seat.number }
+    ensures ended { OnOk result.0 (result.1.worker.ended ≡ true) }
+    ensures haul { IfOk result.0 (λ h.
+        IsHaulKeeping keeping graph.now group.now first result.1.worker h.pieces.items) }
+{
+    set_memory_aside(alloc, board.total(), keeping);
     let mut settler = match Settler::new(alloc, graph, group) {
         Ok(settler) => settler,
         Err(fault) => return (Err(fault), seat),
@@ -58,7 +85,15 @@ pub fn work_range<G: Gate>(
             return (Ok(Haul { pieces }), taken);
         };
         let piece = order.piece_at(first + number);
-        let (done, settled) = settle_piece(board, &mut settler, piece, number, &mut pieces, taken);
+        let (done, settled) = settle_piece(
+            board,
+            &mut settler,
+            piece,
+            number,
+            keeping,
+            &mut pieces,
+            taken,
+        );
         if let Err(fault) = done {
             return (Err(fault), settled);
         }
@@ -88,12 +123,13 @@ pub(crate) fn take_number<G: Gate>(board: &Board, seat: Seat, gate: &G) -> (Opti
     (Some(number), looked)
 }
 
-/// Settles the piece of a number, and reports a cut.
+/// Settles the piece of a number, keeps what is to be kept of it, and reports a cut.
 fn settle_piece(
     board: &Board,
     settler: &mut Settler<'_>,
     piece: Piece,
     number: u64,
+    keeping: Keeping,
     pieces: &mut Vec<Settled>,
     seat: Seat,
 ) -> (Result<(), OutOfMemory>, Seat)
@@ -103,12 +139,15 @@ fn settle_piece(
     ensures stays { settler.new ≡ settler.old }
     ensures board { result.1.board ≡ seat.board }
     ensures number { result.1.number ≡ seat.number }
-    ensures settled { OnOk result.0 (HasSettled settler.old.graph settler.old.members piece number seat.worker
-        result.1.worker pieces.old.items pieces.new.items) }
+    ensures settled { OnOk result.0 (HasSettledKeeping keeping settler.old.graph settler.old.members piece number
+        seat.worker result.1.worker pieces.old.items pieces.new.items) }
 {
-    let settled = match settle_with_room(settler, piece, pieces) {
-        Ok(settled) => settled,
+    let kept = match settle_with_room(settler, piece, keeping, pieces) {
+        Ok(kept) => kept,
         Err(fault) => return (Err(fault), seat),
+    };
+    let Some(settled) = kept else {
+        return (Ok(()), seat);
     };
     let seat = if settled.is_cut() {
         board.fail(number, seat)
@@ -123,17 +162,17 @@ fn settle_piece(
 fn settle_with_room(
     settler: &mut Settler<'_>,
     piece: Piece,
+    keeping: Keeping,
     pieces: &mut Vec<Settled>,
-) -> Result<Settled, OutOfMemory>
+) -> Result<Option<Settled>, OutOfMemory>
     requires { IsPiece settler.old.graph settler.old.members piece }
-    ensures piece { IfOk result (λ s. s.piece ≡ piece) }
-    ensures right { IfOk result (λ s. IsRight settler.old.graph settler.old.members s) }
+    ensures kept { IfOk result (IsKeptOf keeping settler.old.graph settler.old.members piece) }
     ensures room { OnOk result (length pieces.new.items < vec_capacity pieces.new) }
     ensures pieces { pieces.new.items ≡ pieces.old.items }
     ensures stays { settler.new ≡ settler.old }
 {
     pieces.reserve(1)?;
-    settler.settle(piece)
+    settle_keeping(settler, piece, keeping)
 }
 
 /// Settles the pieces of a group, all of whose numbers the board shares out. See `work_range`.

@@ -1,11 +1,13 @@
 -- What a drawing has of a graph, a group and a certificate: each node with its class, and whether it is a member; each
--- link with its class and its path.
-use Rattle.std.specs.Prelude.{◌≡◌, ◌≢◌, ◌⊎◌, ℕ, List, ◌∷◌, ◌++◌, map, take, slice_get, Option, Some, None}
+-- link with its class and its path; and the components of the survivors.
+use Rattle.std.specs.Prelude.{◌≡◌, ◌≢◌, ◌⊎◌, ℕ, List, [], ◌∷◌, ◌++◌, map, take, slice_get, Option, Some, None}
 use Rattle.std.specs.List.{AllZip}
 use Rattle.ov_ids.specs.Members.{Has}
 use Rattle.ov_ids.specs.Sets.{has}
 use Rattle.ov_graph.specs.Links.{LinkGraph}
+use Rattle.ov_components.specs.Components.{AreComponents}
 use Rattle.ov_cert.specs.declared.cert.Cert.{Cert}
+use Rattle.ov_cert.specs.declared.cert.Cert.TheVariants.{Linked, Split}
 use Rattle.ov_drawing.specs.declared.drawing.DrawnNode.{DrawnNode}
 use Rattle.ov_drawing.specs.declared.drawing.DrawnLink.{DrawnLink}
 use Rattle.ov_drawing.specs.declared.node_and_link_classes.LinkClass.TheVariants.{Across}
@@ -38,6 +40,11 @@ pub record DrawsLink (c : Cert) (ps : List (List ℕ)) (l : ℕ × ℕ) (d : Dra
 -- each link of the graph is there once, in order
 abbrev pub DrawsLinks : LinkGraph → Cert → List (List ℕ) → List DrawnLink → Type 0
 DrawsLinks g c ps drawn = AllZip (DrawsLink c ps) g.links drawn
+
+-- the components that the crash of the cut leaves. Where all members are linked there is no cut, and none is drawn
+abbrev pub DrawsComponents : LinkGraph → Cert → List (List ℕ) → Type 0
+DrawsComponents g (Linked k) components = components ≡ []
+DrawsComponents g (Split s) components = AreComponents g s.cut components
 
 -- no link leads across, from the near side to a survivor outside it. So it can be seen in the picture that the nodes of
 -- the cut alone hold the two together

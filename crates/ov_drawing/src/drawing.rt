@@ -3,7 +3,7 @@ ghost use Rattle.ov_ids.specs.FaultOrder.{IsRefusedBy};
 ghost use Rattle.ov_ids.specs.Sets.{has};
 ghost use Rattle.ov_cert.specs.Valid.{k_of, IsValidForGroup};
 ghost use Rattle.ov_drawing.specs.Chosen.{shown_paths};
-ghost use Rattle.ov_drawing.specs.Drawn.{DrawsNodes, DrawsLinks, NoneAcross};
+ghost use Rattle.ov_drawing.specs.Drawn.{DrawsComponents, DrawsNodes, DrawsLinks, NoneAcross};
 ghost use Rattle.ov_drawing.specs.Faults.{PictureJudged};
 ghost use Rattle.ov_drawing.specs.Code.Tables.{node_by, link_by};
 ghost use Rattle.ov_drawing.specs.declared.fault.PictureFault.TheVariants.{OutOfMemory as out_of_memory};
@@ -14,6 +14,7 @@ use crate::node_and_link_classes::{LinkClass, NodeClass, link_class};
 use crate::node_classes::Classes;
 use crate::path_numbers::{PathNumbers, path_numbers};
 use ov_cert::Cert;
+use ov_components::{Components, components_without};
 use ov_graph::Graph;
 use ov_ids::{NodeId, OutOfMemory, Seq};
 use ov_lists::Paths;
@@ -47,6 +48,8 @@ pub struct Drawing {
     pub nodes: Seq<DrawnNode>,
     /// The links in ascending order.
     pub links: Seq<DrawnLink>,
+    /// The components that the crash of the cut leaves, by their first ids; none where all members are linked.
+    pub components: Components,
     /// The entry whose paths are shown.
     pub entry: Option<ChosenEntry>,
     /// How many paths are shown.
@@ -68,6 +71,7 @@ pub fn draw(
     ensures links { IfOk result (λ d. (ps : List (List ℕ)) × (shown_paths cert.now entry ≡ Some ps)
         × (d.paths ≡ length ps) × DrawsLinks graph.now cert.now ps d.links) }
     ensures parted { IfOk result (λ d. (q : List ℕ) → IsValidForGroup graph.now q cert.now → NoneAcross d.links) }
+    ensures components { IfOk result (λ d. DrawsComponents graph.now cert.now d.components) }
     ensures entry { IfOk result (λ d. d.entry ≡ entry) }
     ensures judged { MatchResult result (λ _. PictureJudged cert.now entry None)
         (IsRefusedBy out_of_memory (PictureJudged cert.now entry)) }
@@ -92,6 +96,7 @@ fn plain_drawing(
     ensures nodes { IfOk result (λ d. DrawsNodes graph.now group.now cert.now d.nodes) }
     ensures links { IfOk result (λ d. DrawsLinks graph.now cert.now [] d.links) }
     ensures parted { IfOk result (λ d. (q : List ℕ) → IsValidForGroup graph.now q cert.now → NoneAcross d.links) }
+    ensures components { IfOk result (λ d. DrawsComponents graph.now cert.now d.components) }
     ensures entry { IfOk result (λ d. d.entry ≡ None) }
     ensures paths { IfOk result (λ d. d.paths ≡ 0) }
 {
@@ -112,6 +117,7 @@ fn drawing_of(
     ensures nodes { IfOk result (λ d. DrawsNodes graph.now group.now cert.now d.nodes) }
     ensures links { IfOk result (λ d. DrawsLinks graph.now cert.now paths.now d.links) }
     ensures parted { IfOk result (λ d. (q : List ℕ) → IsValidForGroup graph.now q cert.now → NoneAcross d.links) }
+    ensures components { IfOk result (λ d. DrawsComponents graph.now cert.now d.components) }
     ensures entry { IfOk result (λ d. d.entry ≡ entry) }
     ensures paths { IfOk result (λ d. d.paths ≡ length paths.now) }
 {
@@ -119,13 +125,25 @@ fn drawing_of(
     let numbers = path_numbers(alloc, paths)?;
     let nodes = drawn_nodes(alloc, graph.nodes(), group, &classes)?;
     let links = drawn_links(alloc, graph, &classes, &numbers)?;
+    let components = components_of(alloc, graph, cert)?;
     Ok(Drawing {
         k: claimed(cert),
         nodes: Seq::new(nodes),
         links: Seq::new(links),
+        components,
         entry,
         paths: paths.len(),
     })
+}
+
+/// The components that the crash of a certificate's cut leaves, or none if it has no cut.
+fn components_of(alloc: Global, graph: &Graph, cert: &Cert) -> Result<Components, OutOfMemory>
+    ensures { IfOk result (DrawsComponents graph.now cert.now) }
+{
+    match cert {
+        Cert::Linked { .. } => Ok(Components::none(alloc)),
+        Cert::Split(split) => components_without(alloc, graph, split.cut.as_slice()),
+    }
 }
 
 /// The number that a certificate claims.

@@ -20,7 +20,7 @@ use Rattle.ov_graphfile.specs.NameLines.{AreNaming, NameSaid}
 use Rattle.ov_graphfile.specs.NamesState.{IsNamed}
 use Rattle.ov_graphfile.proofs.Commented.{comment_back}
 use Rattle.ov_graphfile.proofs.Sole.{skipped_none}
-use Rattle.ov_dump.specs.Dumps.{HasEntry, IsNameOf, IsTaken, Lists, ends_of, names_of, numbers}
+use Rattle.ov_dump.specs.Dumps.{HasEntry, IsNameOf, IsTaken, ends_of, names_of, numbers}
 use Rattle.ov_dump.specs.Dumps as dumps
 use Rattle.ov_dump.specs.Faults.{AreSoundListings, IsSound}
 use Rattle.ov_dump.specs.declared.dump_and_graph_types.Choice.{Choice}

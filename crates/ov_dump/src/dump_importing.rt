@@ -8,7 +8,7 @@ ghost use Rattle.ov_dump.specs.declared.refusal_or_write_fault.ImportFault.TheVa
 
 use crate::names_shown_on_one_line::shown_name;
 use crate::refusal_or_write_fault::ImportFault;
-use crate::{Choice, Dump, Name, NamedGraph, named_graph};
+use crate::{Choice, Dump, Name, named_graph};
 use ov_graph::Graph;
 use ov_graphfile::named_graph_text;
 use ov_ids::OutOfMemory;

@@ -1,4 +1,4 @@
-ghost use Rattle.std.specs.Prelude.{◌≡◌, ◌++◌, ◌∷◌, [], IfErr, IfOk, OnOk};
+ghost use Rattle.std.specs.Prelude.{◌≡◌, ◌++◌, IfErr, IfOk, OnOk};
 ghost use Rattle.ov_dump.specs.EdgeLines.{IsReadable};
 ghost use Rattle.ov_dump.specs.Edges.{IsEdgesFault, SaysEdges, listings_of};
 ghost use Rattle.ov_dump.specs.Code.Reading.{FailsAtLine, TakesEnds, TakesEntry};

@@ -1,5 +1,5 @@
 ghost use Rattle.std.specs.Prelude.{◌≡◌, ◌≢◌, ◌↔◌, ◌⊎◌, ◌≤◌, ℕ, [], length, true, false, IfErr, IfOk, OnOk};
-ghost use Rattle.ov_ids.specs.Members.{Has, Ordered};
+ghost use Rattle.ov_ids.specs.Members.{Ordered};
 ghost use Rattle.ov_graph.specs.Links.{IsGraph, IsWithinLimit, Linked, most_nodes};
 ghost use Rattle.ov_dump.specs.Dumps.{IsGraphOf, numbers};
 ghost use Rattle.ov_dump.specs.Faults.{IsDumpFault, IsSound};

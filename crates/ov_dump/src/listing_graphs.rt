@@ -1,7 +1,7 @@
 ghost use Rattle.std.specs.Prelude.{◌≡◌, ◌≢◌, ◌↔◌, ◌⊎◌, ◌≤◌, ◌∷◌, [], ℕ, length, IfOk};
 ghost use Rattle.ov_ids.specs.Members.{Has, Ordered};
-ghost use Rattle.ov_graph.specs.Links.{Linked, most_nodes};
-ghost use Rattle.ov_dump.specs.Dumps.{ends_of, numbers};
+ghost use Rattle.ov_graph.specs.Links.{most_nodes};
+ghost use Rattle.ov_dump.specs.Dumps.{numbers};
 ghost use Rattle.ov_dump.specs.Names.{ComesBefore};
 ghost use Rattle.ov_dump.specs.Code.Numbering.{Follows, NodeLists};
 

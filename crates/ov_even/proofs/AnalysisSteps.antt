@@ -7,7 +7,6 @@ pub mod Bounding
 pub mod Narrowing
 pub mod Tries
 pub mod Named
-pub mod Examining
 pub mod Entered
 pub mod Assembling
 pub mod ByNumbers

@@ -3,17 +3,10 @@ use Rattle.std.specs.Prelude.{ℕ, List}
 use Rattle.ov_graph.specs.Links.{LinkGraph}
 use Rattle.ov_fans.specs.Pieces.{IsPiece, IsGood}
 use Rattle.ov_fans.specs.declared.piece.Piece.{Piece}
-use Rattle.ov_fans.specs.Cuts.{IsParted}
 use Rattle.ov_even.specs.Order.{ComesBefore}
-use Rattle.ov_even.specs.declared.cut_search.PartedPiece.{PartedPiece}
 
 -- p is the first piece that is not good: every piece before it is good
 pub record IsFirst (g : LinkGraph) (q : List ℕ) (p : Piece) : Type 0 where
   pub piece : IsPiece g q p
   pub fails : ¬ IsGood g q p
   pub before : (r : Piece) → IsPiece g q r → ComesBefore r p → IsGood g q r
-
--- f is the deciding piece, the first that is not good, with its parting
-pub record IsDecidingCut (g : LinkGraph) (q : List ℕ) (f : PartedPiece) : Type 0 where
-  pub first : IsFirst g q f.piece
-  pub parted : IsParted g q f.piece f.parting.value

@@ -1,10 +1,7 @@
 -- The search for the level of the deciding piece: how many levels it tries, and what it has after a level was tried.
 use Rattle.std.specs.Prelude.{◌≡◌, ℕ, ◌+◌, ◌*◌, ◌^◌, ◌<◌, ◌≤◌}
-use Rattle.ov_even.specs.First.{IsDecidingCut}
-use Rattle.ov_even.specs.Hauls.{Suffice}
-use Rattle.ov_even.specs.Levels.{SearchState}
-use Rattle.ov_even.specs.declared.cut_search.CutSearched.{CutSearched}
-use Rattle.ov_even.specs.declared.cut_search.CutSearched.TheVariants as cut
+use Rattle.ov_even.specs.Hauls.{SufficeKeeping}
+use Rattle.ov_even.specs.Levels.{SearchState, KeepingSearch}
 use Rattle.ov_even.specs.declared.level_search.Searched.{Searched}
 use Rattle.ov_even.specs.declared.level_search.Searched.TheVariants.{Enough, Again}
 
@@ -18,12 +15,7 @@ pub record SearchGoesOn (s next : SearchState) : Type 0 where
   pub members : next.members ≡ s.members
   pub fewer : next.left < s.left
 
--- after a level was tried, the hauls suffice for a certificate, or the search goes on
-abbrev pub IsSearched : SearchState → Searched → Type 0
-IsSearched s (Enough hauls) = Suffice s.graph s.members hauls.items
-IsSearched s (Again next) = SearchGoesOn s next
-
--- after a level was decided, the deciding piece is known with its parting, or the search goes on
-abbrev pub IsCutSearched : SearchState → CutSearched → Type 0
-IsCutSearched s (cut.Decided f) = IsDecidingCut s.graph s.members f
-IsCutSearched s (cut.Again next) = SearchGoesOn s next
+-- after a level was tried, the hauls suffice, or the search goes on
+abbrev pub IsSearched : KeepingSearch → Searched → Type 0
+IsSearched s (Enough hauls) = SufficeKeeping s.keeping s.search.graph s.search.members hauls.items
+IsSearched s (Again next) = SearchGoesOn s.search next.search × (next.keeping ≡ s.keeping)

@@ -1,15 +1,18 @@
 //! The analysis of a graph and a group by one worker.
-ghost use Rattle.std.specs.Prelude.{IfOk};
-ghost use Rattle.ov_graph.specs.Links.{IsGroup, AreAllLinked};
+ghost use Rattle.std.specs.Prelude.{None, Some, IfOk, IfErr};
+ghost use Rattle.ov_graph.specs.Links.{IsGroup};
 ghost use Rattle.ov_even.specs.Answer.{IsAnalysed};
-ghost use Rattle.ov_even.specs.Hauls.{IsSettledGroup, Suffice};
+ghost use Rattle.ov_even.specs.Faults.{GroupJudged};
+ghost use Rattle.ov_even.specs.Hauls.{IsSettledGroup, IsSettledKeeping, SufficeKeeping};
+ghost use Rattle.ov_even.specs.Outlines.{IsOutlined};
 
 use crate::assembly::assemble_group;
 use crate::fault::AnalyseFault;
 use crate::level_search::search;
+use crate::outline_of_settled_pieces::outline_of_hauls;
 use crate::progress_watcher::{Unwatched, Watcher};
-use crate::worker_haul::Haul;
-use ov_cert::{Checked, are_all_linked};
+use crate::worker_haul::{Haul, Keeping};
+use ov_cert::{Cert, Checked, are_all_linked};
 use ov_graph::Graph;
 use ov_ids::{NodeId, OutOfMemory};
 use std::alloc::Global;
@@ -47,6 +50,22 @@ pub fn analyse_group_watched<W: Watcher>(
     assemble_group(alloc, graph, group, &hauls)
 }
 
+/// Finds the fewest node crashes that split a group, and the cut that `analyse_group_watched` finds (Even, SIAM J.
+/// Comput. 4, 1975), but keeps no paths. The watcher sees each piece before it is examined. Faults, in this order:
+/// NoNodes (30), the graph has no node; BadGroup (34), the members are no group. OutOfMemory (99) is returned only if
+/// neither applies.
+pub fn outline_group_watched<W: Watcher>(
+    alloc: Global,
+    graph: &Graph,
+    group: &[NodeId],
+    watcher: &mut W,
+) -> Result<Cert, AnalyseFault>
+    ensures outlined { IsOutlined graph.now group.now result }
+{
+    let hauls = settle_group(alloc, graph, group, Keeping::CutsAlone, watcher)?;
+    Ok(outline_of_hauls(alloc, graph, group, &hauls)?)
+}
+
 /// Settles pieces of Even's test until they suffice for a certificate of the group: none if every two members are
 /// linked. The watcher sees each piece before it is settled. Faults, in this order: NoNodes (30), the graph has no node;
 /// BadGroup (34), the members are no group. OutOfMemory (99) is returned only if neither applies.
@@ -58,27 +77,51 @@ pub fn settle_group_watched<W: Watcher>(
 ) -> Result<Vec<Haul>, AnalyseFault>
     ensures settled { IsSettledGroup graph.now group.now result }
 {
+    settle_group(alloc, graph, group, Keeping::EachPiece, watcher)
+}
+
+/// Settles pieces of Even's test until what is kept of them suffices. Faults as in `settle_group_watched`.
+fn settle_group<W: Watcher>(
+    alloc: Global,
+    graph: &Graph,
+    group: &[NodeId],
+    keeping: Keeping,
+    watcher: &mut W,
+) -> Result<Vec<Haul>, AnalyseFault>
+    ensures settled { IsSettledKeeping keeping graph.now group.now result }
+{
+    judge_group(graph, group)?;
+    Ok(enough(alloc, graph, group, keeping, watcher)?)
+}
+
+/// Whether the group can be analysed. Faults, in this order: NoNodes (30), the graph has no node; BadGroup (34), the
+/// members are no group.
+pub fn judge_group(graph: &Graph, group: &[NodeId]) -> Result<(), AnalyseFault>
+    ensures passed { IfOk result (λ _. GroupJudged graph.now group.now None) }
+    ensures refused { IfErr result (λ fault. GroupJudged graph.now group.now (Some fault)) }
+{
     if graph.nodes().is_empty() {
         return Err(AnalyseFault::NoNodes);
     }
     if !graph.is_group(group) {
         return Err(AnalyseFault::BadGroup);
     }
-    Ok(enough(alloc, graph, group, watcher)?)
+    Ok(())
 }
 
-/// Settles enough pieces for a certificate: none if every two members are linked.
+/// Settles enough pieces: none if every two members are linked.
 fn enough<W: Watcher>(
     alloc: Global,
     graph: &Graph,
     group: &[NodeId],
+    keeping: Keeping,
     watcher: &mut W,
 ) -> Result<Vec<Haul>, OutOfMemory>
     requires { IsGroup graph.now group.now }
-    ensures { IfOk result (λ hauls. Suffice graph.now group.now hauls.items) }
+    ensures { IfOk result (λ hauls. SufficeKeeping keeping graph.now group.now hauls.items) }
 {
     if are_all_linked(graph, group) {
         return Ok(Vec::new(alloc));
     }
-    search(alloc, graph, group, watcher)
+    search(alloc, graph, group, keeping, watcher)
 }

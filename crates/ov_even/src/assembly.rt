@@ -1,6 +1,6 @@
 //! Makes a certificate from the pieces that several workers have settled.
-ghost use Rattle.std.specs.Prelude.{◌≡◌, ◌+◌, ◌<◌, length, map, IfOk, IfErr};
-ghost use Rattle.ov_graph.specs.Links.{HasNode, IsGraph, IsGroup, AreAllLinked};
+ghost use Rattle.std.specs.Prelude.{◌≡◌, map, IfOk, IfErr};
+ghost use Rattle.ov_graph.specs.Links.{HasNode, IsGroup, AreAllLinked};
 ghost use Rattle.ov_cert.specs.Valid.{IsValidForGroup};
 ghost use Rattle.ov_even.specs.Answer.{IsAnswer, IsCheckedAnswer, IsAnalysed, NamesParting};
 ghost use Rattle.ov_even.specs.Hauls.{Suffice};
@@ -9,9 +9,9 @@ ghost use Rattle.ov_even.specs.Code.Cuts.{IsDeciding};
 ghost use Rattle.ov_even.specs.declared.fault.AnalyseFault.TheVariants.{OutOfMemory as out_of_memory};
 
 use crate::certificate_entries::{Entries, entries_of};
-use crate::certificate_without_paths::linked_cert;
 use crate::fault::AnalyseFault;
 use crate::first_piece_with_cut::first_cut;
+use crate::outline_of_settled_pieces::linked_cert;
 use crate::paths_by_ids::{NamedPaths, name_paths};
 use crate::paths_wanted_by_certificate::wanted_paths;
 use crate::worker_haul::Haul;

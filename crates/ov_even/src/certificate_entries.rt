@@ -1,11 +1,10 @@
 //! The entries of a certificate, for pairs and for fans.
-ghost use Rattle.std.specs.Prelude.{◌≡◌, ◌≤◌, length, IfOk};
-ghost use Rattle.ov_fans.specs.Pieces.{member_at};
+ghost use Rattle.std.specs.Prelude.{◌≡◌, length, IfOk};
 ghost use Rattle.ov_even.specs.Code.Entries.{AreNamedPieces, pair_entries, fan_entries};
 
 use crate::paths_by_ids::NamedPaths;
 use ov_cert::{FanPaths, PairPaths};
-use ov_fans::Piece;
+use ov_fans::{Piece, member};
 use ov_ids::{NodeId, OutOfMemory};
 use std::alloc::Global;
 
@@ -41,13 +40,4 @@ pub(crate) fn entries_of(
         }
     }
     Ok(Entries { pairs, fans })
-}
-
-/// The member at a place, counted from 1.
-pub(crate) fn member(group: &[NodeId], place: u16) -> NodeId
-    requires low { 1 ≤ place }
-    requires high { place ≤ length group.now }
-    ensures { result ≡ member_at group.now place }
-{
-    group[place as usize - 1]
 }

@@ -1,11 +1,8 @@
 //! The paths of the pieces of a level, each stored at the place of its piece.
-ghost use Rattle.std.specs.Prelude.{◌≡◌, ◌<◌, ◌≤◌, ℕ, List, ◌++◌, [], map, length, IfOk, IfSome, IfNone};
+ghost use Rattle.std.specs.Prelude.{◌≡◌, ◌≤◌, List, ◌++◌, map, length, IfOk};
 ghost use Rattle.std.specs.Option.{option_copied};
-ghost use Rattle.ov_ids.specs.Members.{Has};
 ghost use Rattle.ov_graph.specs.Links.{most_nodes};
 ghost use Rattle.ov_fans.specs.declared.piece_result.Settled.{Settled as settled};
-ghost use Rattle.ov_fans.specs.declared.piece_result.Found.TheVariants.{Paths as paths_found};
-ghost use Rattle.ov_fans.specs.Pieces.{IsPieceOf};
 ghost use Rattle.ov_even.specs.Code.Cuts.{all_settled};
 ghost use Rattle.ov_even.specs.Code.Levels.{pieces_of_level};
 ghost use Rattle.ov_even.specs.Code.Slots.{AreSlotsOf, ArePiecesOf};

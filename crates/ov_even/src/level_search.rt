@@ -1,8 +1,8 @@
-//! The search for the level of the deciding piece, with what was settled of that level and the one below it: a
-//! certificate needs no more. Other levels are tried only to find it.
-ghost use Rattle.std.specs.Prelude.{◌≡◌, ◌<◌, ◌≤◌, ◌+◌, ◌++◌, length, IfOk, IfSome, IfNone};
+//! The search for the level of the deciding piece, with what is kept of that level and the one below it: a certificate
+//! needs no more. Other levels are tried only to find it.
+ghost use Rattle.std.specs.Prelude.{◌≡◌, ◌<◌, ◌≤◌, ◌++◌, length, IfOk, IfSome, IfNone};
 ghost use Rattle.ov_graph.specs.Links.{IsGraph, IsWithinLimit, IsGroup, AreAllLinked};
-ghost use Rattle.ov_even.specs.Hauls.{AreRight, Suffice};
+ghost use Rattle.ov_even.specs.Hauls.{AreRight, SufficeKeeping};
 ghost use Rattle.ov_even.specs.Levels.{IsTried};
 ghost use Rattle.ov_even.specs.Searching.{AreFewTries, IsSearched};
 ghost use Rattle.ov_even.specs.Code.Narrowing.{HasCutWithin, HasCutOf};
@@ -11,7 +11,7 @@ use crate::first_piece_with_cut::{cut_size, first_cut};
 use crate::level_bounds::LevelBounds;
 use crate::level_trying::try_level;
 use crate::progress_watcher::Watcher;
-use crate::worker_haul::Haul;
+use crate::worker_haul::{Haul, Keeping};
 use ov_fans::Settler;
 use ov_graph::Graph;
 use ov_ids::{NodeId, OutOfMemory};
@@ -19,30 +19,31 @@ use std::alloc::Global;
 use std::marker::Model;
 
 /// The search for the level of the deciding piece of a graph and a group, in which two members are not linked. It says
-/// which level to try next, and takes what was settled of it, until that suffices for a certificate. Contracts see the
-/// graph, the members, the level to try next, and a bound on how many levels are still tried.
+/// which level to try next, and takes the hauls of it, until they suffice. Contracts see the graph, the members, the
+/// level to try next, a bound on how many levels are still tried, and what the hauls keep.
 #[derive(Drop)]
 pub struct LevelSearch<'a> {
     bounds: LevelBounds<'a>,
-    /// These clear the good level `low` of the bounds.
+    keeping: Keeping,
+    /// The hauls of the good level `low` of the bounds.
     kept: Vec<Haul>,
 }
 
 impl<'a> Model for LevelSearch<'a> {
-    ghost use Rattle.ov_even.specs.Levels.{SearchState};
+    ghost use Rattle.ov_even.specs.Levels.{KeepingSearch};
     ghost use Rattle.ov_even.specs.Code.Narrowing.{AreKept};
 
-    ghost Value = { SearchState };
+    ghost Value = { KeepingSearch };
 
-    ghost view = { λ s. s.bounds.search };
+    ghost view = { λ s. record { search = s.bounds.search; keeping = s.keeping } };
 
-    ghost invariant = { λ s. AreKept s.bounds s.kept.items };
+    ghost invariant = { λ s. AreKept s.keeping s.bounds s.kept.items };
 }
 
 /// The search after a level was tried.
 #[derive(Drop)]
 pub enum Searched<'a> {
-    /// These hauls suffice for a certificate.
+    /// These hauls suffice.
     Enough(Vec<Haul>),
     /// The search goes on.
     Again(LevelSearch<'a>),
@@ -51,69 +52,84 @@ pub enum Searched<'a> {
 impl<'a> LevelSearch<'a> {
     /// Begins a search for a group in which two members are not linked. It tries at most 2 log2 n + 3 levels of a graph
     /// of n nodes.
-    pub fn new(alloc: Global, graph: &'a Graph, group: &'a [NodeId]) -> LevelSearch<'a>
+    pub fn new(
+        alloc: Global,
+        graph: &'a Graph,
+        group: &'a [NodeId],
+        keeping: Keeping,
+    ) -> LevelSearch<'a>
         requires group { IsGroup graph.now group.now }
         requires apart { ¬ AreAllLinked graph.now group.now }
-        ensures graph { result.graph ≡ graph.now }
-        ensures members { result.members ≡ group.now }
-        ensures few { AreFewTries (length graph.now.nodes) result.left }
+        ensures graph { result.search.graph ≡ graph.now }
+        ensures members { result.search.members ≡ group.now }
+        ensures keeping { result.keeping ≡ keeping }
+        ensures few { AreFewTries (length graph.now.nodes) result.search.left }
     {
         LevelSearch {
             bounds: LevelBounds::new(graph, group),
+            keeping,
             kept: Vec::new(alloc),
         }
     }
 
     /// The level to try next.
     pub fn level(&self) -> usize
-        ensures level { result ≡ self.now.level }
+        ensures level { result ≡ self.now.search.level }
         ensures low { 1 ≤ result }
-        ensures below { result < length self.now.graph.nodes }
-        ensures left { 1 ≤ self.now.left }
-        ensures graph { IsGraph self.now.graph }
-        ensures within { IsWithinLimit self.now.graph }
-        ensures group { IsGroup self.now.graph self.now.members }
+        ensures below { result < length self.now.search.graph.nodes }
+        ensures left { 1 ≤ self.now.search.left }
+        ensures graph { IsGraph self.now.search.graph }
+        ensures within { IsWithinLimit self.now.search.graph }
+        ensures group { IsGroup self.now.search.graph self.now.search.members }
     {
         self.bounds.level()
     }
 
-    /// Takes what was settled of the level to try next: each of its pieces, or each up to one that has a cut. The order
-    /// of the hauls does not matter, and linked pairs need not be in them. Faults: out of memory.
+    /// Takes the hauls of the level to try next: what is kept of each of its pieces, or of each up to one that has a
+    /// cut. The order of the hauls does not matter, and linked pairs need not be in them. Faults: out of memory.
     pub fn take(self, hauls: Vec<Haul>) -> Result<Searched<'a>, OutOfMemory>
-        requires right { AreRight self.graph self.members hauls.items }
-        requires tried { IsTried self.graph self.members hauls.items self.level }
+        requires right { AreRight self.search.graph self.search.members hauls.items }
+        requires tried { IsTried self.keeping self.search.graph self.search.members hauls.items self.search.level }
         ensures { IfOk result (IsSearched self.entry) }
     {
-        let LevelSearch { bounds, kept } = self;
+        let LevelSearch {
+            bounds,
+            keeping,
+            kept,
+        } = self;
         match cut_within(&hauls, bounds.level()) {
             None => Ok(Searched::Again(LevelSearch {
                 bounds: bounds.raised(),
+                keeping,
                 kept: hauls,
             })),
             Some(_) if bounds.is_just_above_low() => Ok(Searched::Enough(joined(kept, hauls)?)),
             Some(size) => Ok(Searched::Again(LevelSearch {
                 bounds: bounds.lowered(size),
+                keeping,
                 kept,
             })),
         }
     }
 }
 
-/// Settles pieces until they suffice for a certificate. Two members must not be linked.
+/// Settles pieces until what is kept of them suffices. Two members must not be linked.
 pub(crate) fn search<W: Watcher>(
     alloc: Global,
     graph: &Graph,
     group: &[NodeId],
+    keeping: Keeping,
     watcher: &mut W,
 ) -> Result<Vec<Haul>, OutOfMemory>
     requires group { IsGroup graph.now group.now }
     requires apart { ¬ AreAllLinked graph.now group.now }
-    ensures { IfOk result (λ hauls. Suffice graph.now group.now hauls.items) }
+    ensures { IfOk result (λ hauls. SufficeKeeping keeping graph.now group.now hauls.items) }
 {
     let mut settler = Settler::new(alloc, graph, group)?;
-    let mut levels = LevelSearch::new(alloc, graph, group);
+    let mut levels = LevelSearch::new(alloc, graph, group, keeping);
     loop {
-        let haul = try_level(alloc, &mut settler, group.len(), levels.level(), watcher)?;
+        let level = levels.level();
+        let haul = try_level(alloc, &mut settler, group.len(), level, keeping, watcher)?;
         match levels.take(vec![in alloc; haul]?)? {
             Searched::Enough(hauls) => return Ok(hauls),
             Searched::Again(next) => levels = next,

@@ -1,24 +1,25 @@
 //! Tries a level: settles its pieces in order, until one has a cut.
 ghost use Rattle.std.specs.Prelude.{◌≡◌, ◌↔◌, ◌<◌, ◌≤◌, [], ◌∷◌, length, IsTrue, IfOk};
-ghost use Rattle.ov_graph.specs.Links.{most_nodes};
+ghost use Rattle.ov_graph.specs.Links.{IsGraph, most_nodes};
 ghost use Rattle.ov_fans.specs.declared.piece_result.Found.TheVariants.{Linked as linked_found};
 ghost use Rattle.ov_even.specs.Hauls.{AreRight};
 ghost use Rattle.ov_even.specs.Levels.{IsTried};
 
 use crate::level_pieces::{LevelPieces, level_size, place_in_level};
 use crate::progress_watcher::Watcher;
-use crate::worker_haul::Haul;
+use crate::worker_haul::{Haul, Keeping, settle_keeping};
 use ov_fans::{Found, Settled, Settler};
 use ov_ids::OutOfMemory;
 use std::alloc::Global;
 
-/// Tries a level, for a group of `members` members. The haul has the pieces that were settled, without linked pairs.
-/// Faults: out of memory.
+/// Tries a level, for a group of `members` members. The haul has what is kept of the pieces that were settled, but no
+/// linked pairs. Faults: out of memory.
 pub(crate) fn try_level<W: Watcher>(
     alloc: Global,
     settler: &mut Settler<'_>,
     members: usize,
     level: usize,
+    keeping: Keeping,
     watcher: &mut W,
 ) -> Result<Haul, OutOfMemory>
     requires members { members ≡ length settler.old.members }
@@ -26,15 +27,19 @@ pub(crate) fn try_level<W: Watcher>(
     requires low { 1 ≤ level }
     requires below { level < length settler.old.graph.nodes }
     requires high { level < most_nodes }
+    requires graph { IsGraph settler.old.graph }
     ensures right { IfOk result (λ haul. AreRight settler.old.graph settler.old.members (haul ∷ [])) }
-    ensures tried { IfOk result (λ haul. IsTried settler.old.graph settler.old.members (haul ∷ []) level) }
+    ensures tried { IfOk result (λ haul. IsTried keeping settler.old.graph settler.old.members (haul ∷ []) level) }
     ensures stays { settler.new ≡ settler.old }
 {
     let size = level_size(members, level);
     let mut pieces = Vec::new(alloc);
     for piece in LevelPieces::new(members, level) {
         watcher.sees(level, place_in_level(members, piece), size);
-        let settled = settler.settle(piece)?;
+        let kept = settle_keeping(settler, piece, keeping)?;
+        let Some(settled) = kept else {
+            continue;
+        };
         if is_linked(&settled) {
             continue;
         }

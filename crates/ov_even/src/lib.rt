@@ -5,12 +5,9 @@
 mod analysis;
 mod assembly;
 mod certificate_entries;
-mod certificate_without_paths;
-mod cut_search;
 mod even_test_theorems;
 mod failing_level_by_degree;
 mod fault;
-mod first_cut_of_level;
 mod first_piece_with_cut;
 mod group_desk;
 mod level_bounds;
@@ -29,11 +26,10 @@ mod sound_desk_theorems;
 mod worker_haul;
 
 pub use analysis::{
-    analyse_alone, analyse_group_alone, analyse_group_watched, settle_group_watched,
+    analyse_alone, analyse_group_alone, analyse_group_watched, judge_group, outline_group_watched,
+    settle_group_watched,
 };
 pub use assembly::{assemble, assemble_group, assemble_named};
-pub use certificate_without_paths::{linked_cert, outline_group_watched, outline_of};
-pub use cut_search::{CutSearch, CutSearched, PartedPiece};
 pub use even_test_theorems::{
     first_exists, first_gives_number, good_or_cut, one_answer, one_first,
 };
@@ -50,4 +46,4 @@ pub use piece_numbers::{
 };
 pub use progress_watcher::{Unwatched, Watcher};
 pub use sound_desk_theorems::{ended_decides, stays_sound};
-pub use worker_haul::Haul;
+pub use worker_haul::{Haul, Keeping, settle_keeping};

@@ -1,16 +1,16 @@
-//! The outline of the certificate that settled pieces suffice for.
-ghost use Rattle.std.specs.Prelude.{IfOk};
+//! The outline of the certificate that settled pieces suffice for: all of it but its paths.
+ghost use Rattle.std.specs.Prelude.{IfOk, IfSome, IfNone};
 ghost use Rattle.ov_graph.specs.Links.{IsGroup, AreAllLinked};
-ghost use Rattle.ov_even.specs.Hauls.{Suffice};
+ghost use Rattle.ov_cert.specs.Valid.{IsValidForGroup};
+ghost use Rattle.ov_even.specs.Hauls.{SufficeForOutline};
 ghost use Rattle.ov_even.specs.Outlines.{IsOutline};
 ghost use Rattle.ov_even.specs.Code.Cuts.{IsDeciding};
 
 use crate::assembly::split_of;
 use crate::certificate_entries::Entries;
-use crate::certificate_without_paths::linked_cert;
 use crate::first_piece_with_cut::first_cut;
 use crate::worker_haul::Haul;
-use ov_cert::Cert;
+use ov_cert::{Cert, are_all_linked};
 use ov_fans::{Found, Settled};
 use ov_graph::Graph;
 use ov_ids::{NodeId, OutOfMemory};
@@ -24,7 +24,7 @@ pub fn outline_of_hauls(
     hauls: &[Haul],
 ) -> Result<Cert, OutOfMemory>
     requires group { IsGroup graph.now group.now }
-    requires suffice { Suffice graph.now group.now hauls.now }
+    requires suffice { SufficeForOutline graph.now group.now hauls.now }
     ensures { IfOk result (λ c. IsOutline graph.now group.now c) }
 {
     prove!(graph.nodes().len() <= Graph::MOST_NODES);
@@ -35,6 +35,23 @@ pub fn outline_of_hauls(
         Some(first) => split_outline(alloc, graph, group, first),
         None => unreachable!(),
     }
+}
+
+/// The certificate of a group in which every two members are linked. It has no paths, so it is its own outline. None if
+/// two members are not linked.
+pub(crate) fn linked_cert(graph: &Graph, group: &[NodeId]) -> Option<Cert>
+    requires { IsGroup graph.now group.now }
+    ensures outline { IfSome result (λ c. IsOutline graph.now group.now c) }
+    ensures valid { IfSome result (λ c. IsValidForGroup graph.now group.now c) }
+    ensures none { IfNone result (¬ AreAllLinked graph.now group.now) }
+{
+    prove!(graph.nodes().len() <= Graph::MOST_NODES);
+    if !are_all_linked(graph, group) {
+        return None;
+    }
+    Some(Cert::Linked {
+        k: group.len() as u32 - 1,
+    })
 }
 
 /// The outline that names the cut of the deciding piece.

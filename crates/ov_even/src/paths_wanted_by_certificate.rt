@@ -5,18 +5,18 @@ ghost use Rattle.ov_graph.specs.Links.{IsGroup, AreAllLinked};
 ghost use Rattle.ov_fans.specs.Cuts.{AreRightPaths};
 ghost use Rattle.ov_fans.specs.Pieces.{IsPiece, IsLinkedPair, level_of};
 ghost use Rattle.ov_even.specs.Hauls.{AreRight, Suffice};
-ghost use Rattle.ov_even.specs.Levels.{IsLevelCleared};
+ghost use Rattle.ov_even.specs.Levels.{IsLevelDone};
 ghost use Rattle.ov_even.specs.Naming.{AreFound, AreUnlinkedPieces, AreWanted};
 ghost use Rattle.ov_even.specs.Code.Slots.{HaveSlots};
+ghost use Rattle.ov_even.specs.declared.worker_haul.Keeping.TheVariants.{EachPiece as each_piece};
 
-use crate::certificate_entries::member;
 use crate::first_piece_with_cut::first_cut;
 use crate::level_path_slots::slots_of;
 use crate::level_pieces::{LevelPieces, place_in_level};
 use crate::paths_by_ids::FoundPaths;
 use crate::worker_haul::Haul;
 use ov_cert::are_all_linked;
-use ov_fans::Piece;
+use ov_fans::{Piece, member};
 use ov_flow::PlacePaths;
 use ov_graph::Graph;
 use ov_ids::{NodeId, OutOfMemory};
@@ -47,8 +47,8 @@ pub fn wanted_paths<'a>(
     Ok(paths_at(alloc, graph, group, level, hauls)?)
 }
 
-/// The pieces of a cleared level that are no linked pairs, in order, with the paths that were found for them: no
-/// piece, if the level is 0.
+/// The pieces of a cleared level that are no linked pairs, in order, with the paths that were found for them: no piece,
+/// if the level is 0.
 fn paths_at<'a>(
     alloc: Global,
     graph: &Graph,
@@ -59,7 +59,7 @@ fn paths_at<'a>(
     requires group { IsGroup graph.now group.now }
     requires below { level < length graph.now.nodes }
     requires right { AreRight graph.now group.now hauls.now }
-    requires cleared { IsLevelCleared graph.now group.now hauls.now level }
+    requires cleared { IsLevelDone each_piece graph.now group.now hauls.now level }
     ensures pieces { IfOk result (λ found.
         AreUnlinkedPieces graph.now group.now level (map (λ f. f.piece) found.items)) }
     ensures found { IfOk result (λ found. AreFound graph.now group.now found.items) }

@@ -1,5 +1,7 @@
-ghost use Rattle.std.specs.Prelude.{◌≡◌};
-ghost use Rattle.ov_fans.specs.Pieces.{level_of, source_place};
+ghost use Rattle.std.specs.Prelude.{◌≡◌, ◌≤◌, length};
+ghost use Rattle.ov_fans.specs.Pieces.{level_of, member_at, source_place};
+
+use ov_ids::NodeId;
 
 /// A piece of Even's test for a group (Even, SIAM J. Comput. 4, 1975). It asks for `level` paths. Members are named by
 /// their places in the group, counted from 1.
@@ -32,4 +34,13 @@ impl Piece {
             Piece::Fan { j, .. } => *j,
         }
     }
+}
+
+/// The member at a place in the group, counted from 1.
+pub fn member(group: &[NodeId], place: u16) -> NodeId
+    requires low { 1 ≤ place }
+    requires high { place ≤ length group.now }
+    ensures { result ≡ member_at group.now place }
+{
+    group[place as usize - 1]
 }

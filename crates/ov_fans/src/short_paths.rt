@@ -8,9 +8,9 @@ ghost use Rattle.ov_fans.specs.Pieces.{member_at, IsPiece, IsGood};
 ghost use Rattle.ov_fans.specs.Counts.{IsNumberOf};
 
 use crate::bit_row_nodes::bits_below;
-use crate::common_bits_of_rows::shared_bits;
 use crate::group_by_places_in_graph::SettlerGroup;
 use crate::piece::Piece;
+use crate::shared_bit_count::shared_bits;
 
 /// Whether short paths alone make the piece good: for a pair, paths of two links over common neighbours; for a fan,
 /// links from its source to members before it. If not, the piece may still be good.

@@ -4,7 +4,7 @@ use Rattle.std.proofs.Common.{Some, None, refl, sym, ap, subst, arith, unwrap_or
 use Rattle.std.proofs.lemmas.Bool.{cases_eq}
 use Rattle.ov_ids.specs.Members.{Has}
 use Rattle.ov_ids.proofs.Members.{has_append_left, has_append_right, has_append_cases}
-use Rattle.ov_graph.specs.Links.{LinkGraph, IsGraph, Linked}
+use Rattle.ov_graph.specs.Links.{Linked}
 use Rattle.ov_graph.proofs.EvenTest.Filtered.{linked_node}
 use Rattle.ov_graph.proofs.EvenTest.Walks.{linked_sym}
 use Rattle.ov_graph.proofs.GraphValues.OneGraph.{not_self}

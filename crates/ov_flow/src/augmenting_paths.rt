@@ -1,5 +1,5 @@
 //! The buffers of a search, and the paths that are held.
-ghost use Rattle.std.specs.Prelude.{◌≡◌, ℕ, ◌<◌, ◌≤◌, [], length, false, IfOk, MatchBool};
+ghost use Rattle.std.specs.Prelude.{◌≡◌, ◌<◌, [], length, false, IfOk, MatchBool};
 ghost use Rattle.ov_split.specs.SplitNetState.{SplitNetState};
 ghost use Rattle.ov_split.specs.Places.{net_by_place};
 ghost use Rattle.ov_flow.specs.Code.Reached.{IsTreeOf};

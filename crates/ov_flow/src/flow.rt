@@ -1,4 +1,4 @@
-ghost use Rattle.std.specs.Prelude.{◌≡◌, ℕ, ◌+◌, ◌<◌, List, map, length, IfOk, MatchOption};
+ghost use Rattle.std.specs.Prelude.{◌≡◌, ℕ, ◌<◌, List, map, length, IfOk, MatchOption};
 ghost use Rattle.ov_graph.specs.Paths.{node_at};
 ghost use Rattle.ov_split.specs.SplitNetState.{IsFanOf};
 ghost use Rattle.ov_flow.specs.Flow.{FlowState, IsFullBy, IsAugmentation, ArePlaces};

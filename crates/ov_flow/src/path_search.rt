@@ -1,5 +1,5 @@
 //! The search for one more path: breadth-first over residual steps (Even, SIAM J. Comput. 4, 1975).
-ghost use Rattle.std.specs.Prelude.{◌≡◌, ℕ, ◌*◌, ◌<◌, ◌≤◌, length, slice_index, MatchBool};
+ghost use Rattle.std.specs.Prelude.{◌≡◌, ◌*◌, ◌<◌, ◌≤◌, length, slice_index, MatchBool};
 ghost use Rattle.ov_graph.specs.Row.{word_bits};
 ghost use Rattle.ov_split.specs.Places.{net_by_place};
 ghost use Rattle.ov_flow.specs.Code.Reached.{tip_of, IsGrown, IsMore, IsClean, IsSearchEnded};

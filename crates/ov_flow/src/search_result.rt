@@ -1,5 +1,5 @@
 //! The result of a search for one more path.
-ghost use Rattle.std.specs.Prelude.{◌≡◌, ℕ, length};
+ghost use Rattle.std.specs.Prelude.{length};
 ghost use Rattle.ov_flow.specs.Code.Held.{IsReady, IsWorkOf, IsAtEnd};
 ghost use Rattle.ov_flow.specs.Flow.{IsFullBy};
 

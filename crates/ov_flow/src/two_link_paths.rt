@@ -1,5 +1,5 @@
 //! Paths of two links.
-ghost use Rattle.std.specs.Prelude.{◌≡◌, ℕ, ◌+◌, ◌<◌, ◌≤◌, ◌⊎◌, length, Some};
+ghost use Rattle.std.specs.Prelude.{◌≡◌, ℕ, ◌+◌, ◌≤◌, ◌⊎◌, length, Some};
 ghost use Rattle.ov_split.specs.Places.{net_by_place};
 ghost use Rattle.ov_flow.specs.Code.Walked.{table_of};
 ghost use Rattle.ov_flow.specs.Code.Held.{IsReady, IsWorkOf, IsOneLinkEach, MayGoOver};

@@ -1,5 +1,5 @@
 //! The walk to a target that a search found, and the change of the table by its steps.
-ghost use Rattle.std.specs.Prelude.{◌≡◌, ◌≢◌, ℕ, ◌-◌, ◌<◌, List, ◌∷◌, length, slice_index, Some};
+ghost use Rattle.std.specs.Prelude.{◌≡◌, ℕ, ◌-◌, ◌<◌, List, ◌∷◌, length, slice_index, Some};
 ghost use Rattle.std.specs.Prelude.{None, true, ◌≤◌, vec_capacity, IfSome};
 ghost use Rattle.ov_split.specs.SplitNetState.{SplitNetState};
 ghost use Rattle.ov_split.specs.Code.Residual.{Table, AreHeld, IsTidy};

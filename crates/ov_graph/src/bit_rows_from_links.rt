@@ -1,5 +1,4 @@
 ghost use Rattle.std.specs.Prelude.{◌≡◌, ◌↔◌, ◌⊎◌, ℕ, ◌<◌, ◌≤◌, ◌*◌, [], length, IfOk};
-ghost use Rattle.ov_ids.specs.Members.{Has, Ascends};
 ghost use Rattle.ov_graph.specs.Links.{IsGraph, most_nodes};
 ghost use Rattle.ov_graph.specs.Row.{HasBit, word_bits};
 ghost use Rattle.ov_graph.specs.Code.Kept.{row_at, IsMarked};

@@ -1,9 +1,9 @@
 //! Changes of a graph in its nodes and rows.
-ghost use Rattle.std.specs.Prelude.{◌≡◌, ◌≢◌, ◌↔◌, ℕ, ◌+◌, ◌*◌, ◌<◌, ◌≤◌, length, slice_index, vec_len, vec_capacity};
+ghost use Rattle.std.specs.Prelude.{◌≡◌, ◌≢◌, ◌↔◌, ℕ, ◌*◌, ◌<◌, ◌≤◌, length, slice_index, vec_len, vec_capacity};
 ghost use Rattle.std.specs.Prelude.{OnOk, OnErr};
 ghost use Rattle.std.specs.List.{insert};
 ghost use Rattle.ov_ids.specs.Members.{Has};
-ghost use Rattle.ov_graph.specs.Links.{LinkGraph, most_nodes};
+ghost use Rattle.ov_graph.specs.Links.{most_nodes};
 ghost use Rattle.ov_graph.specs.Changes.{GainsNode, LosesNode, GainsLink, LosesLink};
 ghost use Rattle.ov_graph.specs.Row.{HasBit, word_bits};
 ghost use Rattle.ov_graph.specs.Code.Shifts.{HasOpened, HasClosed};

@@ -1,4 +1,4 @@
-ghost use Rattle.std.specs.Prelude.{◌≡◌, ◌<◌, ◌++◌, ◌∷◌, decimal, OnOk};
+ghost use Rattle.std.specs.Prelude.{◌≡◌, ◌<◌, ◌++◌, decimal, OnOk};
 ghost use Rattle.ov_ids.specs.Limits.{number_limit};
 ghost use Rattle.ov_graphfile.specs.GraphTexts.{link_line, named_node_line, node_line};
 

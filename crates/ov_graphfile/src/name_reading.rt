@@ -1,4 +1,4 @@
-ghost use Rattle.std.specs.Prelude.{◌≡◌, ℕ, List, length, map, slice_index_or, None, IfOk};
+ghost use Rattle.std.specs.Prelude.{◌≡◌, ℕ, length, map, slice_index_or, None, IfOk};
 ghost use Rattle.std.specs.Option.{option_copied};
 ghost use Rattle.ov_graphfile.specs.NameLines.{AreNamesOf};
 ghost use Rattle.ov_graphfile.specs.Code.Table.{Keeps, TakesLine};

@@ -1,4 +1,4 @@
-ghost use Rattle.std.specs.Prelude.{◌≡◌, ◌≢◌, ◌<◌, ◌≤◌, ◌↔◌, length, IfErr, IfOk, OnOk, IsTrue};
+ghost use Rattle.std.specs.Prelude.{◌≡◌, ◌<◌, ◌≤◌, ◌↔◌, length, IfErr, IfOk, OnOk, IsTrue};
 ghost use Rattle.std.specs.FinMap as map;
 ghost use Rattle.ov_net.specs.Limits.{most_packets};
 ghost use Rattle.ov_net.specs.Net.{IsGone};

@@ -1,4 +1,4 @@
-ghost use Rattle.std.specs.Prelude.{◌≡◌, IfErr, IfOk};
+ghost use Rattle.std.specs.Prelude.{IfErr, IfOk};
 ghost use Rattle.ov_snap.specs.CoreState.{HasReportOfAll};
 ghost use Rattle.ov_snap.specs.ReportState.{ReportState};
 ghost use Rattle.ov_grow.specs.Replay.{Replays};

@@ -1,4 +1,4 @@
-ghost use Rattle.std.specs.Prelude.{◌≡◌, ◌+◌, ◌*◌, IfOk, length, map, sum};
+ghost use Rattle.std.specs.Prelude.{◌≡◌, ◌+◌, ◌*◌, IfOk, map, sum};
 ghost use Rattle.std.specs.List.{sum_by};
 ghost use Rattle.ov_grow.specs.PhaseCosts.{mean, mean_of, parts_of_one, phase_costs, redundancies, redundancy_of};
 ghost use Rattle.ov_grow.specs.Code.Counting.{sent_of};

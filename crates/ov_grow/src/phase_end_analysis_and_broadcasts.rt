@@ -1,5 +1,4 @@
 ghost use Rattle.std.specs.Prelude.{◌≡◌, ◌≤◌, ◌⊎◌, ℕ, drop, length, IfErr, IfOk, OnOk};
-ghost use Rattle.ov_net.specs.Limits.{most_entries};
 ghost use Rattle.ov_grow.specs.WrittenLines.{analysis_line};
 ghost use Rattle.ov_grow.specs.declared.recordable_event.Act.TheVariants as act;
 ghost use Rattle.ov_grow.specs.Faults.{IsFull};

@@ -1,4 +1,3 @@
-ghost use Rattle.std.specs.Prelude.{◌≡◌};
 ghost use Rattle.std.specs.Iterator.{IsFinite};
 ghost use Rattle.ov_grow.specs.Sweeps.{AreSwept, IsSweepOf};
 

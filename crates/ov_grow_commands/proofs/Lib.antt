@@ -1,1 +1,2 @@
 pub mod KeptRows
+pub mod RowFiles

@@ -1,6 +1,10 @@
 -- The faults of `overlay grow` and `overlay sweep`.
 use Rattle.std.specs.Prelude.{ℕ}
 use Rattle.ov_grow.specs.Faults.{number_of}
+use Rattle.ov_grow.specs.declared.sweep_fault.SweepFault.{SweepFault}
+use Rattle.ov_grow.specs.declared.sweep_fault.SweepFault.TheVariants as sweep
+use Rattle.ov_sweep_rows.specs.declared.row_fault.RowFault.{RowFault}
+use Rattle.ov_sweep_rows.specs.declared.row_fault.RowFault.TheVariants as row
 use Rattle.ov_grow_commands.specs.declared.grow_command_fault.GrowthFault.{GrowthFault}
 use Rattle.ov_grow_commands.specs.declared.grow_command_fault.GrowthFault.TheVariants as growth
 
@@ -12,3 +16,14 @@ growth_number growth.Row = 70
 growth_number growth.Read = 71
 growth_number growth.Write = 72
 growth_number growth.OutOfMemory = 99
+
+-- the fault of the command after a sweep with this fault: that of growing, if a run was refused
+abbrev pub fault_of_sweep : SweepFault → GrowthFault
+fault_of_sweep (sweep.Run refused) = growth.Growing refused.fault
+fault_of_sweep sweep.Write = growth.Write
+fault_of_sweep sweep.OutOfMemory = growth.OutOfMemory
+
+-- the fault of the command for a file of rows with this fault
+abbrev pub fault_of_rows : RowFault → GrowthFault
+fault_of_rows row.OutOfMemory = growth.OutOfMemory
+fault_of_rows fault = growth.Row

@@ -1,10 +1,10 @@
 ghost use Rattle.std.specs.Prelude.{◌≡◌};
-ghost use Rattle.ov_grow_commands.specs.GrowFaults.{growth_number};
+ghost use Rattle.ov_grow_commands.specs.GrowFaults.{fault_of_sweep, growth_number};
 ghost use Rattle.ov_grow_commands.specs.declared.grow_command_fault.GrowthFault.TheVariants.{OutOfMemory as no_memory};
 ghost use Rattle.ov_grow_commands.specs.declared.grow_command_fault.GrowthFault.TheVariants.{Growing};
 ghost use Rattle.ov_grow_commands.specs.declared.grow_command_fault.GrowthFault.TheVariants.{Write as write_failed};
 
-use ov_grow::GrowFault;
+use ov_grow::{GrowFault, SweepFault};
 use ov_ids::OutOfMemory;
 use ov_io::WriteFault;
 use std::alloc::{AllocError, AllocFailed};
@@ -62,6 +62,18 @@ impl From<GrowFault> for GrowthFault {
 
     fn from(fault: GrowFault) -> GrowthFault {
         GrowthFault::Growing(fault)
+    }
+}
+
+impl From<SweepFault> for GrowthFault {
+    ghost from_gives = { λ fault e. e ≡ fault_of_sweep fault };
+
+    fn from(fault: SweepFault) -> GrowthFault {
+        match fault {
+            SweepFault::Run(refused) => GrowthFault::Growing(refused.fault),
+            SweepFault::Write => GrowthFault::Write,
+            SweepFault::OutOfMemory => GrowthFault::OutOfMemory,
+        }
     }
 }
 

@@ -4,7 +4,8 @@ use crate::sweep_command::sweep_asked;
 use ov_arguments::{GrowArgumentsFault, GrowingRequest, read_growing};
 use std::thread::Threads;
 
-/// Does what these arguments ask for, if their first is `grow` or `sweep`. False if it is not, and nothing is done.
+/// Does what these arguments ask for, if their first is `grow` or `sweep` and they do not ask for help. Otherwise false,
+/// and nothing is done.
 pub fn grow_or_sweep<T: Threads + Sync>(
     rt: &HostRuntime,
     threads: &T,
@@ -24,7 +25,7 @@ pub fn grow_or_sweep<T: Threads + Sync>(
     }
 }
 
-/// Ends if words can't be read. Prints help, or what is wrong with them.
+/// Ends if words can't be read. Prints what is wrong with them.
 fn unread_words(rt: &HostRuntime, fault: &GrowArgumentsFault) -> GrowthFault {
     match fault {
         GrowArgumentsFault::BadArguments { reason } => {

@@ -1,10 +1,16 @@
+ghost use Rattle.std.specs.Prelude.{◌≡◌, ◌≤◌, ◌↔◌, ◌⊎◌, IfErr, IfOk, IfSome, IsTrue};
+ghost use Rattle.ov_grow_commands.specs.Code.RowFiles.{IsUnreadRows};
+ghost use Rattle.ov_grow_commands.specs.GrowFaults.{fault_of_rows};
+ghost use Rattle.ov_grow_commands.specs.declared.grow_command_fault.GrowthFault.TheVariants.{OutOfMemory, Read};
+ghost use Rattle.ov_sweep_rows.specs.Reading.{AreRowsOf};
+
 use crate::grow_command::told;
 use crate::grow_command_fault::GrowthFault;
 use ov_grow_options::GrowOptions;
 use ov_io::{ReadFault, Source, shown_name, unopened_text, unread_text};
 use ov_sweep_rows::{Row, RowFault, read_rows};
 use std::fs::File;
-use std::io::{IsTerminal, Read};
+use std::io::{self, IsTerminal, Read};
 
 /// The rows of files, one file after the other. Prints why, if a file can't be read or has a line that is no row, or if
 /// memory runs out.
@@ -19,12 +25,32 @@ pub(crate) fn rows_of_files(rt: &HostRuntime, files: &[String]) -> Result<Vec<Ro
     Ok(rows)
 }
 
-/// The rows of a file. Prints why, if it can't be read or has a line that is no row, or if memory runs out.
-fn rows_of_file(rt: &HostRuntime, file: &str) -> Result<Vec<Row>, GrowthFault> {
-    let bytes = bytes_of_file(rt, file)?;
+/// The rows of a file, or of standard input. Prints why, if it can't be read or has a line that is no row, or if memory
+/// runs out.
+fn rows_of_file(rt: &HostRuntime, name: &str) -> Result<Vec<Row>, GrowthFault> {
+    if name == STANDARD_INPUT {
+        tell_typing(rt);
+        return rows_from(rt, name, rt.stdin());
+    }
+    match File::open(rt, name) {
+        Ok(file) => rows_from(rt, name, file),
+        Err(error) => Err(not_opened(rt, name, &error)),
+    }
+}
+
+/// The rows of a reader that has this name.
+fn rows_from<R: Read + Drop>(
+    rt: &HostRuntime,
+    name: &str,
+    reader: R,
+) -> Result<Vec<Row>, GrowthFault>
+    ensures rows { IfOk result (λ rows. IfSome (R.remaining reader) (λ xs. AreRowsOf xs rows.items)) }
+    ensures fault { IfErr result (IsUnreadRows (R.remaining reader)) }
+{
+    let bytes = all_bytes(rt, name, reader)?;
     match read_rows(rt.alloc(), &bytes) {
         Ok(rows) => Ok(rows),
-        Err(fault) => Err(no_rows(rt, file, fault)),
+        Err(fault) => Err(no_rows(rt, name, fault)),
     }
 }
 
@@ -45,7 +71,9 @@ pub(crate) fn options_of_row(rt: &HostRuntime, row: &str) -> Result<GrowOptions,
 }
 
 /// Whether the sender, if there is one, is one of the nodes. Rows are read without asking for that.
-fn has_its_sender(options: &GrowOptions) -> bool {
+fn has_its_sender(options: &GrowOptions) -> bool
+    ensures { IsTrue result ↔ IfSome options.now.sender (λ node. node ≤ options.now.nodes) }
+{
     match options.sender {
         Some(node) => node.number() <= options.nodes.count(),
         None => true,
@@ -65,23 +93,16 @@ fn no_row(rt: &HostRuntime, row: &str, reason: &str) -> GrowthFault {
 /// The name that stands for standard input.
 const STANDARD_INPUT: &str = "-";
 
-/// All bytes of a file, or of standard input.
-fn bytes_of_file(rt: &HostRuntime, name: &str) -> Result<Vec<u8>, GrowthFault> {
-    if name == STANDARD_INPUT {
-        tell_typing(rt);
-        return all_bytes(rt, name, rt.stdin());
+/// Ends if a file can't be opened. Prints its name, with the cause.
+fn not_opened(rt: &HostRuntime, name: &str, error: &io::Error) -> GrowthFault
+    ensures { result ≡ Read }
+{
+    let ended = GrowthFault::Read;
+    let _ = eprintln!(rt; "{ended}");
+    if let Ok(text) = unopened_text(rt.alloc(), name, error) {
+        let _ = eprintln!(rt; "{text}");
     }
-    match File::open(rt, name) {
-        Ok(file) => all_bytes(rt, name, file),
-        Err(error) => {
-            let ended = GrowthFault::Read;
-            let _ = eprintln!(rt; "{ended}");
-            if let Ok(text) = unopened_text(rt.alloc(), name, &error) {
-                let _ = eprintln!(rt; "{text}");
-            }
-            Err(ended)
-        }
-    }
+    ended
 }
 
 /// Prints that rows are read from standard input, if that is a terminal.
@@ -96,7 +117,10 @@ fn all_bytes<R: Read + Drop>(
     rt: &HostRuntime,
     name: &str,
     reader: R,
-) -> Result<Vec<u8>, GrowthFault> {
+) -> Result<Vec<u8>, GrowthFault>
+    ensures bytes { IfOk result (λ bytes. IfSome (R.remaining reader) (λ xs. bytes.items ≡ xs)) }
+    ensures fault { IfErr result (λ fault. (fault ≡ Read) ⊎ (fault ≡ OutOfMemory)) }
+{
     match Source::new(reader).read_all(rt.alloc()) {
         Ok(bytes) => Ok(bytes),
         Err(ReadFault::OutOfMemory) => Err(told(rt, GrowthFault::OutOfMemory)),
@@ -112,7 +136,9 @@ fn all_bytes<R: Read + Drop>(
 }
 
 /// Ends if a file has a line that is no row. Prints its name, and which line.
-fn no_rows(rt: &HostRuntime, name: &str, fault: RowFault) -> GrowthFault {
+fn no_rows(rt: &HostRuntime, name: &str, fault: RowFault) -> GrowthFault
+    ensures { result ≡ fault_of_rows fault }
+{
     if fault == RowFault::OutOfMemory {
         return told(rt, GrowthFault::OutOfMemory);
     }

@@ -1,4 +1,5 @@
-ghost use Rattle.std.specs.Prelude.{◌≡◌, [], IfErr};
+ghost use Rattle.std.specs.Prelude.{◌≡◌, ◌<◌, [], IfErr, OnOk};
+ghost use Rattle.ov_io.specs.Device.{most_faults};
 ghost use Rattle.ov_grow.specs.Sweeps.{WereGiven};
 ghost use Rattle.ov_grow_commands.specs.KeptRows.{asked_measures, needs_rows};
 ghost use Rattle.ov_grow_commands.specs.Code.Keeping.{IsOfNoRun, kept_rows};
@@ -8,6 +9,8 @@ use ov_arguments::{Printed, SweepRequest};
 use ov_grow::{RowTaker, SweepFault};
 use ov_io::Sink;
 use ov_sweep_rows::{Measures, Row, RowForm, header_text, row_text};
+use std::alloc::Global;
+use std::io::Write;
 
 /// Prints the rows of a sweep as they come, unless a summary or an answer is asked for, and keeps those that are needed
 /// at the end.
@@ -75,7 +78,8 @@ impl<'a> RowPrinter<'a> {
         if self.request.printed != Printed::Rows {
             return Ok(());
         }
-        write_rows(self.rt, form_asked(self.request), rows)
+        let mut sink = Sink::new(self.rt.stdout());
+        write_rows(self.rt.alloc(), form_asked(self.request), rows, &mut sink)
     }
 
     /// Keeps rows, if a summary, an answer or a picture needs them.
@@ -130,13 +134,20 @@ impl<'a> RowTaker for RowPrinter<'a> {
     }
 }
 
-/// Writes rows of this form to standard output, one after the other.
-pub(crate) fn write_rows(rt: &HostRuntime, form: RowForm, rows: &[Row]) -> Result<(), SweepFault>
-    ensures { IfErr result IsOfNoRun }
+/// Writes rows of this form, one after the other. That a write failed is not passed over.
+pub(crate) fn write_rows<W: Write>(
+    alloc: Global,
+    form: RowForm,
+    rows: &[Row],
+    sink: &mut Sink<W>,
+) -> Result<(), SweepFault>
+    requires { sink.old.faults < most_faults }
+    ensures fault { IfErr result IsOfNoRun }
+    ensures unfailed { OnOk result (sink.new.faults ≡ sink.old.faults) }
 {
     for row in rows {
-        let text = row_text(rt.alloc(), form, row)?;
-        Sink::new(rt.stdout()).write_all(&text)?;
+        let text = row_text(alloc, form, row)?;
+        sink.write_all(&text)?;
     }
     Ok(())
 }

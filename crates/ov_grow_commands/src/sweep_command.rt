@@ -86,12 +86,9 @@ fn read_and_print(
 fn print_rows(rt: &HostRuntime, rows: &[Row]) -> Result<(), GrowthFault> {
     let form = RowForm::of_rows(rows);
     let header = header_text(rt.alloc(), form)?;
-    Sink::new(rt.stdout()).write_all(&header)?;
-    match write_rows(rt, form, rows) {
-        Ok(()) => Ok(()),
-        Err(SweepFault::OutOfMemory) => Err(GrowthFault::OutOfMemory),
-        Err(_) => Err(GrowthFault::Write),
-    }
+    let mut sink = Sink::new(rt.stdout());
+    sink.write_all(&header)?;
+    Ok(write_rows(rt.alloc(), form, rows, &mut sink)?)
 }
 
 /// Grows the overlays of a sweep, and prints their rows, or what is told of them, and writes the picture if one is
@@ -111,8 +108,7 @@ fn grow_and_print<T: Threads + Sync>(
             }
             Err(refused_run(rt, &refused))
         }
-        Err(SweepFault::Write) => Err(told(rt, GrowthFault::Write)),
-        Err(SweepFault::OutOfMemory) => Err(told(rt, GrowthFault::OutOfMemory)),
+        Err(fault) => Err(told(rt, GrowthFault::from(fault))),
     }
 }
 

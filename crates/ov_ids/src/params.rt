@@ -1,4 +1,4 @@
-ghost use Rattle.std.specs.Prelude.{◌≡◌, ◌≤◌, IfOk, IsOk, ◌↔◌};
+ghost use Rattle.std.specs.Prelude.{◌≡◌, IfOk, IsOk, ◌↔◌};
 ghost use Rattle.ov_ids.specs.ParamsState.{ParamsState, AreWithinLimits, params_of};
 
 use crate::Refill;
@@ -47,7 +47,6 @@ pub struct Params {
 
 impl Model for Params {
     ghost use Rattle.ov_ids.specs.ParamsState.{AreWithinLimits, ParamsState, params_of};
-    ghost use Rattle.ov_ids.specs.declared.params.Params.TheInside.{Inside};
 
     ghost Value = { ParamsState };
 

@@ -1,12 +1,15 @@
 -- What the handlers of joins send, and the step that passes FORWARDJOIN on.
-use Rattle.std.proofs.Common.{◌≡◌, ℕ, ◌+◌, ◌-◌, ◌≤◌, ◌||◌, false, true, eqb, List, [], ◌∷◌, ◌++◌, length, refl, sym}
+use Rattle.std.proofs.Common.{◌≡◌, ℕ, ◌+◌, ◌-◌, ◌≤◌, ◌||◌, ◌&&◌, not, false, true, eqb, List, [], ◌∷◌}
+use Rattle.std.proofs.Common.{◌++◌, length, refl, sym}
 use Rattle.std.proofs.Common.{subst, arith}
-use Rattle.std.proofs.lemmas.Bool.{both_ways}
-use Rattle.std.specs.Prelude.{MatchBool}
+use Rattle.std.proofs.lemmas.Bool.{both_ways, ne_eqb}
+use Rattle.std.specs.Prelude.{MatchBool, if◌then◌else◌}
+use Rattle.std.specs.List.{list_any}
 use Rattle.ov_ids.proofs.Cases.{where_false, either_way}
 use Rattle.ov_ids.specs.Sets.{IsIn, has, adding, without}
 use Rattle.ov_ids.proofs.Sets.{IsIn-self, length-without_less}
 use Rattle.ov_views.specs.Changes.{Keeps, MakesRoom, AddsActive}
+use Rattle.ov_views.proofs.Keeping.{KeepsActive, same_keeps, AddsPassive-keeps}
 use Rattle.ov_wire.proofs.Ranges.{Ranged}
 use Rattle.ov_wire.specs.declared.Body.TheVariants.{ForwardJoin}
 use Rattle.ov_words.specs.Pick.{Choice}
@@ -34,6 +37,29 @@ goes_on v s n ttl first target w s_other n_other on maybe h =
       refl,
       refl,
     ))
+
+-- there is nobody to go on to if no active member is another
+pub targets_tested : (s n : ℕ) (active : List ℕ) →
+    not (list_any (λ member. not (eqb member s) && not (eqb member n)) active)
+    ≡ eqb (length (without n (without s active))) 0
+targets_tested s n [] = refl
+targets_tested s n (x ∷ active) =
+    elim (eqb x s) as (λ b. not ((not b && not (eqb x n)) || list_any (λ m. not (eqb m s) && not (eqb m n)) active)
+    ≡ eqb (length (without n (if (not b) then x ∷ without s active else without s active))) 0) [
+      | true ↦ targets_tested s n active
+      | false ↦ elim (eqb x n) as
+          (λ b. not (not b || list_any (λ m. not (eqb m s) && not (eqb m n)) active)
+          ≡ eqb (length (if (not b) then x ∷ without n (without s active) else without n (without s active))) 0) [
+            | true ↦ targets_tested s n active
+            | false ↦ sym (ne_eqb (length (x ∷ without n (without s active))) 0 (omega arith))
+          ]
+    ]
+
+-- whether n is remembered or not, the node and its active view stay
+pub remembers_keeps : (v : ViewsState) (n ttl : ℕ) (choices : List Choice) (w : ViewsState) →
+    Remembers v n ttl choices w → KeepsActive v n w
+remembers_keeps v n ttl choices w =
+    either_way (eqb ttl v.params.prwl) _ _ _ (AddsPassive-keeps v n choices w) (λ k. same_keeps v w n k.1)
 
 pub Ranged-forwards : (me node ttl : ℕ) (members : List ℕ) → ttl ≤ 15 → Ranged (forwards me node ttl members)
 Ranged-forwards me node ttl [] low = tt

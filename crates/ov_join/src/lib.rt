@@ -8,10 +8,11 @@
 //! beside it.
 #![tactic(auto)]
 
-ghost use Rattle.std.specs.Prelude.{◌≡◌, ◌==◌, ◌||◌, ◌≤◌, ◌<◌, ◌+◌, ◌++◌, ℕ, false, length, nat_le, vec_len, IfOk};
-ghost use Rattle.std.specs.Prelude.{OnErr};
-ghost use Rattle.ov_wire.specs.Messages.{AreSendsInRange, most_ttl};
-ghost use Rattle.ov_words.specs.Pick.{Drawn};
+ghost use Rattle.std.specs.Prelude.{◌≡◌, ◌==◌, ◌&&◌, ◌≤◌, ◌<◌, ◌+◌, ◌-◌, ◌++◌, [], ◌∷◌, false, not, length, vec_len};
+ghost use Rattle.std.specs.Prelude.{IfOk, OnErr};
+ghost use Rattle.std.specs.List.{list_any};
+ghost use Rattle.ov_wire.specs.Messages.{AreSendsInRange, most_ttl, say};
+ghost use Rattle.ov_words.specs.Pick.{AreDrawn, Drawn};
 ghost use Rattle.ov_views.specs.Room.{HasRoom};
 ghost use Rattle.ov_views.specs.Allowed.{hears};
 ghost use Rattle.ov_views.specs.Handling.{ViewsStep, step_words, step_sends};
@@ -20,7 +21,7 @@ ghost use Rattle.ov_wire.specs.declared.message.Body.TheVariants.{Join, ForwardJ
 
 mod walk_that_goes_on;
 
-use ov_ids::{IdSet, MOST_ACTIVE, NodeId, OutOfMemory};
+use ov_ids::{MOST_ACTIVE, NodeId, OutOfMemory};
 use ov_views::{Moves, View, Views};
 use ov_wire::{Body, Message};
 use ov_words::Draws;
@@ -108,8 +109,7 @@ pub fn on_forward_join(
     if from == me || node == me {
         return Ok(moves);
     }
-    let others = views.all_but(View::Active, &[from, node]);
-    if ends_here(views, &others, ttl) {
+    if ends_here(views, from, node, ttl) {
         moves.tell(me, views.add_active(node, draws));
         let message = Message {
             from: me,
@@ -119,16 +119,8 @@ pub fn on_forward_join(
         return Ok(moves);
     }
     remember(views, draws, node, ttl);
-    match draws.pick(others.as_slice()) {
-        Some(to) => {
-            let message = Message {
-                from: me,
-                body: Body::ForwardJoin { node, ttl: ttl - 1 },
-            };
-            moves.send(to, message);
-        }
-        None => unreachable!(),
-    }
+    let (to, message) = next_step(views, draws, from, node, ttl);
+    moves.send(to, message);
     Ok(moves)
 }
 
@@ -138,7 +130,7 @@ fn remember(views: &mut Views, draws: &mut Draws<'_>, node: NodeId, ttl: u8)
     ensures drawn { Drawn draws.old draws.new (λ choices. Remembers views.old node ttl choices views.new) }
     ensures words { length draws.old ≤ length draws.new + 1 }
 {
-    if ttl == views.params().prwl() {
+    if is_remembered(views, ttl) {
         views.add_passive(node, draws);
     }
 }
@@ -150,19 +142,52 @@ fn is_remembered(views: &Views, ttl: u8) -> bool
     ttl == views.params().prwl()
 }
 
-/// Whether the walk of FORWARDJOIN ends here, wherever it came from: no step is left, or at most one member is active.
-fn ends_anyway(views: &Views, ttl: u8) -> bool
-    ensures value { result ≡ ((ttl == 0) || nat_le (length views.now.active) 1) }
+/// Whether the walk of FORWARDJOIN ends here. Otherwise a step is left, and there is somebody to go on to.
+fn ends_here(views: &Views, from: NodeId, node: NodeId, ttl: u8) -> bool
+    ensures value { result ≡ walk_ends views.now from node ttl }
     ensures steps { result ≡ false → 0 < ttl }
+    ensures targets { result ≡ false → 0 < length (walk_targets views.now from node) }
 {
-    ttl == 0 || views.active().len() <= 1
+    ttl == 0 || views.active().len() <= 1 || !has_target(views, from, node)
 }
 
-/// Whether the walk of FORWARDJOIN ends here. Otherwise it goes on to one of the others.
-fn ends_here(views: &Views, others: &IdSet, ttl: u8) -> bool
-    ensures { (s n : ℕ) → others.now ≡ walk_targets views.now s n → result ≡ walk_ends views.now s n ttl }
+/// Whether there is an active member other than these two.
+fn has_target(views: &Views, from: NodeId, node: NodeId) -> bool
+    ensures { result ≡ list_any (λ member. not (member == from) && not (member == node)) views.now.active }
 {
-    ttl == 0 || views.active().len() <= 1 || others.len() == 0
+    views
+        .active()
+        .iter()
+        .any(|member| *member != from && *member != node)
+}
+
+/// The message by which the walk of FORWARDJOIN goes on, and a random active member that it goes to: neither of these
+/// two, and there must be one.
+fn next_step(
+    views: &Views,
+    draws: &mut Draws<'_>,
+    from: NodeId,
+    node: NodeId,
+    ttl: u8,
+) -> (NodeId, Message)
+    requires word { 0 < length draws.old }
+    requires steps { 0 < ttl }
+    requires targets { 0 < length (walk_targets views.now from node) }
+    ensures drawn { AreDrawn (record { from = walk_targets views.now from node; member = result.0 } ∷ [])
+        draws.old draws.new }
+    ensures words { length draws.old ≡ length draws.new + 1 }
+    ensures message { result.1 ≡ say views.now.me (ForwardJoin node (ttl - 1)) }
+{
+    match views.pick_but(&[from, node], draws) {
+        Some(to) => {
+            let message = Message {
+                from: views.me(),
+                body: Body::ForwardJoin { node, ttl: ttl - 1 },
+            };
+            (to, message)
+        }
+        None => unreachable!(),
+    }
 }
 
 /// The effects of JOINED from a node, which has made this one active: it becomes active here. At most two random

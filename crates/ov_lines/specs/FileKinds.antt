@@ -1,8 +1,8 @@
 -- What the bytes of a file look like, or those that it begins with: by the first line that says something, and how
 -- that begins. It is a guess, from which `overlay import` takes the form of a dump, and by which a person is told which
 -- command reads such a file. Chosen here.
-use Rattle.std.specs.Prelude.{ℕ, Bool, true, false, ◌&&◌, ◌||◌, nat_eq, List, [], ◌∷◌, codes, drop, map, if◌then◌else◌}
-use Rattle.std.specs.Prelude.{is_some}
+use Rattle.std.specs.Prelude.{ℕ, Bool, true, false, ◌&&◌, ◌||◌, nat_eq, List, [], ◌∷◌, ◌++◌, codes, drop, map}
+use Rattle.std.specs.Prelude.{if◌then◌else◌, is_some}
 use Rattle.std.specs.Char.{to_ascii_lowercase}
 use Rattle.std.specs.List.{list_any, starts_with}
 use Rattle.memchr.specs.Find.{first_of, matches}
@@ -91,9 +91,13 @@ begins_dot text =
 abbrev pub graph_words : List (List ℕ)
 graph_words = codes "node" ∷ codes "link" ∷ []
 
--- the words that a scenario begins with: of its settings, of random words, of a birth and of sections
+-- the names of the lines of a scenario that set something for lines after them
+abbrev pub setting_names : List (List ℕ)
+setting_names = codes "params" ∷ codes "seed" ∷ codes "refill" ∷ codes "words" ∷ []
+
+-- the words that a scenario begins with: of its settings, of a birth and of sections
 abbrev pub scenario_words : List (List ℕ)
-scenario_words = codes "params" ∷ codes "seed" ∷ codes "words" ∷ codes "boot" ∷ codes "together" ∷ []
+scenario_words = setting_names ++ (codes "boot" ∷ codes "together" ∷ [])
 
 -- the kind of files that begin with this word
 unfoldable pub kind_of_word : List ℕ → FileKind

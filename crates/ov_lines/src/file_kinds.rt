@@ -14,8 +14,8 @@ use memchr::memmem;
 /// The words that a graph file begins with.
 const GRAPH_WORDS: [&str; 2] = ["node", "link"];
 
-/// The words that a scenario begins with: of its settings, of random words, of a birth and of sections.
-const SCENARIO_WORDS: [&str; 5] = ["params", "seed", "words", "boot", "together"];
+/// The words that a scenario begins with: of its settings, of a birth and of sections.
+const SCENARIO_WORDS: [&str; 6] = ["params", "seed", "refill", "words", "boot", "together"];
 
 /// What the bytes of a file look like.
 #[derive(Clone, Copy, Debug, PartialEq, Eq)]

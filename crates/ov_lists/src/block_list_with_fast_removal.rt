@@ -9,7 +9,6 @@ use crate::item_iter::Items;
 use ov_ids::OutOfMemory;
 use std::alloc::Global;
 use std::marker::Model;
-use std::mem::replace;
 
 /// A list from which an item at any place is taken out in little time. Contracts see it as `Listed`.
 ///

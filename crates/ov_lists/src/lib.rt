@@ -8,6 +8,7 @@ mod block_list_with_fast_removal;
 mod block_sequence;
 mod ids_of_one_path;
 mod item_iter;
+mod path_ends;
 mod path_iter;
 mod path_list;
 mod paths_builder;

@@ -1,8 +1,9 @@
-ghost use Rattle.std.specs.Prelude.{◌≡◌, length};
+ghost use Rattle.std.specs.Prelude.{◌≡◌, ◌<◌, ◌^◌, length};
 ghost use Rattle.std.specs.Iterator.{YieldsFirstRef, item_count};
 ghost use Rattle.ov_lists.specs.Code.Cut.{paths_from, AreEnds};
 
 use crate::ids_of_one_path::id_range;
+use crate::path_ends::{EndIter, Ends};
 use ov_ids::NodeId;
 use std::marker::Model;
 
@@ -10,7 +11,7 @@ use std::marker::Model;
 #[derive(Drop)]
 pub struct PathIter<'a> {
     ids: &'a [NodeId],
-    ends: &'a [u32],
+    ends: EndIter<'a>,
     start: usize,
 }
 
@@ -20,20 +21,21 @@ impl<'a> Model for PathIter<'a> {
 
     ghost Value = { List (List ℕ) };
 
-    ghost view = { λ i. paths_from i.start i.ends.now i.ids.now };
+    ghost view = { λ i. paths_from i.start i.ends i.ids.now };
 
-    ghost invariant = { λ i. AreEnds i.start i.ends.now (length i.ids.now) };
+    ghost invariant = { λ i. AreEnds i.start i.ends (length i.ids.now) };
 }
 
 impl<'a> PathIter<'a> {
     /// The paths that are written in `ids`, each up to one of the ends.
-    pub(crate) fn new(ids: &'a [NodeId], ends: &'a [u32]) -> PathIter<'a>
+    pub(crate) fn new(ids: &'a [NodeId], ends: &'a Ends) -> PathIter<'a>
         requires { AreEnds 0 ends.now (length ids.now) }
-        ensures { result ≡ paths_from 0 ends.now ids.now }
+        ensures paths { result ≡ paths_from 0 ends.now ids.now }
+        ensures few { length ends.now < 2 ^ 64 }
     {
         PathIter {
             ids,
-            ends,
+            ends: ends.iter(),
             start: 0,
         }
     }
@@ -47,11 +49,9 @@ impl<'a> Iterator for PathIter<'a> {
     ghost remaining = { item_count (λ i. i) };
 
     fn next(&mut self) -> Option<&'a [NodeId]> {
-        let (end, rest) = self.ends.split_first()?;
-        let end = *end as usize;
+        let end = self.ends.next_end()?;
         let path = id_range(self.ids, self.start, end);
         self.start = end;
-        self.ends = rest;
         Some(path)
     }
 }

@@ -2,7 +2,8 @@ ghost use Rattle.std.specs.Prelude.{◌≡◌, ◌==◌, ◌<◌, ◌^◌, [], �
 ghost use Rattle.std.specs.Prelude.{OnErr, OnOk};
 ghost use Rattle.ov_lists.specs.Code.Cut.{paths_from, AreEnds};
 
-use crate::ids_of_one_path::{end_after, id_range, start_of};
+use crate::ids_of_one_path::{id_range, start_of};
+use crate::path_ends::Ends;
 use crate::path_iter::PathIter;
 use ov_ids::{NodeId, OutOfMemory};
 use std::alloc::Global;
@@ -14,8 +15,7 @@ use std::marker::Model;
 #[derive(Debug, Drop)]
 pub struct Paths {
     ids: Vec<NodeId>,
-    /// How many ids there are up to the end of each path.
-    ends: Vec<u32>,
+    ends: Ends,
 }
 
 impl Model for Paths {
@@ -24,9 +24,9 @@ impl Model for Paths {
 
     ghost Value = { List (List ℕ) };
 
-    ghost view = { λ p. paths_from 0 p.ends.items p.ids.items };
+    ghost view = { λ p. paths_from 0 p.ends p.ids.items };
 
-    ghost invariant = { λ p. AreEnds 0 p.ends.items (length p.ids.items) };
+    ghost invariant = { λ p. AreEnds 0 p.ends (length p.ids.items) };
 }
 
 impl Paths {
@@ -36,29 +36,29 @@ impl Paths {
     {
         Paths {
             ids: Vec::new(alloc),
-            ends: Vec::new(alloc),
+            ends: Ends::new(alloc),
         }
     }
 
     /// The paths that are written in `ids`, each up to one of the ends. Nothing is allocated.
-    pub(crate) fn of_parts(ids: Vec<NodeId>, ends: Vec<u32>) -> Paths
-        requires { AreEnds 0 ends.items (length ids.items) }
-        ensures { result ≡ paths_from 0 ends.items ids.items }
+    pub(crate) fn of_parts(ids: Vec<NodeId>, ends: Ends) -> Paths
+        requires { AreEnds 0 ends (length ids.items) }
+        ensures { result ≡ paths_from 0 ends ids.items }
     {
         Paths { ids, ends }
     }
 
-    /// Appends a path. OutOfMemory (99) if an allocation is refused, or if all paths would have more ids than 32 bits
-    /// count; the list is unchanged then.
+    /// Appends a path. OutOfMemory (99) if an allocation is refused; the list is unchanged then.
     pub fn push(&mut self, path: &[NodeId]) -> Result<(), OutOfMemory>
         ensures pushed { OnOk result (self.new ≡ self.old ++ path.now ∷ []) }
         ensures unchanged { OnErr result (self.new ≡ self.old) }
     {
-        let end = end_after(self.ids.len(), path.len())?;
-        self.ends.reserve(1)?;
-        self.ids.extend_from_slice(path)?;
-        self.ends.push_reserved(end);
-        Ok(())
+        self.ids.reserve(path.len())?;
+        self.ends.push(self.ids.len() + path.len())?;
+        match self.ids.extend_from_slice(path) {
+            Ok(()) => Ok(()),
+            Err(_) => unreachable!(),
+        }
     }
 
     /// How many paths there are.
@@ -85,7 +85,7 @@ impl Paths {
             return None;
         }
         let start = start_of(&self.ends, place);
-        Some(id_range(&self.ids, start, self.ends[place] as usize))
+        Some(id_range(&self.ids, start, self.ends.get(place)))
     }
 
     /// The paths in order.

@@ -1,17 +1,17 @@
 ghost use Rattle.std.specs.Prelude.{◌≡◌, [], ◌∷◌, ◌++◌, IfOk, OnOk, OnErr};
 ghost use Rattle.ov_lists.specs.Building.{Building};
 
-use crate::ids_of_one_path::end_after;
+use crate::path_ends::Ends;
 use crate::path_list::Paths;
 use ov_ids::{NodeId, OutOfMemory};
-use std::alloc::{AllocError, Global};
+use std::alloc::Global;
 use std::marker::Model;
 
 /// Builds a list of paths id by id. Contracts see the paths so far, and the ids of the one that is begun.
 #[derive(Drop)]
 pub struct PathsBuilder {
     ids: Vec<NodeId>,
-    ends: Vec<u32>,
+    ends: Ends,
     /// How many ids there are up to the end of the last path.
     last_end: usize,
 }
@@ -24,11 +24,11 @@ impl Model for PathsBuilder {
     ghost Value = { Building };
 
     ghost view = { λ b. record {
-      paths = paths_from 0 b.ends.items b.ids.items;
+      paths = paths_from 0 b.ends b.ids.items;
       begun = drop b.last_end b.ids.items;
     } };
 
-    ghost invariant = { λ b. AreEnds 0 b.ends.items b.last_end × (b.last_end ≤ length b.ids.items) };
+    ghost invariant = { λ b. AreEnds 0 b.ends b.last_end × (b.last_end ≤ length b.ids.items) };
 }
 
 impl PathsBuilder {
@@ -43,7 +43,7 @@ impl PathsBuilder {
     {
         Ok(PathsBuilder {
             ids: Vec::with_capacity(alloc, ids)?,
-            ends: Vec::with_capacity(alloc, paths)?,
+            ends: Ends::with_capacity(alloc, paths)?,
             last_end: 0,
         })
     }
@@ -57,16 +57,16 @@ impl PathsBuilder {
         Ok(())
     }
 
-    /// Ends the path that is begun. The next one is empty at first. OutOfMemory (99) if an allocation is refused, or if
-    /// there are more ids than 32 bits count; nothing has changed then.
+    /// Ends the path that is begun. The next one is empty at first. OutOfMemory (99) if an allocation is refused;
+    /// nothing has changed then.
     pub fn end_path(&mut self) -> Result<(), OutOfMemory>
         ensures ended { OnOk result (self.new
             ≡ record { paths = self.old.paths ++ self.old.begun ∷ []; begun = [] }) }
         ensures unchanged { OnErr result (self.new ≡ self.old) }
     {
-        let end = end_after(self.ids.len(), 0)?;
+        let end = self.ids.len();
         self.ends.push(end)?;
-        self.last_end = end as usize;
+        self.last_end = end;
         Ok(())
     }
 

@@ -1,6 +1,6 @@
 ghost use Rattle.std.specs.Prelude.{IfOk, IfErr, OnOk, Some, length};
 ghost use Rattle.ov_net.specs.Code.Refusals.{fault_in, IsAbsent};
-ghost use Rattle.ov_net.specs.Net.{LivesAs, IsGone};
+ghost use Rattle.ov_net.specs.Net.{LivesAs};
 ghost use Rattle.ov_net.specs.Refusals.{EventJudged, StepJudged, MayHappen, BirthLast, PlacesLast};
 ghost use Rattle.ov_net.specs.declared.event.Event.TheVariants.{Boot, Deliver, Lose, Crash};
 ghost use Rattle.ov_net.specs.declared.event.Event.TheVariants.{CrashReport, Shuffle, Broadcast, Timer};

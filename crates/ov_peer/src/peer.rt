@@ -226,8 +226,8 @@ impl Peer {
         })
     }
 
-    /// Follows a plan as `apply` does, with the same fault. What becomes part of the node is taken out of the plan, also
-    /// if there is a fault; what the step sends, changes and delivers stays in it. So nothing large is moved.
+    /// Follows a plan as `apply` does, with the same fault. What becomes part of the node is taken out of the plan,
+    /// also if there is a fault; what the step sends, changes and delivers stays in it. So nothing large is moved.
     pub fn follow(&mut self, plan: &mut Plan) -> Result<(), OutOfMemory>
         requires { IsPlanFor self.old plan.old }
         ensures follows { OnOk result (Follows self.old plan.old self.new) }

@@ -1,4 +1,4 @@
-ghost use Rattle.std.specs.Prelude.{◌≡◌, [], None, IfOk};
+ghost use Rattle.std.specs.Prelude.{◌≡◌, [], None};
 ghost use Rattle.ov_views.specs.Allowed.{HyParViewState};
 ghost use Rattle.ov_peer.specs.Code.MovesPlan.{IsPlanOfMoves};
 ghost use Rattle.ov_peer.specs.Planning.{hyparview_after};
@@ -6,7 +6,7 @@ ghost use Rattle.ov_peer.specs.Step.{delivery_at};
 ghost use Rattle.ov_peer.specs.declared.plan.HyParViewChange.TheVariants.{Nothing};
 
 use crate::input_and_output::Delivery;
-use ov_ids::{MsgId, NodeId, OutOfMemory, Seq};
+use ov_ids::{MsgId, NodeId, Seq};
 use ov_neighbor::Attempt;
 use ov_plum::{PlumChange, PlumPlan, Spread};
 use ov_shuffle::Sent;

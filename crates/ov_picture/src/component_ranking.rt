@@ -1,4 +1,5 @@
-use ov_drawing::{Drawing, DrawnLink, DrawnNode, LinkClass, NodeClass};
+use ov_drawing::{Drawing, DrawnNode, NodeClass};
+use ov_ids::NodeId;
 use std::alloc::{AllocError, Global};
 
 /// A connected component that the crash leaves.
@@ -41,14 +42,15 @@ impl Components {
     /// The components of the survivors of a drawing.
     pub(crate) fn new(alloc: Global, drawing: &Drawing) -> Result<Components, AllocError> {
         let nodes = drawing.nodes.as_slice();
-        let above = joined(alloc, nodes, drawing.links.as_slice())?;
         let mut components = Components {
-            all: Vec::new(alloc),
+            all: Vec::with_capacity(alloc, drawing.components.len())?,
             ranked: Vec::new(alloc),
             places: Vec::with_capacity(alloc, nodes.len())?,
         };
-        for (at, node) in nodes.iter().enumerate() {
-            components.add(node.class, root(&above, at))?;
+        components.places.resize(nodes.len(), None)?;
+        for place in 0..drawing.components.len() {
+            let members = drawing.components.get(place).unwrap_or(&[]);
+            components.add(nodes, members)?;
         }
         components.ranked = ranked(alloc, &components.all)?;
         components.put_ranks();
@@ -83,38 +85,27 @@ impl Components {
         self.all.get(place).copied()
     }
 
-    /// Counts the next node, of this class, in the component whose first node is at this place.
-    fn add(&mut self, class: NodeClass, first: usize) -> Result<(), AllocError> {
-        if class == NodeClass::Cut || class == NodeClass::Unparted {
-            self.places.push(None)?;
-            return Ok(());
-        }
-        let place = match self.places.get(first).copied().flatten() {
-            Some(place) => place,
-            None => self.begin()?,
-        };
-        self.places.push(Some(place))?;
-        if let Some(component) = self.all.get_mut(place) {
-            component.size = component.size.saturating_add(1);
-            component.with = match class {
-                NodeClass::Near => Main::Near,
-                NodeClass::Far => Main::Far,
-                _ => component.with,
+    /// Takes in the next component, which has these members.
+    fn add(&mut self, nodes: &[DrawnNode], members: &[NodeId]) -> Result<(), AllocError> {
+        let mut with = Main::Neither;
+        for id in members {
+            let at = place_of(nodes, id.0);
+            if let Some(place) = self.places.get_mut(at) {
+                *place = Some(self.all.len());
+            }
+            with = match nodes.get(at).map(|node| node.class) {
+                Some(NodeClass::Near) => Main::Near,
+                Some(NodeClass::Far) => Main::Far,
+                _ => with,
             };
         }
-        Ok(())
-    }
-
-    /// Begins the next component. Returns its place.
-    fn begin(&mut self) -> Result<usize, AllocError> {
-        let place = self.all.len();
         self.all.push(Component {
-            number: place.saturating_add(1),
-            size: 0,
-            with: Main::Neither,
+            number: self.all.len().saturating_add(1),
+            size: members.len(),
+            with,
             rank: 0,
         })?;
-        Ok(place)
+        Ok(())
     }
 
     /// Says of each component which rank it has.
@@ -125,61 +116,6 @@ impl Components {
             }
         }
     }
-}
-
-/// For each node the place of another node of its component that comes before it, or its own place. Only links between
-/// survivors join nodes.
-fn joined(
-    alloc: Global,
-    nodes: &[DrawnNode],
-    links: &[DrawnLink],
-) -> Result<Vec<usize>, AllocError> {
-    let mut above = own_places(alloc, nodes.len())?;
-    for link in links {
-        match link.class {
-            LinkClass::WithinSide | LinkClass::WithinFar | LinkClass::Across => {
-                let from = place_of(nodes, link.from.0);
-                join(&mut above, from, place_of(nodes, link.to.0));
-            }
-            _ => {}
-        }
-    }
-    Ok(above)
-}
-
-/// The places of so many nodes.
-fn own_places(alloc: Global, nodes: usize) -> Result<Vec<usize>, AllocError> {
-    let mut places = Vec::with_capacity(alloc, nodes)?;
-    for at in 0..nodes {
-        places.push(at)?;
-    }
-    Ok(places)
-}
-
-/// Joins the components of two nodes. Both nodes then stand right below the first node of the component, so that the
-/// way from a node to the first one stays short.
-fn join(above: &mut [usize], one: usize, other: usize) {
-    let first = root(above, one);
-    let second = root(above, other);
-    let lowest = first.min(second);
-    for at in [first, second, one, other] {
-        if let Some(place) = above.get_mut(at) {
-            *place = lowest;
-        }
-    }
-}
-
-/// The first node of the component of a node, by its place.
-fn root(above: &[usize], node: usize) -> usize {
-    let mut at = node;
-    for _ in 0..above.len() {
-        let next = above.get(at).copied().unwrap_or(at);
-        if next == at {
-            return at;
-        }
-        at = next;
-    }
-    at
 }
 
 /// These components in the order of their ranks.

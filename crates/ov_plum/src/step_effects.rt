@@ -2,7 +2,7 @@ ghost use Rattle.std.specs.Prelude.{◌≡◌, ◌≤◌, ◌+◌, ◌++◌, [],
 ghost use Rattle.ov_wire.specs.Messages.{AreInRange, say, AreSendsInRange};
 ghost use Rattle.ov_wire.specs.declared.message.Body.TheVariants.{IHave};
 ghost use Rattle.ov_plum.specs.PlumRows.{gossip, spread};
-ghost use Rattle.ov_plum.specs.PlumState.{HeldState, most_neighbours};
+ghost use Rattle.ov_plum.specs.PlumState.{most_neighbours};
 
 use crate::eager_and_lazy_neighbours::Branches;
 use crate::held_message::Held;

@@ -52,21 +52,6 @@ fn not_opened(rt: &HostRuntime, path: &str, error: io::Error) -> RunFault
     ended
 }
 
-/// All bytes of the file of this name, or of standard input. If it can't be read, prints why.
-///
-/// `Read` (71): the file can't be opened, or the reader failed. `OutOfMemory` (99): an allocation was refused.
-pub fn bytes_asked(rt: &HostRuntime, file: Option<&str>) -> Result<Vec<u8>, RunFault> {
-    match file {
-        None => bytes_of(rt, rt.stdin(), STANDARD_INPUT),
-        Some(path) => bytes_of_file(rt, path),
-    }
-}
-
-/// All bytes of the file of this name. The faults are those of `bytes_asked`.
-pub fn bytes_of_file(rt: &HostRuntime, path: &str) -> Result<Vec<u8>, RunFault> {
-    bytes_of(rt, opened(rt, path)?, path)
-}
-
 /// All bytes of a reader. If it can't be read, prints that, with its name.
 ///
 /// `Read` (71): the reader failed. `OutOfMemory` (99): an allocation was refused.

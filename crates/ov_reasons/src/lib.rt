@@ -30,9 +30,7 @@ pub use device_texts::WRITING_FAILED;
 pub use fault_printing::{print_fault, print_reason, without_memory};
 pub use fault_reasons::{analysis_reason, run_reason};
 pub use graph_file_texts::graph_reasons;
-pub use input_reading::{
-    STANDARD_INPUT, bytes_asked, bytes_of, bytes_of_file, opened, tell_typing,
-};
+pub use input_reading::{STANDARD_INPUT, bytes_of, opened, tell_typing};
 pub use line_refusal_reason_texts::{
     core_refusal_reason, count_line, refusal_line, world_refusal_reason,
 };

@@ -1,6 +1,6 @@
 -- What is said of a run of the bytes that were read is said of one of the reader that had them. `read` are these bytes
 -- as they were lent.
-use Rattle.std.proofs.Common.{◌≡◌, ◌⊎◌, inl, inr, ◌∙◌, ℕ, List, Option, Some, IfSome, Result, Ok, Err, refl, subst}
+use Rattle.std.proofs.Common.{◌≡◌, ◌⊎◌, inl, inr, ◌∙◌, ℕ, List, Option, Some, IfSome, Result, Ok, Err, subst}
 use Rattle.std.specs.declared.io.buffered.BufWriter.{BufWriter}
 use Rattle.ov_io.specs.Device.{SinkState}
 use Rattle.ov_run_meaning.specs.Ending.{IsBegun, Begins, IsEnded, Ends}

@@ -35,7 +35,8 @@ use std::thread::Threads;
 /// An event or an analysis that is out of memory is refused with 99, and the run goes on. OutOfMemory (99) is returned
 /// only if reading the scenario was out of memory, or making the hall before the first line, or reading a line of it
 /// with a payload or ids again when its turn came, or running a block of sections, or making the line of an event that
-/// happened, of a node or of a packet. The numbers and the form of what is printed are chosen here.
+/// happened, of a node or of a packet. The contract says so of a run that has written something; of one that has
+/// written nothing it does not say how far it came. The numbers and the form of what is printed are chosen here.
 ///
 /// Before each analysis, before each block of sections and at the end, the writer is asked to hand on what it keeps
 /// back (`Write::flush`), unless it has failed.

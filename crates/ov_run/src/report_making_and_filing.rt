@@ -14,7 +14,6 @@ use crate::hall_outside_sections::RunHall;
 use crate::recent_analyses_to_reuse::RecentReports;
 use ov_crew::{OpenGate, analyse_group_watched};
 use ov_even::Unwatched;
-use ov_graph::Graph;
 use ov_hall::HallName;
 use ov_ids::{NodeId, Seq, Workers};
 use ov_net::MOST_ENTRIES;

@@ -168,8 +168,9 @@ fn file_text(alloc: Global, report: &Report) -> Result<String, OutOfMemory>
 {
     let checked = report.checked();
     let (cert, graph, group) = (checked.cert(), checked.graph(), checked.members());
-    let text = to_text_group(alloc, cert, graph, group, report.moment())?;
-    Ok(format!(in alloc; "{text}\n")?)
+    let mut text = to_text_group(alloc, cert, graph, group, report.moment())?;
+    text.push_str("\n")?;
+    Ok(text)
 }
 
 /// Writes the lines of packets. If OutOfMemory is returned, the lines of the first packets were written whole, and at

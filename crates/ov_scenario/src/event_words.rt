@@ -1,4 +1,4 @@
-ghost use Rattle.std.specs.Prelude.{◌≡◌, length, replicate};
+ghost use Rattle.std.specs.Prelude.{◌≡◌, replicate};
 ghost use Rattle.ov_words.specs.Stream.{words_per_event};
 
 use crate::given_random_words_reading::GivenWords;

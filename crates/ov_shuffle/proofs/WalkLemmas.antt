@@ -1,5 +1,6 @@
 -- A shuffle starts, walks on, or ends.
-use Rattle.std.proofs.Common.{◌≡◌, ℕ, ◌-◌, false, true, eqb, List, [], ◌∷◌, ◌++◌, length, refl, arith}
+use Rattle.std.proofs.Common.{◌≡◌, ℕ, ◌-◌, false, true, eqb, List, [], ◌∷◌, ◌++◌, length, refl, sym, arith}
+use Rattle.std.specs.Prelude.{Option, None, is_some}
 use Rattle.std.proofs.lemmas.Bool.{ne_eqb}
 use Rattle.ov_ids.proofs.Cases.{where_true, where_false}
 use Rattle.ov_ids.specs.Sets.{IsIn, without}
@@ -9,7 +10,8 @@ use Rattle.ov_words.specs.Pick.{Choice}
 use Rattle.ov_views.specs.ViewsState.{ViewsState}
 use Rattle.ov_views.specs.Sampling.{Samples, Integrates}
 use Rattle.ov_views.specs.Sending.{say}
-use Rattle.ov_views.specs.ShuffleRows.{AllowedStart, AllowedShuffle, walks_on}
+use Rattle.ov_views.specs.ShuffleRows.{AllowedStart, AllowedShuffle, walks_on, is_handed_on}
+use Rattle.ov_views.specs.declared.step_effects.Moves.{Moves}
 
 pub walks : (v : ViewsState) (s o ttl : ℕ) (ids : List ℕ) (target : ℕ) → eqb s v.me ≡ false → walks_on v ttl ≡ true →
     IsIn (without s v.active) target →
@@ -44,3 +46,9 @@ starts v sent target first last actives passives kept h s t e =
       listed = e;
       sent = refl;
     })
+
+-- a shuffle from another node that is not handed on ends
+pub not_on : (v : ViewsState) (s ttl : ℕ) (walked : Option Moves) → eqb s v.me ≡ false →
+    is_some walked ≡ is_handed_on v s ttl → walked ≡ None → walks_on v ttl ≡ false
+not_on v s ttl walked other handed none =
+    let ends : false ≡ is_handed_on v s ttl = rw none at handed in sym (rw other at ends)

@@ -120,26 +120,14 @@ pub fn on_shuffle(
     ensures ranges { IfOk result (λ m. AreSendsInRange m.sends.items) }
     ensures err { OnErr result ((views.new ≡ views.old) × (draws.new ≡ draws.old)) }
 {
+    match walk(alloc, views, draws, from, origin, ttl, ids)? {
+        Some(moves) => return Ok(moves),
+        None => {}
+    }
     let mut moves = Moves::to_send(alloc, 1)?;
     let mut list = Vec::with_capacity(alloc, ids.len())?;
     let me = views.me();
-    if from == me {
-        return Ok(moves);
-    }
-    if walks_on(views, ttl) {
-        append(&mut list, ids);
-        let body = Body::Shuffle {
-            origin,
-            ttl: ttl - 1,
-            ids: Seq::new(list),
-        };
-        match draws.pick(views.all_but(View::Active, &[from]).as_slice()) {
-            Some(to) => moves.send(to, Message { from: me, body }),
-            None => unreachable!(),
-        }
-        return Ok(moves);
-    }
-    if origin == me {
+    if from == me || origin == me {
         return Ok(moves);
     }
     let those = views.sample(View::Passive, ids.len(), draws);

@@ -1,7 +1,8 @@
-ghost use Rattle.std.specs.Prelude.{◌≡◌, ◌≤◌, ◌+◌, length, vec_len, IfOk, IfSome, IfNone, OnErr};
+ghost use Rattle.std.specs.Prelude.{◌≡◌, ◌≤◌, ◌+◌, length, vec_len, is_some, IfOk, IfSome, IfNone, OnErr};
 ghost use Rattle.ov_wire.specs.Messages.{AreSendsInRange, most_ttl, most_ids};
 ghost use Rattle.ov_views.specs.Allowed.{hears};
 ghost use Rattle.ov_views.specs.Handling.{ViewsStep, step_words};
+ghost use Rattle.ov_views.specs.ShuffleRows.{is_handed_on};
 ghost use Rattle.ov_wire.specs.declared.message.Body.TheVariants.{Shuffle};
 
 use crate::{append, walks_on};
@@ -12,8 +13,8 @@ use ov_words::Draws;
 use std::alloc::Global;
 
 /// The effects of SHUFFLE, as `on_shuffle` has them, if its walk goes on from here: no view changes then, and they are
-/// only lent. None if the walk does not go on, or the message is the node's own, and then nothing is drawn. OutOfMemory
-/// (99) if an allocation is refused, and then nothing has changed.
+/// only lent. None exactly if the walk ends here, or the message is the node's own, and then nothing is drawn.
+/// OutOfMemory (99) if an allocation is refused, and then nothing has changed.
 pub fn walk(
     alloc: Global,
     views: &Views,
@@ -31,28 +32,25 @@ pub fn walk(
     ensures words { length draws.old ≤ length draws.new + most_ids }
     ensures few { IfOk result (λ walked. IfSome walked (λ m. vec_len m.sends ≤ 1)) }
     ensures ranges { IfOk result (λ walked. IfSome walked (λ m. AreSendsInRange m.sends.items)) }
+    ensures handed_on { IfOk result (λ walked. is_some walked ≡ is_handed_on views.now from ttl) }
     ensures none { IfOk result (λ walked. IfNone walked (draws.new ≡ draws.old)) }
     ensures err { OnErr result (draws.new ≡ draws.old) }
 {
     let me = views.me();
-    if from == me {
+    if from == me || !walks_on(views, ttl) {
         return Ok(None);
     }
-    if walks_on(views, ttl) {
-        let mut moves = Moves::to_send(alloc, 1)?;
-        let mut list = Vec::with_capacity(alloc, ids.len())?;
-        let to = match views.pick_but(from, from, draws) {
-            Some(to) => to,
-            None => return Ok(None),
-        };
-        append(&mut list, ids);
-        let body = Body::Shuffle {
-            origin,
-            ttl: ttl - 1,
-            ids: Seq::new(list),
-        };
-        moves.send(to, Message { from: me, body });
-        return Ok(Some(moves));
+    let mut moves = Moves::to_send(alloc, 1)?;
+    let mut list = Vec::with_capacity(alloc, ids.len())?;
+    append(&mut list, ids);
+    let body = Body::Shuffle {
+        origin,
+        ttl: ttl - 1,
+        ids: Seq::new(list),
+    };
+    match views.pick_but(&[from], draws) {
+        Some(to) => moves.send(to, Message { from: me, body }),
+        None => unreachable!(),
     }
-    Ok(None)
+    Ok(Some(moves))
 }

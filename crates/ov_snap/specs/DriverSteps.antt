@@ -1,6 +1,6 @@
 -- What one of several drivers of a core has seen of their log, and what it did: p is what it had seen before, and q
 -- what it has seen after.
-use Rattle.std.specs.Prelude.{◌≡◌, ℕ, true, false, List, [], ◌∷◌, ◌++◌, Option, None}
+use Rattle.std.specs.Prelude.{◌≡◌, ℕ, true, false, List, [], ◌∷◌, ◌++◌, None}
 use Rattle.ov_ids.specs.ParamsState.{ParamsState}
 use Rattle.ov_graph.specs.Links.{IsGroup}
 use Rattle.ov_net.specs.Journal.{AreLinks}

@@ -1,13 +1,12 @@
 -- The log of several drivers of one core: a mark for each entry and for each report, in the order in which they made
 -- them. What a driver did is the step from the core before its mark to the core in the mark.
-use Rattle.std.specs.Prelude.{◌≡◌, ℕ, ◌<◌, Bool, cond, List, [], ◌∷◌, ◌++◌, length, MatchBool}
+use Rattle.std.specs.Prelude.{◌≡◌, ℕ, ◌<◌, Bool, cond, List, [], ◌∷◌, ◌++◌, MatchBool}
 use Rattle.ov_ids.specs.ParamsState.{ParamsState}
-use Rattle.ov_ids.specs.Members.{Has}
 use Rattle.ov_net.specs.declared.event.Event.{Event}
 use Rattle.ov_net.specs.declared.journal_entry_and_changes.Entry.{Entry}
 use Rattle.ov_snap.specs.CoreState.{CoreState, opening_core}
 use Rattle.ov_snap.specs.Filing.{WasFiled}
-use Rattle.ov_snap.specs.ReportState.{IsTrueReport, ReportState}
+use Rattle.ov_snap.specs.ReportState.{ReportState}
 use Rattle.ov_snap.specs.Run.{Happened}
 use Rattle.ov_snap.specs.Parts.{Each, hit, total}
 use Rattle.ov_snap.specs.declared.ghost_log_of_drivers.Mark.{Mark}

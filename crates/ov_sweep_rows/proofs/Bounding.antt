@@ -1,5 +1,5 @@
 -- When a bound lies outside of an interval, by a division; and numbers of which none is so.
-use Rattle.std.proofs.Common.{◌≡◌, ◌<◌, ◌≤◌, ◌+◌, ◌*◌, ◌/◌, ◌↔◌, ℕ, IsTrue, nat_lt, inl, inr, subst, arith}
+use Rattle.std.proofs.Common.{◌<◌, ◌≤◌, ◌+◌, ◌*◌, ◌/◌, ◌↔◌, ℕ, IsTrue, nat_lt, inl, inr, subst, arith}
 use Rattle.std.proofs.Common.{div-lt_iff_lt-mul, eq-or-lt_of_le}
 use Rattle.std.proofs.lemmas.Bool.{lt-ltb, ltb-true}
 

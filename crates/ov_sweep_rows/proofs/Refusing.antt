@@ -1,7 +1,7 @@
 -- Why a text of rows is refused.
 use Rattle.std.proofs.Common.{Bor, ◌≡◌, ℕ, List, [], ◌∷◌, ◌++◌, length, Option, Some, None, Ok}
 use Rattle.std.proofs.Common.{true, false, refl, sym, ap, ◌∙◌}
-use Rattle.std.specs.Prelude.{Err, IfErr, Result, unwrap_or}
+use Rattle.std.specs.Prelude.{Err, IfErr, Result, option_map, unwrap_or}
 use Rattle.std.specs.Result.{IsErrAnd}
 use Rattle.csv.specs.Machine.{Read, next_record}
 use Rattle.csv.specs.Reading.{ExplainsRead, NextIs, Reached, ReadsNext, RowStep, TookRecord, default_config, strip_bom}
@@ -18,9 +18,9 @@ use Rattle.ov_sweep_rows.specs.declared.row_form.RowForm.{RowForm}
 use Rattle.ov_sweep_rows.specs.declared.row_fault.RowFault.{RowFault}
 use Rattle.ov_sweep_rows.specs.declared.row_fault.RowFault.TheVariants.{Header, FieldCount, Field, OutOfMemory}
 use Rattle.ov_sweep_rows.specs.Columns.{columns}
-use Rattle.ov_sweep_rows.specs.Refusals.{ComesAfterRows, IsRowRefusal}
-use Rattle.ov_sweep_rows.specs.Code.Taking.{IsFaultOf, IsTakeFault}
-use Rattle.ov_sweep_rows.proofs.Records.{text_left}
+use Rattle.ov_sweep_rows.specs.Refusals.{ComesAfterRows, IsRowRefusal, first_record}
+use Rattle.ov_sweep_rows.specs.Code.Taking.{IsFaultOf, IsNoHeader, IsTakeFault}
+use Rattle.ov_sweep_rows.proofs.Records.{Stands, text_left}
 use Rattle.ov_sweep_rows.proofs.RowByRow.{Reads}
 
 -- what is known of the fault of a result
@@ -92,3 +92,30 @@ next_untaken form text a b left next rows row (FieldCount line number needed) re
 next_untaken form text a b left next rows row (Field line field) reads step untaken =
     (form, fields_of row, comes_next form text a b left rows (fields_of row) reads step.0.0, untaken.0, untaken.1)
 next_untaken form text a b left next rows row OutOfMemory reads step untaken = tt
+
+-- the first record of a text
+found_first : (cfg : Config) (s b : State) (xs : List ℕ) (fields : List (List ℕ)) (left : Option (List ℕ))
+    → ReadsNext cfg s (Some xs) left true fields b
+    → option_map (λ p. p.0) (next_record cfg s [] [] xs) ≡ Some fields
+found_first cfg s b xs fields None reads = absurd reads
+found_first cfg s b xs fields (Some ys) reads = by (next_record cfg s [] [] xs) reads where
+  by : (o : Option Read) → NextIs o true fields b ys → option_map (λ p. p.0) o ≡ Some fields
+  by None is = cc is
+  by (Some p) is = ap Some (sym is.1)
+
+first_found : (text : List ℕ) (a b : Reader (Bor (List ℕ))) (left next : ℕ) (row : Fields) → Stands text a left []
+    → RowStep text_left a b next (Some (Ok row)) → first_record text ≡ Some (fields_of row)
+unfolding Reached
+first_found text a b left next row stands step =
+    let reads = rw (stands.set, stands.source, sym stands.reached.0, sym stands.reached.1) at step.0.0 in
+    found_first default_config st.StartRecord b.state (strip_bom text) (fields_of row) _ reads
+
+-- the first record is no header
+pub unheaded : (text : List ℕ) (a b : Reader (Bor (List ℕ))) (left next : ℕ) (row : Fields) (fault : RowFault)
+    → Stands text a left [] → RowStep text_left a b next (Some (Ok row)) → IsNoHeader (fields_of row) fault
+    → IsRowRefusal text fault
+unheaded text a b left next row Header stands step is = λ f same.
+    is f (ap (λ o. unwrap_or o (fields_of row)) (sym (first_found text a b left next row stands step) ∙ same))
+unheaded text a b left next row (FieldCount line number needed) stands step is = absurd is
+unheaded text a b left next row (Field line field) stands step is = absurd is
+unheaded text a b left next row OutOfMemory stands step is = tt

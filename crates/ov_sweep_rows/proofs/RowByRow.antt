@@ -1,5 +1,6 @@
 -- Rows are read from a text, record by record.
-use Rattle.std.proofs.Common.{Bor, ◌≡◌, ℕ, List, [], ◌∷◌, ◌++◌, length, Some, None, Ok, inl, inr}
+use Rattle.std.proofs.Common.{Bor, ◌≡◌, ℕ, List, [], ◌∷◌, ◌++◌, length, Some, None, Ok, inl, inr, ap, sym, ◌∙◌}
+use Rattle.std.specs.Prelude.{unwrap_or}
 use Rattle.std.specs.List.{filter}
 use Rattle.csv.specs.Reading.{RowStep, is_flexible}
 use Rattle.csv.specs.Records.{Row as Fields, fields_of}
@@ -45,6 +46,16 @@ reads_header form text a b left next rows row reads step flexible same = record 
       rw reads.lengths at (fields_next text a b left next (columns form ∷ reads.records) row reads.stands step).0;
   said = header_said form reads.records rows (fields_of row) (is_header_test form (fields_of row) same) reads.said;
 }
+
+-- a record has a field for each column
+pub reads_whole : (form : RowForm) (text : List ℕ) (a b : Reader (Bor (List ℕ))) (left next : ℕ) (rows : List Row) (row
+    : Fields)
+    → Reads form text a left rows → RowStep text_left a b next (Some (Ok row))
+    → length (fields_of row) ≡ length (columns form)
+reads_whole form text a b left next rows row reads step =
+    let both = fields_next text a b left next (columns form ∷ reads.records) row reads.stands step in
+    let first = rw reads.lengths at both.0 in
+    ap (λ o. unwrap_or o 0) (sym both.1 ∙ first)
 
 -- a row more
 reads_row : (form : RowForm) (text : List ℕ) (a b : Reader (Bor (List ℕ))) (left next : ℕ) (rows : List Row) (row :

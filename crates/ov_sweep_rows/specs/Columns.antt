@@ -1,46 +1,82 @@
--- The columns of rows, by which their header is known.
-use Rattle.std.specs.Prelude.{ℕ, List, [], ◌∷◌, ◌++◌, codes}
+-- The columns of rows: their names, and what each takes.
+use Rattle.std.specs.Prelude.{ℕ, List, [], ◌∷◌, ◌++◌, Bool, codes, map, slice_get, Option, if◌then◌else◌}
+use Rattle.ov_sweep_rows.specs.declared.row_fault.FieldForm.{FieldForm}
+use Rattle.ov_sweep_rows.specs.declared.row_fault.FieldForm.TheVariants as form
 use Rattle.ov_sweep_rows.specs.declared.row_form.RowForm.{RowForm}
-use Rattle.ov_sweep_rows.specs.declared.row_form.RowForm.TheVariants.{Plain, Further, Costs, Shape, CostsAndShape}
 
--- the names of the columns that all rows have, in their order: 18 for the setting, the seed, and six for each phase
-abbrev pub plain_columns : List (List ℕ)
-plain_columns =
-    codes "nodes" ∷ codes "active" ∷ codes "passive" ∷ codes "arwl" ∷ codes "prwl" ∷ codes "ka" ∷ codes "kp"
-    ∷ codes "ttl" ∷ codes "refill" ∷ codes "loss_join" ∷ codes "loss" ∷ codes "repeat" ∷ codes "order" ∷ codes "pace"
-    ∷ codes "rounds" ∷ codes "crash" ∷ codes "heal" ∷ codes "broadcasts" ∷ codes "seed" ∷ codes "settle_nodes"
-    ∷ codes "settle_k" ∷ codes "settle_least_degree" ∷ codes "settle_links" ∷ codes "settle_entries"
-    ∷ codes "settle_delivered" ∷ codes "crash_nodes" ∷ codes "crash_k" ∷ codes "crash_least_degree"
-    ∷ codes "crash_links" ∷ codes "crash_entries" ∷ codes "crash_delivered" ∷ codes "heal_nodes"
-    ∷ codes "heal_k" ∷ codes "heal_least_degree" ∷ codes "heal_links" ∷ codes "heal_entries"
-    ∷ codes "heal_delivered" ∷ []
+-- the columns of the options of a run but the further ones, with their names and what they take; the last is its seed
+abbrev pub option_columns : List (List ℕ × FieldForm)
+option_columns =
+    (codes "nodes", form.Nodes) ∷ (codes "active", form.Number) ∷ (codes "passive", form.Number)
+    ∷ (codes "arwl", form.Number) ∷ (codes "prwl", form.Number) ∷ (codes "ka", form.Number) ∷ (codes "kp", form.Number)
+    ∷ (codes "ttl", form.Params) ∷ (codes "refill", form.Refill) ∷ (codes "loss_join", form.Chance)
+    ∷ (codes "loss", form.Chance) ∷ (codes "repeat", form.Share) ∷ (codes "order", form.Order)
+    ∷ (codes "pace", form.Pace) ∷ (codes "rounds", form.Count) ∷ (codes "crash", form.Crash)
+    ∷ (codes "heal", form.Count) ∷ (codes "broadcasts", form.Count) ∷ (codes "seed", form.Seed) ∷ []
 
--- the names of the three columns of the further options
-abbrev pub further_columns : List (List ℕ)
-further_columns = codes "sequential" ∷ codes "sender" ∷ codes "detect" ∷ []
+-- the columns of what a run came to after a phase, six for each phase
+abbrev pub phase_columns : List (List ℕ × FieldForm)
+phase_columns =
+    (codes "settle_nodes", form.Number) ∷ (codes "settle_k", form.Number) ∷ (codes "settle_least_degree", form.Number)
+    ∷ (codes "settle_links", form.Number) ∷ (codes "settle_entries", form.Number)
+    ∷ (codes "settle_delivered", form.DecimalsOrNothing) ∷ (codes "crash_nodes", form.Number)
+    ∷ (codes "crash_k", form.Number) ∷ (codes "crash_least_degree", form.Number) ∷ (codes "crash_links", form.Number)
+    ∷ (codes "crash_entries", form.Number) ∷ (codes "crash_delivered", form.DecimalsOrNothing)
+    ∷ (codes "heal_nodes", form.Number) ∷ (codes "heal_k", form.Number) ∷ (codes "heal_least_degree", form.Number)
+    ∷ (codes "heal_links", form.Number) ∷ (codes "heal_entries", form.Number)
+    ∷ (codes "heal_delivered", form.DecimalsOrNothing) ∷ []
 
--- the names of the columns of what the broadcasts of each phase cost, six for each
-abbrev pub cost_columns : List (List ℕ)
+-- the columns of the further options
+abbrev pub further_columns : List (List ℕ × FieldForm)
+further_columns = (codes "sequential", form.Flag) ∷ (codes "sender", form.Sender) ∷ (codes "detect", form.Flag) ∷ []
+
+-- the columns of what the broadcasts of each phase cost, six for each
+abbrev pub cost_columns : List (List ℕ × FieldForm)
 cost_columns =
-    codes "settle_gossip" ∷ codes "settle_ihave" ∷ codes "settle_graft" ∷ codes "settle_prune" ∷ codes "settle_hops"
-    ∷ codes "settle_redundancy" ∷ codes "crash_gossip" ∷ codes "crash_ihave" ∷ codes "crash_graft"
-    ∷ codes "crash_prune" ∷ codes "crash_hops" ∷ codes "crash_redundancy" ∷ codes "heal_gossip" ∷ codes "heal_ihave"
-    ∷ codes "heal_graft" ∷ codes "heal_prune" ∷ codes "heal_hops" ∷ codes "heal_redundancy" ∷ []
+    (codes "settle_gossip", form.Number) ∷ (codes "settle_ihave", form.Number) ∷ (codes "settle_graft", form.Number)
+    ∷ (codes "settle_prune", form.Number) ∷ (codes "settle_hops", form.DecimalsOrNothing)
+    ∷ (codes "settle_redundancy", form.DecimalsOrNothing) ∷ (codes "crash_gossip", form.Number)
+    ∷ (codes "crash_ihave", form.Number) ∷ (codes "crash_graft", form.Number) ∷ (codes "crash_prune", form.Number)
+    ∷ (codes "crash_hops", form.DecimalsOrNothing) ∷ (codes "crash_redundancy", form.DecimalsOrNothing)
+    ∷ (codes "heal_gossip", form.Number) ∷ (codes "heal_ihave", form.Number) ∷ (codes "heal_graft", form.Number)
+    ∷ (codes "heal_prune", form.Number) ∷ (codes "heal_hops", form.DecimalsOrNothing)
+    ∷ (codes "heal_redundancy", form.DecimalsOrNothing) ∷ []
 
--- the names of the columns of the shape of each phase, seven for each
-abbrev pub shape_columns : List (List ℕ)
+-- the columns of the shape of each phase, seven for each
+abbrev pub shape_columns : List (List ℕ × FieldForm)
 shape_columns =
-    codes "settle_largest" ∷ codes "settle_clustering" ∷ codes "settle_path" ∷ codes "settle_diameter"
-    ∷ codes "settle_degree_25" ∷ codes "settle_degree_50" ∷ codes "settle_degree_75" ∷ codes "crash_largest"
-    ∷ codes "crash_clustering" ∷ codes "crash_path" ∷ codes "crash_diameter" ∷ codes "crash_degree_25"
-    ∷ codes "crash_degree_50" ∷ codes "crash_degree_75" ∷ codes "heal_largest" ∷ codes "heal_clustering"
-    ∷ codes "heal_path" ∷ codes "heal_diameter" ∷ codes "heal_degree_25" ∷ codes "heal_degree_50"
-    ∷ codes "heal_degree_75" ∷ []
+    (codes "settle_largest", form.Number) ∷ (codes "settle_clustering", form.Decimals)
+    ∷ (codes "settle_path", form.DecimalsOrNothing) ∷ (codes "settle_diameter", form.Number)
+    ∷ (codes "settle_degree_25", form.Number) ∷ (codes "settle_degree_50", form.Number)
+    ∷ (codes "settle_degree_75", form.Number) ∷ (codes "crash_largest", form.Number)
+    ∷ (codes "crash_clustering", form.Decimals) ∷ (codes "crash_path", form.DecimalsOrNothing)
+    ∷ (codes "crash_diameter", form.Number) ∷ (codes "crash_degree_25", form.Number)
+    ∷ (codes "crash_degree_50", form.Number) ∷ (codes "crash_degree_75", form.Number)
+    ∷ (codes "heal_largest", form.Number) ∷ (codes "heal_clustering", form.Decimals)
+    ∷ (codes "heal_path", form.DecimalsOrNothing) ∷ (codes "heal_diameter", form.Number)
+    ∷ (codes "heal_degree_25", form.Number) ∷ (codes "heal_degree_50", form.Number)
+    ∷ (codes "heal_degree_75", form.Number) ∷ []
 
--- the names of the columns of rows of this form: whoever has costs or a shape has the further options too
+-- a list, if that is asked for
+abbrev pub if_asked : {A : Type 0} → Bool → List A → List A
+if_asked asked items = if asked then items else []
+
+-- the columns of rows of this form, in their order
+abbrev pub table : RowForm → List (List ℕ × FieldForm)
+table rows_have =
+    option_columns
+    ++ (phase_columns
+    ++ (if_asked rows_have.further further_columns
+    ++ (if_asked rows_have.costs cost_columns ++ if_asked rows_have.shape shape_columns)))
+
+-- their names, of which a header is made
 abbrev pub columns : RowForm → List (List ℕ)
-columns Plain = plain_columns
-columns Further = plain_columns ++ further_columns
-columns Costs = plain_columns ++ further_columns ++ cost_columns
-columns Shape = plain_columns ++ further_columns ++ shape_columns
-columns CostsAndShape = plain_columns ++ further_columns ++ cost_columns ++ shape_columns
+columns rows_have = map (λ column. column.0) (table rows_have)
+
+-- what they take
+abbrev pub forms : RowForm → List FieldForm
+forms rows_have = map (λ column. column.1) (table rows_have)
+
+-- what the column at a place takes, counted from 0; there is none behind the last
+abbrev pub form_at : RowForm → ℕ → Option FieldForm
+form_at rows_have place = slice_get (forms rows_have) place

@@ -1,188 +1,130 @@
-use crate::{DeliveredShare, FourDecimals, MessageRow, Phase, PhaseCosts, PhaseRow, PhaseShape};
-use ov_grow_options::{Crash, GrowOptions, Order, Pace};
-use ov_ids::{NodeId, Refill};
-use std::fmt::{Display, Formatter, Result, Write};
+ghost use Rattle.std.specs.Prelude.{◌≡◌, ◌++◌, map, OnOk, IfOk};
+ghost use Rattle.ov_sweep_rows.specs.Columns.{if_asked, table};
 
-/// What stands in one column of a row.
-#[derive(Clone, Copy, Debug, PartialEq, Eq)]
-pub(crate) enum Cell {
-    /// Nothing: an option that was not given, or a share without broadcasts.
-    Empty,
-    /// A number, in decimal digits.
-    Number(u64),
-    /// A word.
-    Word(&'static str),
-    /// A number with four decimal digits.
-    Decimals(FourDecimals),
+use crate::{FieldForm, RowForm};
+use std::alloc::{AllocError, Global};
+
+/// A column of rows: its name, and what it takes.
+pub(crate) type Column = (&'static str, FieldForm);
+
+/// The columns of the options of a run but the further ones, in the order of their table; the last is its seed.
+pub(crate) const OPTIONS: [Column; 19] = [
+    ("nodes", FieldForm::Nodes),
+    ("active", FieldForm::Number),
+    ("passive", FieldForm::Number),
+    ("arwl", FieldForm::Number),
+    ("prwl", FieldForm::Number),
+    ("ka", FieldForm::Number),
+    ("kp", FieldForm::Number),
+    ("ttl", FieldForm::Params),
+    ("refill", FieldForm::Refill),
+    ("loss_join", FieldForm::Chance),
+    ("loss", FieldForm::Chance),
+    ("repeat", FieldForm::Share),
+    ("order", FieldForm::Order),
+    ("pace", FieldForm::Pace),
+    ("rounds", FieldForm::Count),
+    ("crash", FieldForm::Crash),
+    ("heal", FieldForm::Count),
+    ("broadcasts", FieldForm::Count),
+    ("seed", FieldForm::Seed),
+];
+
+/// The columns of what a run came to after each phase.
+pub(crate) const PHASES: [Column; 18] = [
+    ("settle_nodes", FieldForm::Number),
+    ("settle_k", FieldForm::Number),
+    ("settle_least_degree", FieldForm::Number),
+    ("settle_links", FieldForm::Number),
+    ("settle_entries", FieldForm::Number),
+    ("settle_delivered", FieldForm::DecimalsOrNothing),
+    ("crash_nodes", FieldForm::Number),
+    ("crash_k", FieldForm::Number),
+    ("crash_least_degree", FieldForm::Number),
+    ("crash_links", FieldForm::Number),
+    ("crash_entries", FieldForm::Number),
+    ("crash_delivered", FieldForm::DecimalsOrNothing),
+    ("heal_nodes", FieldForm::Number),
+    ("heal_k", FieldForm::Number),
+    ("heal_least_degree", FieldForm::Number),
+    ("heal_links", FieldForm::Number),
+    ("heal_entries", FieldForm::Number),
+    ("heal_delivered", FieldForm::DecimalsOrNothing),
+];
+
+/// The columns of the further options.
+pub(crate) const FURTHER: [Column; 3] = [
+    ("sequential", FieldForm::Flag),
+    ("sender", FieldForm::Sender),
+    ("detect", FieldForm::Flag),
+];
+
+/// The columns of what the broadcasts of each phase cost.
+pub(crate) const COSTS: [Column; 18] = [
+    ("settle_gossip", FieldForm::Number),
+    ("settle_ihave", FieldForm::Number),
+    ("settle_graft", FieldForm::Number),
+    ("settle_prune", FieldForm::Number),
+    ("settle_hops", FieldForm::DecimalsOrNothing),
+    ("settle_redundancy", FieldForm::DecimalsOrNothing),
+    ("crash_gossip", FieldForm::Number),
+    ("crash_ihave", FieldForm::Number),
+    ("crash_graft", FieldForm::Number),
+    ("crash_prune", FieldForm::Number),
+    ("crash_hops", FieldForm::DecimalsOrNothing),
+    ("crash_redundancy", FieldForm::DecimalsOrNothing),
+    ("heal_gossip", FieldForm::Number),
+    ("heal_ihave", FieldForm::Number),
+    ("heal_graft", FieldForm::Number),
+    ("heal_prune", FieldForm::Number),
+    ("heal_hops", FieldForm::DecimalsOrNothing),
+    ("heal_redundancy", FieldForm::DecimalsOrNothing),
+];
+
+/// The columns of the shape of each phase.
+pub(crate) const SHAPES: [Column; 21] = [
+    ("settle_largest", FieldForm::Number),
+    ("settle_clustering", FieldForm::Decimals),
+    ("settle_path", FieldForm::DecimalsOrNothing),
+    ("settle_diameter", FieldForm::Number),
+    ("settle_degree_25", FieldForm::Number),
+    ("settle_degree_50", FieldForm::Number),
+    ("settle_degree_75", FieldForm::Number),
+    ("crash_largest", FieldForm::Number),
+    ("crash_clustering", FieldForm::Decimals),
+    ("crash_path", FieldForm::DecimalsOrNothing),
+    ("crash_diameter", FieldForm::Number),
+    ("crash_degree_25", FieldForm::Number),
+    ("crash_degree_50", FieldForm::Number),
+    ("crash_degree_75", FieldForm::Number),
+    ("heal_largest", FieldForm::Number),
+    ("heal_clustering", FieldForm::Decimals),
+    ("heal_path", FieldForm::DecimalsOrNothing),
+    ("heal_diameter", FieldForm::Number),
+    ("heal_degree_25", FieldForm::Number),
+    ("heal_degree_50", FieldForm::Number),
+    ("heal_degree_75", FieldForm::Number),
+];
+
+/// The columns of rows of this form, in their order.
+pub(crate) fn columns_of(alloc: Global, form: RowForm) -> Result<Vec<Column>, AllocError>
+    ensures { IfOk result (λ columns. map (λ column. (column.0.now, column.1)) columns.items ≡ table form) }
+{
+    let mut columns: Vec<Column> = Vec::new(alloc);
+    columns.extend_from_slice(&OPTIONS)?;
+    columns.extend_from_slice(&PHASES)?;
+    push_asked(&mut columns, form.further, &FURTHER)?;
+    push_asked(&mut columns, form.costs, &COSTS)?;
+    push_asked(&mut columns, form.shape, &SHAPES)?;
+    Ok(columns)
 }
 
-impl Display for Cell {
-    fn fmt<W: Write>(&self, f: &mut Formatter<W>) -> Result {
-        match self {
-            Cell::Empty => Ok(()),
-            Cell::Number(number) => write!(f, "{number}"),
-            Cell::Word(word) => write!(f, "{word}"),
-            Cell::Decimals(number) => write!(f, "{number}"),
-        }
+/// Adds columns, if they are asked for.
+fn push_asked(columns: &mut Vec<Column>, asked: bool, more: &[Column]) -> Result<(), AllocError>
+    ensures { OnOk result (columns.new.items ≡ columns.old.items ++ if_asked asked more.now) }
+{
+    if !asked {
+        return Ok(());
     }
-}
-
-/// The cells of the setting that these options are of, in the order of their columns.
-pub(crate) fn setting_cells(options: &GrowOptions) -> [Cell; 18] {
-    let params = options.params;
-    [
-        number(options.nodes.count()),
-        Cell::Number(params.active() as u64),
-        Cell::Number(params.passive() as u64),
-        Cell::Number(u64::from(params.arwl())),
-        Cell::Number(u64::from(params.prwl())),
-        Cell::Number(params.ka() as u64),
-        Cell::Number(params.kp() as u64),
-        Cell::Number(u64::from(params.shuffle_ttl())),
-        refill_cell(params.refill()),
-        number(options.loss_join.of_hundred()),
-        number(options.loss.of_hundred()),
-        number(options.repeat.of_hundred()),
-        order_cell(options.order),
-        pace_cell(options.pace),
-        number(options.rounds.count()),
-        crash_cell(options.crash),
-        number(options.heal.count()),
-        number(options.broadcasts.count()),
-    ]
-}
-
-/// The cells of the further options, in the order of their columns.
-pub(crate) fn further_cells(options: &GrowOptions) -> [Cell; 3] {
-    [
-        flag_cell(options.sequential),
-        sender_cell(options.sender),
-        flag_cell(options.detect),
-    ]
-}
-
-/// The cells of a phase, in the order of their columns.
-pub(crate) fn phase_cells(phase: &PhaseRow) -> [Cell; 6] {
-    [
-        number(phase.nodes),
-        number(phase.k),
-        number(phase.least_degree),
-        number(phase.links),
-        number(phase.entries),
-        share_cell(phase.delivered),
-    ]
-}
-
-/// The cells of what the broadcasts of a phase cost, in the order of their columns; empty if that is not known.
-pub(crate) fn costs_cells(costs: Option<PhaseCosts>) -> [Cell; 6] {
-    match costs {
-        None => [Cell::Empty; 6],
-        Some(costs) => [
-            number(costs.gossip),
-            number(costs.ihave),
-            number(costs.graft),
-            number(costs.prune),
-            decimals_cell(costs.hops),
-            decimals_cell(costs.redundancy),
-        ],
-    }
-}
-
-/// The cells of a shape, in the order of their columns; empty if it is not known.
-pub(crate) fn shape_cells(shape: Option<PhaseShape>) -> [Cell; 7] {
-    match shape {
-        None => [Cell::Empty; 7],
-        Some(shape) => [
-            number(shape.largest),
-            Cell::Decimals(shape.clustering),
-            decimals_cell(shape.path),
-            number(shape.diameter),
-            number(shape.degree_25),
-            number(shape.degree_50),
-            number(shape.degree_75),
-        ],
-    }
-}
-
-/// The cells of a broadcast behind those of its run, in the order of their columns.
-pub(crate) fn message_cells(message: &MessageRow) -> [Cell; 10] {
-    [
-        Cell::Word(phase_word(message.phase)),
-        number(message.number),
-        number(message.origin.number()),
-        number(message.live),
-        number(message.delivered),
-        number(message.hops),
-        number(message.gossip),
-        number(message.ihave),
-        number(message.graft),
-        number(message.prune),
-    ]
-}
-
-fn number(value: u32) -> Cell {
-    Cell::Number(u64::from(value))
-}
-
-fn refill_cell(refill: Refill) -> Cell {
-    match refill {
-        Refill::Never => Cell::Word("never"),
-        Refill::Alone => Cell::Word("alone"),
-        Refill::Always => Cell::Word("always"),
-    }
-}
-
-fn order_cell(order: Order) -> Cell {
-    match order {
-        Order::Random => Cell::Word("random"),
-        Order::Oldest => Cell::Word("oldest"),
-    }
-}
-
-fn pace_cell(pace: Option<Pace>) -> Cell {
-    match pace {
-        None => Cell::Empty,
-        Some(pace) => number(pace.turns()),
-    }
-}
-
-fn crash_cell(crash: Crash) -> Cell {
-    match crash {
-        Crash::Share(share) => number(share.of_hundred()),
-        Crash::Cut => Cell::Word("cut"),
-    }
-}
-
-fn flag_cell(asked: bool) -> Cell {
-    number(u32::from(asked))
-}
-
-fn sender_cell(sender: Option<NodeId>) -> Cell {
-    match sender {
-        None => Cell::Empty,
-        Some(node) => number(node.number()),
-    }
-}
-
-fn share_cell(share: Option<DeliveredShare>) -> Cell {
-    match share {
-        None => Cell::Empty,
-        Some(share) => Cell::Decimals(FourDecimals { parts: share.parts }),
-    }
-}
-
-fn decimals_cell(decimals: Option<FourDecimals>) -> Cell {
-    match decimals {
-        None => Cell::Empty,
-        Some(decimals) => Cell::Decimals(decimals),
-    }
-}
-
-/// The word for a phase in rows.
-pub(crate) fn phase_word(phase: Phase) -> &'static str {
-    match phase {
-        Phase::Settle => "settle",
-        Phase::Crash => "crash",
-        Phase::Heal => "heal",
-    }
+    Ok(columns.extend_from_slice(more)?)
 }

@@ -1,5 +1,5 @@
-ghost use Rattle.std.specs.Prelude.{◌<◌, ◌^◌, IfNone, IfSome};
-ghost use Rattle.ov_sweep_rows.specs.RowTexts.{SpellsNoParts, SpellsParts};
+ghost use Rattle.std.specs.Prelude.{◌≡◌, option_map};
+ghost use Rattle.ov_sweep_rows.specs.Cells.{parts_in};
 
 use ov_lines::read_number;
 use std::fmt::{Display, Formatter, Result, Write};
@@ -17,27 +17,36 @@ impl FourDecimals {
 
     /// The number that a text spells, with a point and four decimal digits. None is returned if it spells none, or one
     /// past 64 bits.
+    #[tactic(auto, unfolding(crate::specs::Cells::parts_in))]
     pub fn read(text: &[u8]) -> Option<FourDecimals>
-        ensures some { IfSome result (λ number. SpellsParts text.now number.parts) }
-        ensures none { IfNone result (SpellsNoParts text.now (λ parts. parts < 2 ^ 64)) }
+        ensures { option_map (λ number. number.parts) result ≡ parts_in text.now }
     {
-        let point = text.len().checked_sub(5)?;
-        let (whole, rest) = text.split_at(point);
-        if rest.first() != Some(&b'.') {
+        let place = text.len().checked_sub(5)?;
+        let (front, behind) = text.split_at(place);
+        let (point, digits) = behind.split_first()?;
+        if *point != b'.' {
             return None;
         }
-        let whole = read_number(whole)?;
-        let rest = read_number(&rest[1..])?;
+        let ones = read_number(front)?;
+        let rest = read_number(digits)?;
         Some(FourDecimals {
-            parts: whole.checked_mul(FourDecimals::ONE)?.checked_add(rest)?,
+            parts: ones.checked_mul(FourDecimals::ONE)?.checked_add(rest)?,
         })
     }
 }
 
 impl Display for FourDecimals {
+    ghost use Rattle.std.specs.Prelude.{Some};
+    ghost use Rattle.ov_sweep_rows.specs.Cells.{decimals_text};
+
+    ghost output = { λ number. Some (decimals_text number.parts) };
+
     fn fmt<W: Write>(&self, f: &mut Formatter<W>) -> Result {
-        let whole = self.parts / FourDecimals::ONE;
-        let rest = self.parts % FourDecimals::ONE;
-        write!(f, "{whole}.{rest:04}")
+        let ones = self.parts / FourDecimals::ONE;
+        let tenths = self.parts / 1_000 % 10;
+        let hundredths = self.parts / 100 % 10;
+        let thousandths = self.parts / 10 % 10;
+        let last = self.parts % 10;
+        write!(f, "{ones}.{tenths}{hundredths}{thousandths}{last}")
     }
 }

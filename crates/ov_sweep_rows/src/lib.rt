@@ -2,13 +2,13 @@
 //! text, and a picture.
 #![tactic(auto)]
 
-mod column_names;
+mod cell;
+mod cells_to_row;
 mod columns;
 mod confidence_interval;
 mod costs_and_shape;
-mod costs_and_shape_reading;
-mod csv_field_reading;
 mod delivered_share;
+mod field_reading;
 mod four_decimals;
 mod means_of_measures;
 mod measure;
@@ -24,6 +24,7 @@ mod plot_shares;
 mod plot_strip;
 mod repeated_rows;
 mod row;
+mod row_cells;
 mod row_fault;
 mod row_form;
 mod row_reading;

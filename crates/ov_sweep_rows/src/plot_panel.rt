@@ -1,10 +1,11 @@
+use crate::cells_to_row::cell_at;
 use crate::phase_summary::ascending_ks;
 use crate::picture_layout::{CAPTION, LABEL, LEFT, Layout, PHASE, PLOT, STRIP};
 use crate::plot_dots::push_dots;
 use crate::plot_means::push_strips;
 use crate::plot_shares::push_share;
 use crate::plot_strip::{Strip, push_strip_axis};
-use crate::runs_by_setting::{cell_at, number, shown_cell};
+use crate::runs_by_setting::{number, shown_cell};
 use crate::setting_names::SETTING_NAMES;
 use crate::split_answer::runs_of;
 use crate::{Phase, Setting};

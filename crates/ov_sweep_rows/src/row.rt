@@ -1,4 +1,6 @@
 ghost use Rattle.std.specs.Prelude.{◌≡◌, ◌<◌, ◌↔◌, IsTrue, Some, slice_get};
+ghost use Rattle.ov_sweep_rows.specs.Cells.{phase_name};
+ghost use Rattle.ov_sweep_rows.specs.Writing.{asks_further, has_costs, has_shape};
 
 use crate::{DeliveredShare, PhaseCosts, PhaseShape};
 use ov_grow_options::GrowOptions;
@@ -17,6 +19,17 @@ pub enum Phase {
 impl Phase {
     /// All phases, in their order.
     pub const ALL: [Phase; 3] = [Phase::Settle, Phase::Crash, Phase::Heal];
+
+    /// The word for it in rows.
+    pub(crate) fn name(&self) -> &'static str
+        ensures { result.now ≡ phase_name self.now }
+    {
+        match self {
+            Phase::Settle => "settle",
+            Phase::Crash => "crash",
+            Phase::Heal => "heal",
+        }
+    }
 }
 
 /// One run of a sweep: the options that it was grown with, its seed among them, and what it came to after each phase.
@@ -32,7 +45,9 @@ impl Row {
     ghost use Rattle.ov_sweep_rows.specs.Rows.{place_of};
 
     /// Whether a further option was asked for.
-    pub(crate) fn asks_further(&self) -> bool {
+    pub(crate) fn asks_further(&self) -> bool
+        ensures { result ≡ asks_further self.now }
+    {
         let options = self.options;
         options.sequential || options.sender.is_some() || options.detect
     }
@@ -43,12 +58,16 @@ impl Row {
     }
 
     /// Whether it is known of each phase what its broadcasts cost.
-    pub(crate) fn has_costs(&self) -> bool {
+    pub(crate) fn has_costs(&self) -> bool
+        ensures { result ≡ has_costs self.now }
+    {
         self.phases.iter().all(|phase| phase.costs.is_some())
     }
 
     /// Whether the shape after each phase is known.
-    pub(crate) fn has_shape(&self) -> bool {
+    pub(crate) fn has_shape(&self) -> bool
+        ensures { result ≡ has_shape self.now }
+    {
         self.phases.iter().all(|phase| phase.shape.is_some())
     }
 

@@ -1,8 +1,6 @@
 ghost use Rattle.std.specs.Prelude.{◌≡◌};
 ghost use Rattle.ov_sweep_rows.specs.Rows.{number_of};
 
-use crate::RowForm;
-use crate::column_names::column_names;
 use csv::{Error as CsvError, ErrorKind};
 use std::alloc::{AllocError, AllocFailed};
 use std::fmt::{Display, Formatter, Result, Write};
@@ -49,10 +47,10 @@ impl RowFault {
 pub struct FieldFault {
     /// The place of the column, counted from 0.
     pub place: usize,
+    /// Its name.
+    pub column: &'static str,
     /// What it takes.
     pub takes: FieldForm,
-    /// The form of the rows.
-    pub row_form: RowForm,
 }
 
 /// What a column takes.
@@ -114,10 +112,8 @@ impl Display for FieldForm {
 
 impl Display for FieldFault {
     fn fmt<W: Write>(&self, f: &mut Formatter<W>) -> Result {
-        let names = column_names(self.row_form);
-        let name = names.get(self.place).copied().unwrap_or("a column");
-        let takes = self.takes;
-        write!(f, "{name} must be {takes}")
+        let FieldFault { column, takes, .. } = *self;
+        write!(f, "{column} must be {takes}")
     }
 }
 
@@ -133,6 +129,11 @@ impl From<AllocError> for RowFault {
 }
 
 impl<T: Drop> From<AllocFailed<T>> for RowFault {
+    ghost use Rattle.std.specs.Prelude.{◌≡◌};
+    ghost use Rattle.ov_sweep_rows.specs.declared.row_fault.RowFault.TheVariants.{OutOfMemory};
+
+    ghost from_gives = { λ _ e. e ≡ OutOfMemory };
+
     fn from(_error: AllocFailed<T>) -> RowFault {
         RowFault::OutOfMemory
     }

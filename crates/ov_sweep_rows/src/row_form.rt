@@ -1,62 +1,125 @@
-ghost use Rattle.std.specs.Prelude.{◌≡◌, length};
-ghost use Rattle.ov_sweep_rows.specs.Columns.{columns};
+ghost use Rattle.std.specs.Prelude.{◌≡◌};
+ghost use Rattle.std.specs.List.{list_all, list_any};
+ghost use Rattle.ov_sweep_rows.specs.Writing.{asks_further, form_of_rows, form_with, has_costs, has_shape};
+ghost use Rattle.ov_sweep_rows.specs.Code.Written.{costs_from, shapes_from};
 
 use crate::{Measures, Row};
 
-/// Which columns rows have.
+/// Which columns rows have, beside those of the setting, the seed, and what a run came to after each phase.
 #[derive(Clone, Copy, Debug, PartialEq, Eq)]
-pub enum RowForm {
-    /// The setting, the seed, and what a run came to after each phase.
-    Plain,
-    /// Behind these the further options.
-    Further,
-    /// Behind these what the broadcasts of each phase cost.
-    Costs,
-    /// Behind the further options the shape of each phase.
-    Shape,
-    /// Behind the further options what the broadcasts of each phase cost, and then the shape of each.
-    CostsAndShape,
+pub struct RowForm {
+    /// The further options.
+    pub further: bool,
+    /// What the broadcasts of each phase cost.
+    pub costs: bool,
+    /// The shape of each phase.
+    pub shape: bool,
 }
 
 impl RowForm {
     /// All forms.
-    pub const ALL: [RowForm; 5] = [
-        RowForm::Plain,
-        RowForm::Further,
-        RowForm::Costs,
-        RowForm::Shape,
-        RowForm::CostsAndShape,
+    pub const ALL: [RowForm; 8] = [
+        RowForm {
+            further: false,
+            costs: false,
+            shape: false,
+        },
+        RowForm {
+            further: false,
+            costs: false,
+            shape: true,
+        },
+        RowForm {
+            further: false,
+            costs: true,
+            shape: false,
+        },
+        RowForm {
+            further: false,
+            costs: true,
+            shape: true,
+        },
+        RowForm {
+            further: true,
+            costs: false,
+            shape: false,
+        },
+        RowForm {
+            further: true,
+            costs: false,
+            shape: true,
+        },
+        RowForm {
+            further: true,
+            costs: true,
+            shape: false,
+        },
+        RowForm {
+            further: true,
+            costs: true,
+            shape: true,
+        },
     ];
 
     /// The form with the columns of what is measured, and with those of the further options if one is asked for or if
     /// something is measured.
-    pub fn with(measures: Measures, asks_further: bool) -> RowForm {
-        match (measures.costs, measures.shape) {
-            (true, true) => RowForm::CostsAndShape,
-            (true, false) => RowForm::Costs,
-            (false, true) => RowForm::Shape,
-            (false, false) if asks_further => RowForm::Further,
-            (false, false) => RowForm::Plain,
+    pub fn with(measures: Measures, asks_further: bool) -> RowForm
+        ensures { result ≡ form_with measures.costs measures.shape asks_further }
+    {
+        RowForm {
+            further: asks_further || measures.costs || measures.shape,
+            costs: measures.costs,
+            shape: measures.shape,
         }
     }
 
     /// The form with the columns that these rows need: those of costs and of shapes if each row has them, and those of
     /// the further options if a row asks for one.
-    pub fn of_rows(rows: &[Row]) -> RowForm {
+    pub fn of_rows(rows: &[Row]) -> RowForm
+        ensures { result ≡ form_of_rows rows.now }
+    {
         let measures = Measures {
-            costs: !rows.is_empty() && rows.iter().all(|row| row.has_costs()),
-            shape: !rows.is_empty() && rows.iter().all(|row| row.has_shape()),
+            costs: !rows.is_empty() && all_priced(rows),
+            shape: !rows.is_empty() && all_shaped(rows),
         };
-        RowForm::with(measures, rows.iter().any(|row| row.asks_further()))
+        RowForm::with(measures, any_further(rows))
     }
 
-    /// Whether there are columns for costs.
-    pub(crate) fn has_costs(self) -> bool {
-        matches!(self, RowForm::Costs | RowForm::CostsAndShape)
+    /// The place of the first column for costs, if there are such.
+    pub(crate) fn costs_from(self) -> usize
+        ensures { result ≡ costs_from self }
+    {
+        if self.further { 40 } else { 37 }
     }
 
-    /// Whether there are columns for shapes.
-    pub(crate) fn has_shape(self) -> bool {
-        matches!(self, RowForm::Shape | RowForm::CostsAndShape)
+    /// The place of the first column for shapes, if there are such.
+    pub(crate) fn shapes_from(self) -> usize
+        ensures { result ≡ shapes_from self }
+    {
+        if self.costs {
+            return self.costs_from() + 18;
+        }
+        self.costs_from()
     }
+}
+
+/// Whether it is known of each row what its broadcasts cost.
+fn all_priced(rows: &[Row]) -> bool
+    ensures { result ≡ list_all has_costs rows.now }
+{
+    rows.iter().all(|row| row.has_costs())
+}
+
+/// Whether the shapes of each row are known.
+fn all_shaped(rows: &[Row]) -> bool
+    ensures { result ≡ list_all has_shape rows.now }
+{
+    rows.iter().all(|row| row.has_shape())
+}
+
+/// Whether a row asks for a further option.
+fn any_further(rows: &[Row]) -> bool
+    ensures { result ≡ list_any asks_further rows.now }
+{
+    rows.iter().any(|row| row.asks_further())
 }

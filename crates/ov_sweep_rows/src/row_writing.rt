@@ -1,39 +1,107 @@
-use crate::column_names::column_names;
-use crate::columns::{
-    Cell, costs_cells, further_cells, message_cells, phase_cells, setting_cells, shape_cells,
+ghost use Rattle.std.specs.Prelude.{◌≡◌, ◌++◌, IfOk, OnOk, map};
+ghost use Rattle.csv.specs.Records.{fields_of};
+ghost use Rattle.csv.specs.Writing.{default_writer, row_text};
+ghost use Rattle.ov_ids.specs.ParamsState.{AreWithinLimits};
+ghost use Rattle.ov_sweep_rows.specs.Cells.{cell_text, cells};
+ghost use Rattle.ov_sweep_rows.specs.Columns.{forms, if_asked};
+ghost use Rattle.ov_sweep_rows.specs.Writing.{HasColumns, IsLineOf, header_line, row_in_form, row_line};
+ghost use Rattle.ov_sweep_rows.specs.Code.Written.{AreReadBack};
+
+use crate::cell::Cell;
+use crate::columns::{FURTHER, OPTIONS, columns_of};
+use crate::row_cells::{
+    cost_cells, further_cells, message_cells, phase_cells, seed_cell, setting_cells, shape_cells,
 };
-use crate::{MessageRow, Row, RowForm};
-use csv::{Error as CsvError, Writer, WriterBuilder};
+use crate::{MessageRow, Phase, Row, RowForm};
+use csv::{ByteRecord, Error as CsvError, WriterBuilder};
 use ov_ids::OutOfMemory;
-use std::alloc::Global;
+use std::alloc::{AllocError, Global};
+use std::fmt::Write;
 
 /// The header of rows of this form: the names of their columns, with one comma between two, and a line feed.
 /// OutOfMemory (99) if an allocation is refused.
-pub fn header_text(alloc: Global, form: RowForm) -> Result<Vec<u8>, OutOfMemory> {
-    let mut writer = WriterBuilder::new().from_writer(Vec::new(alloc));
-    write_names(&mut writer, column_names(form))?;
-    text_of(writer)
+pub fn header_text(alloc: Global, form: RowForm) -> Result<Vec<u8>, OutOfMemory>
+    ensures { IfOk result (λ text. text.items ≡ header_line form) }
+{
+    let columns = columns_of(alloc, form)?;
+    let mut fields = ByteRecord::new(alloc);
+    for (name, _) in &columns {
+        fields.push_field(name.as_bytes())?;
+    }
+    text_of(alloc, &fields)
 }
 
-/// A row of this form: its cells in the order of the columns, with one comma between two, and a line feed. OutOfMemory
-/// (99) if an allocation is refused.
-pub fn row_text(alloc: Global, form: RowForm, row: &Row) -> Result<Vec<u8>, OutOfMemory> {
-    let mut writer = WriterBuilder::new().from_writer(Vec::new(alloc));
-    write_cells(alloc, &mut writer, &setting_cells(&row.options))?;
-    write_cells(alloc, &mut writer, &[Cell::Number(row.options.seed)])?;
-    for phase in &row.phases {
-        write_cells(alloc, &mut writer, &phase_cells(phase))?;
+/// A row of this form: its cells in the order of the columns, with one comma between two, and a line feed. Behind their
+/// header, `read_rows` reads such rows back. OutOfMemory (99) if an allocation is refused.
+pub fn row_text(alloc: Global, form: RowForm, row: &Row) -> Result<Vec<u8>, OutOfMemory>
+    ensures text { IfOk result (λ text. text.items ≡ row_line form row.now) }
+    ensures back { IfOk result (λ text. HasColumns form row.now → IsLineOf form (row_in_form form row.now) text.items) }
+{
+    let cells = cells_of(alloc, form, row)?;
+    text_of_cells(alloc, &cells)
+}
+
+/// The cells of a row of this form.
+fn cells_of(alloc: Global, form: RowForm, row: &Row) -> Result<Vec<Cell>, AllocError>
+    ensures cells { IfOk result (λ made. made.items ≡ cells form row.now) }
+    ensures back { IfOk result (λ made. HasColumns form row.now → AreReadBack (forms form) made.items) }
+    ensures within { IfOk result (λ made. AreWithinLimits row.now.options.params) }
+{
+    let settle = row.after(Phase::Settle);
+    let crash = row.after(Phase::Crash);
+    let heal = row.after(Phase::Heal);
+    let mut cells = Vec::new(alloc);
+    cells.extend_from_slice(&setting_cells(&row.options))?;
+    cells.push(seed_cell(row.options.seed))?;
+    cells.extend_from_slice(&phase_cells(settle))?;
+    cells.extend_from_slice(&phase_cells(crash))?;
+    cells.extend_from_slice(&phase_cells(heal))?;
+    push_asked(&mut cells, form.further, &further_cells(&row.options))?;
+    push_thrice(
+        &mut cells,
+        form.costs,
+        &cost_cells(settle.costs),
+        &cost_cells(crash.costs),
+        &cost_cells(heal.costs),
+    )?;
+    push_thrice(
+        &mut cells,
+        form.shape,
+        &shape_cells(settle.shape),
+        &shape_cells(crash.shape),
+        &shape_cells(heal.shape),
+    )?;
+    Ok(cells)
+}
+
+/// Adds cells, if they are asked for.
+fn push_asked(cells: &mut Vec<Cell>, asked: bool, more: &[Cell]) -> Result<(), AllocError>
+    ensures { OnOk result (cells.new.items ≡ cells.old.items ++ if_asked asked more.now) }
+{
+    if !asked {
+        return Ok(());
     }
-    if form != RowForm::Plain {
-        write_cells(alloc, &mut writer, &further_cells(&row.options))?;
+    Ok(cells.extend_from_slice(more)?)
+}
+
+/// Adds the cells of each phase, if they are asked for.
+#[tactic(auto, using(crate::proofs::Gathering::appended_thrice))]
+fn push_thrice(
+    cells: &mut Vec<Cell>,
+    asked: bool,
+    settle: &[Cell],
+    crash: &[Cell],
+    heal: &[Cell],
+) -> Result<(), AllocError>
+    ensures { OnOk result
+        (cells.new.items ≡ cells.old.items ++ if_asked asked (settle.now ++ (crash.now ++ heal.now))) }
+{
+    if !asked {
+        return Ok(());
     }
-    if form.has_costs() {
-        write_costs(alloc, &mut writer, row)?;
-    }
-    if form.has_shape() {
-        write_shape(alloc, &mut writer, row)?;
-    }
-    text_of(writer)
+    cells.extend_from_slice(settle)?;
+    cells.extend_from_slice(crash)?;
+    Ok(cells.extend_from_slice(heal)?)
 }
 
 /// The columns of a broadcast behind those of its run.
@@ -53,71 +121,46 @@ const MESSAGE_COLUMNS: [&str; 10] = [
 /// The header of the rows of broadcasts: the names of the columns of the options and the further options of their run,
 /// and of their own, with one comma between two, and a line feed. OutOfMemory (99) if an allocation is refused.
 pub fn message_header_text(alloc: Global) -> Result<Vec<u8>, OutOfMemory> {
-    let mut writer = WriterBuilder::new().from_writer(Vec::new(alloc));
-    let names = column_names(RowForm::Further);
-    write_names(&mut writer, &names[..19])?;
-    write_names(&mut writer, &names[37..])?;
-    write_names(&mut writer, &MESSAGE_COLUMNS)?;
-    text_of(writer)
+    let mut fields = ByteRecord::new(alloc);
+    for (name, _) in OPTIONS.iter().chain(&FURTHER) {
+        fields.push_field(name.as_bytes())?;
+    }
+    for name in &MESSAGE_COLUMNS {
+        fields.push_field(name.as_bytes())?;
+    }
+    text_of(alloc, &fields)
 }
 
 /// The row of a broadcast: its cells in the order of the columns, with one comma between two, and a line feed.
 /// OutOfMemory (99) if an allocation is refused.
 pub fn message_row_text(alloc: Global, message: &MessageRow) -> Result<Vec<u8>, OutOfMemory> {
-    let mut writer = WriterBuilder::new().from_writer(Vec::new(alloc));
     let options = &message.options;
-    write_cells(alloc, &mut writer, &setting_cells(options))?;
-    write_cells(alloc, &mut writer, &[Cell::Number(options.seed)])?;
-    write_cells(alloc, &mut writer, &further_cells(options))?;
-    write_cells(alloc, &mut writer, &message_cells(message))?;
-    text_of(writer)
+    let mut cells = Vec::new(alloc);
+    cells.extend_from_slice(&setting_cells(options))?;
+    cells.push(seed_cell(options.seed))?;
+    cells.extend_from_slice(&further_cells(options))?;
+    cells.extend_from_slice(&message_cells(message))?;
+    text_of_cells(alloc, &cells)
 }
 
-/// What the broadcasts of each phase cost.
-fn write_costs(alloc: Global, writer: &mut Writer<Vec<u8>>, row: &Row) -> Result<(), OutOfMemory> {
-    for phase in &row.phases {
-        write_cells(alloc, writer, &costs_cells(phase.costs))?;
-    }
-    Ok(())
-}
-
-/// The shape of each phase.
-fn write_shape(alloc: Global, writer: &mut Writer<Vec<u8>>, row: &Row) -> Result<(), OutOfMemory> {
-    for phase in &row.phases {
-        write_cells(alloc, writer, &shape_cells(phase.shape))?;
-    }
-    Ok(())
-}
-
-fn write_names(writer: &mut Writer<Vec<u8>>, names: &[&str]) -> Result<(), OutOfMemory> {
-    for name in names {
-        write_text(writer, name)?;
-    }
-    Ok(())
-}
-
-fn write_cells(
-    alloc: Global,
-    writer: &mut Writer<Vec<u8>>,
-    cells: &[Cell],
-) -> Result<(), OutOfMemory> {
+/// The record of cells, with its end.
+fn text_of_cells(alloc: Global, cells: &[Cell]) -> Result<Vec<u8>, OutOfMemory>
+    ensures { IfOk result (λ text. text.items ≡ row_text default_writer (map cell_text cells.now)) }
+{
+    let mut fields = ByteRecord::new(alloc);
     for cell in cells {
         let text = format!(in alloc; "{cell}")?;
-        write_text(writer, text.as_str())?;
+        fields.push_field(text.as_bytes())?;
     }
-    Ok(())
+    text_of(alloc, &fields)
 }
 
-fn write_text(writer: &mut Writer<Vec<u8>>, text: &str) -> Result<(), OutOfMemory> {
-    match writer.write_field(text.as_bytes()) {
-        Ok(()) => Ok(()),
-        Err(error) => Err(refused(error)),
-    }
-}
-
-/// The record that was written, with its end.
-fn text_of(mut writer: Writer<Vec<u8>>) -> Result<Vec<u8>, OutOfMemory> {
-    if let Err(error) = writer.end_record() {
+/// The record, with its end.
+fn text_of(alloc: Global, fields: &ByteRecord) -> Result<Vec<u8>, OutOfMemory>
+    ensures { IfOk result (λ text. text.items ≡ row_text default_writer (fields_of fields.now)) }
+{
+    let mut writer = WriterBuilder::new().from_writer(Vec::new(alloc));
+    if let Err(error) = writer.write_byte_record(fields) {
         return Err(refused(error));
     }
     match writer.into_inner() {

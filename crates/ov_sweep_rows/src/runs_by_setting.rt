@@ -1,5 +1,7 @@
 use crate::Row;
-use crate::columns::{Cell, further_cells, setting_cells};
+use crate::cell::Cell;
+use crate::cells_to_row::cell_at;
+use crate::row_cells::{further_cells, setting_cells};
 use crate::setting_names::{SETTING_NAMES, SettingName};
 use indexmap::IndexSet;
 use ov_grow_options::GrowOptions;
@@ -101,11 +103,6 @@ fn differ_at(settings: &[Setting<'_>], place: usize) -> bool {
     settings
         .iter()
         .any(|setting| cell_at(&setting.cells, place) != cell)
-}
-
-/// The cell at a place of a setting.
-pub(crate) fn cell_at(cells: &[Cell], place: usize) -> Cell {
-    cells.get(place).copied().unwrap_or(Cell::Empty)
 }
 
 /// What people read in a cell of a setting: `none` where nothing is given.

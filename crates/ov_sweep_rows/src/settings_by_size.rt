@@ -1,14 +1,13 @@
 use crate::Setting;
-use crate::columns::Cell;
-use crate::runs_by_setting::cell_at;
+use crate::cell::Cell;
+use crate::cells_to_row::cell_at;
 use crate::setting_names::SETTING_NAMES;
+use ov_grow_options::Order;
+use ov_ids::Refill;
 use std::alloc::{AllocError, Global};
 
 /// The place of the active size among the options of a setting. By it settings are ordered first.
 const ACTIVE: usize = 1;
-
-/// The words of options, each behind those that come before it in the order of settings.
-const WORDS: [&str; 5] = ["never", "alone", "always", "random", "oldest"];
 
 /// The places of settings in the order of their sizes: by the active size, then by the other options in the order of
 /// their columns. Numbers ascend; what is not given comes before any number, `cut` after all.
@@ -43,17 +42,10 @@ fn rank_of(cell: Cell) -> u64 {
     match cell {
         Cell::Empty => 0,
         Cell::Number(number) => number.saturating_add(1),
-        Cell::Word(word) => rank_of_word(word),
         Cell::Decimals(number) => number.parts,
+        Cell::Refill(Refill::Never) | Cell::Order(Order::Random) | Cell::Phase(_) => 0,
+        Cell::Refill(Refill::Alone) | Cell::Order(Order::Oldest) => 1,
+        Cell::Refill(Refill::Always) => 2,
+        Cell::Cut => u64::MAX,
     }
-}
-
-/// The place of a word among those of its option.
-fn rank_of_word(word: &str) -> u64 {
-    for (place, other) in WORDS.iter().enumerate() {
-        if *other == word {
-            return place as u64;
-        }
-    }
-    u64::MAX
 }

@@ -1,6 +1,7 @@
-use crate::columns::Cell;
+use crate::cell::Cell;
+use crate::cells_to_row::cell_at;
 use crate::phase_summary::{count, phase_summary, split_count};
-use crate::runs_by_setting::{cell_at, differing, run_counts, shown_cell};
+use crate::runs_by_setting::{differing, run_counts, shown_cell};
 use crate::setting_names::SETTING_NAMES;
 use crate::settings_by_size::places_by_size;
 use crate::summary_text_writing::{HEADS, phase_name, push_split};

@@ -1,7 +1,8 @@
+use crate::cells_to_row::cell_at;
 use crate::means_of_measures::{Known, mean_text};
 use crate::measure::Measure;
 use crate::phase_summary::{PhaseSummary, count, phase_summary};
-use crate::runs_by_setting::{cell_at, common_command, differing, run_counts, shown_cell};
+use crate::runs_by_setting::{common_command, differing, run_counts, shown_cell};
 use crate::setting_names::SETTING_NAMES;
 use crate::split_answer::push_few_runs;
 use crate::text_table::TextTable;

@@ -14,9 +14,6 @@ use Rattle.ov_views.specs.Code.ChangeOrder.{in_order}
 use Rattle.ov_views.specs.declared.change.ViewChange.{ViewChange}
 use Rattle.ov_views.specs.declared.change.ViewChange.TheVariants.{Up, Down}
 
-not_in : (xs : List ℕ) (x : ℕ) → has xs x ≡ false → ¬ IsIn xs x
-not_in xs x e h = both_ways _ e h
-
 -- x is neither the node itself nor active
 pub record AreOthers (v : ViewsState) (x : ℕ) : Type 0 where
   pub differs : x ≢ v.me
@@ -25,7 +22,7 @@ pub record AreOthers (v : ViewsState) (x : ℕ) : Type 0 where
 pub others : (v : ViewsState) (x : ℕ) → is_close v x ≡ false → AreOthers v x
 others v x e =
     let parts = or_parts (eqb x v.me) (has v.active x) e in
-    record { differs = eqb-false x v.me parts.0; inactive = not_in v.active x parts.1 }
+    record { differs = eqb-false x v.me parts.0; inactive = both_ways _ parts.1 }
 
 pub AreViews-without_active : (v : ViewsState) (x : ℕ) → AreViews v →
     AreViews (record v { active = without x v.active })
@@ -96,7 +93,7 @@ pub record KeepsActive (v : ViewsState) (x : ℕ) (w : ViewsState) : Type 0 wher
   pub active : w.active ≡ v.active
   pub passive : (z : ℕ) → IsIn w.passive z → (z ≡ x) ⊎ IsIn v.passive z
 
-same_keeps : (v w : ViewsState) (x : ℕ) → w ≡ v → KeepsActive v x w
+pub same_keeps : (v w : ViewsState) (x : ℕ) → w ≡ v → KeepsActive v x w
 same_keeps v w x e = record {
   me = ap (λ (u : ViewsState). u.me) e;
   params = ap (λ (u : ViewsState). u.params) e;

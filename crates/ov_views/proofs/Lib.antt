@@ -1,3 +1,4 @@
+pub mod Fields
 pub mod Keeping
 pub mod Giving
 pub mod LeftOf

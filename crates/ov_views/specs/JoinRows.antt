@@ -2,7 +2,8 @@
 -- JOIN and FORWARDJOIN are HyParView's (Leitão, Pereira, Rodrigues, DSN 2007, Algorithm 1). Chosen here are JOINED,
 -- that a walk does not go to the new node itself, that a walk which can go nowhere ends, and that a message does
 -- nothing if its sender, or the new node that it names, is the node that gets it.
-use Rattle.std.specs.Prelude.{◌≡◌, ℕ, ◌-◌, Bool, ◌||◌, ◌==◌, nat_le, List, [], ◌∷◌, ◌++◌, length, map, MatchBool}
+use Rattle.std.specs.Prelude.{◌≡◌, ℕ, ◌-◌, Bool, not, ◌&&◌, ◌||◌, ◌==◌, nat_le, List, [], ◌∷◌}
+use Rattle.std.specs.Prelude.{◌++◌, length, map, MatchBool}
 use Rattle.ov_ids.specs.Sets.{without}
 use Rattle.ov_wire.specs.declared.Message.{Message}
 use Rattle.ov_wire.specs.declared.Body.TheVariants.{Joined, ForwardJoin}
@@ -47,6 +48,12 @@ AllowedForwardJoin v s n ttl choices w changes sends =
     × Remembers v n ttl first w
     × Chosen (walk_targets v s n) target last []
     × (changes ≡ []) × (sends ≡ (target, say v.me (ForwardJoin n (ttl - 1))) ∷ [])))
+
+-- FORWARDJOIN for n from s is handed on and does nothing else: neither is the node itself, its walk goes on, and n does
+-- not become passive
+abbrev pub is_only_handed_on : ViewsState → ℕ → ℕ → ℕ → Bool
+is_only_handed_on v s n ttl =
+    not ((s == v.me) || (n == v.me)) && (not (walk_ends v s n ttl) && not (ttl == v.params.prwl))
 
 -- JOINED from s: s becomes active
 abbrev pub AllowedJoined : ViewsState → ℕ → List Choice → ViewsState → List ViewChange → List (ℕ × Message) → Type 0

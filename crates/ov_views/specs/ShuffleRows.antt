@@ -1,7 +1,7 @@
 -- The rows of a node's behaviour when it starts a shuffle, and at SHUFFLE and SHUFFLEREPLY. v are the views before the
 -- step and w those after. Shuffles are HyParView's (Leitão, Pereira, Rodrigues, DSN 2007, Section 4.4). That a node's
 -- own shuffle does nothing if it ends at that node, nor does a message from the node itself, is chosen here.
-use Rattle.std.specs.Prelude.{◌≡◌, ℕ, ◌-◌, Bool, ◌&&◌, ◌==◌, nat_lt, List, [], ◌∷◌, ◌++◌, length, MatchBool}
+use Rattle.std.specs.Prelude.{◌≡◌, ℕ, ◌-◌, Bool, not, ◌&&◌, ◌==◌, nat_lt, List, [], ◌∷◌, ◌++◌, length, MatchBool}
 use Rattle.ov_ids.specs.Sets.{without}
 use Rattle.ov_wire.specs.declared.Message.{Message}
 use Rattle.ov_wire.specs.declared.Body.TheVariants.{Shuffle, ShuffleReply}
@@ -36,6 +36,10 @@ AllowedStart v sent choices kept sends =
 -- steps ends
 abbrev pub walks_on : ViewsState → ℕ → Bool
 walks_on v ttl = nat_lt 0 (ttl - 1) && nat_lt 1 (length v.active)
+
+-- SHUFFLE from s is handed on: it comes from another node, and its walk goes on
+abbrev pub is_handed_on : ViewsState → ℕ → ℕ → Bool
+is_handed_on v s ttl = not (s == v.me) && walks_on v ttl
 
 -- SHUFFLE of o, from s. It walks on with one step less to a random active member other than s, or it ends here. If it
 -- ends and o is another node, o is sent a sample of passive members, as many as the list has ids, and then the list is

@@ -1,8 +1,9 @@
-ghost use Rattle.std.specs.Prelude.{◌≡◌, ◌≤◌, ◌<◌, ◌+◌, ◌↔◌, ℕ, List, [], ◌∷◌, ◌++◌, Some, None, length, min};
-ghost use Rattle.std.specs.Prelude.{◌==◌, ◌&&◌, not, slice_get, IsTrue, IfSome, IfNone, MatchBool};
+ghost use Rattle.std.specs.Prelude.{◌≡◌, ◌≤◌, ◌<◌, ◌+◌, ◌↔◌, ℕ, List, [], ◌∷◌, Some, None, length, min};
+ghost use Rattle.std.specs.Prelude.{◌==◌, not, slice_get, IsTrue, IfSome, IfNone};
+ghost use Rattle.std.specs.List.{list_all};
 ghost use Rattle.ov_ids.specs.Members.{Has};
-ghost use Rattle.ov_ids.specs.Sets.{IsSet, has, without, without_all};
-ghost use Rattle.ov_words.specs.Pick.{AreDrawn, Drawn, Suffice, Choice};
+ghost use Rattle.ov_ids.specs.Sets.{IsSet, has, without_all};
+ghost use Rattle.ov_words.specs.Pick.{AreDrawn, Drawn, Suffice};
 ghost use Rattle.ov_views.specs.ViewsState.{ViewsState, AreViews, has_place, is_close, members};
 ghost use Rattle.ov_views.specs.Changes.{AddsPassive, DropsRandom, AddsActive, RemovesActive, Forgets};
 ghost use Rattle.ov_views.specs.Code.ChangeOrder.{in_order};
@@ -132,7 +133,6 @@ impl Views {
         ensures value { result ≡ without_all ids.now (members view self.now) }
         ensures set { IsSet result }
         ensures fits { length result ≤ length (members view self.now) }
-        ensures most { length (members view self.now) ≤ length result + length ids.now }
     {
         let mut rest = self.set_of(view).copy();
         for id in ids {
@@ -152,15 +152,16 @@ impl Views {
         }
     }
 
-    /// Picks a random active member that is neither of these two nodes, by one random word, as a walk does that goes
-    /// on. None if there is no such member, and then no word is used. Nothing is allocated.
-    pub fn pick_but(&self, one: NodeId, other: NodeId, draws: &mut Draws<'_>) -> Option<NodeId>
+    /// Picks a random active member that is none of these nodes, by one random word, as a walk does that goes on. None
+    /// if there is no such member, and then no word is used. Nothing is allocated.
+    #[inline(always)]
+    pub fn pick_but(&self, ids: &[NodeId], draws: &mut Draws<'_>) -> Option<NodeId>
         requires { 0 < length draws.old }
         ensures drawn { IfSome result (λ d. AreDrawn (record {
-          from = without other (without one self.now.active);
+          from = without_all ids.now self.now.active;
           member = d;
         } ∷ []) draws.old draws.new) }
-        ensures empty { result ≡ None ↔ without other (without one self.now.active) ≡ [] }
+        ensures empty { result ≡ None ↔ without_all ids.now self.now.active ≡ [] }
         ensures no_word { IfNone result (draws.new ≡ draws.old) }
     {
         let members = self.active.as_slice();
@@ -168,7 +169,7 @@ impl Views {
         let mut count = 0;
         for member in members {
             others[count] = *member;
-            if is_neither(*member, one, other) {
+            if is_none_of(*member, ids) {
                 count += 1;
             }
         }
@@ -323,12 +324,12 @@ impl Views {
     }
 }
 
-/// Whether a node is neither of these two.
+/// Whether a node is none of these.
 #[inline(always)]
-fn is_neither(node: NodeId, one: NodeId, other: NodeId) -> bool
-    ensures { result ≡ (not (node == one) && not (node == other)) }
+fn is_none_of(node: NodeId, ids: &[NodeId]) -> bool
+    ensures { result ≡ list_all (λ id. not (node == id)) ids.now }
 {
-    node != one && node != other
+    ids.iter().all(|id| node != *id)
 }
 
 /// The place of the passive member to give up for a new one, counted from 0 in ascending order, and what is then left

@@ -1,11 +1,11 @@
-ghost use Rattle.std.specs.Prelude.{◌≡◌, ◌-◌, ◌≤◌, ◌^◌, List, [], ◌∷◌, length, slice_index, IfOk, IsErrOf, OnOk, IfErr};
-ghost use Rattle.std.specs.Prelude.{◌<◌, ◌⊎◌, ◌≢◌, Ok, Err, ℕ};
+ghost use Rattle.std.specs.Prelude.{◌≡◌, ◌-◌, ◌≤◌, ◌^◌, [], ◌∷◌, length, slice_index, IfOk, IsErrOf, OnOk, IfErr};
+ghost use Rattle.std.specs.Prelude.{◌<◌, ◌⊎◌, ◌≢◌, Ok, Err};
 ghost use Rattle.std.specs.Int.{w8, w16, w32};
 ghost use Rattle.ov_wire.specs.declared.fault.WireFault.TheVariants.{Short, BadVersion, BadKind, BadField, Trailing};
 ghost use Rattle.ov_wire.specs.declared.fault.WireFault.TheVariants.{OutOfMemory};
 ghost use Rattle.ov_wire.specs.declared.message.Message.{Message};
 ghost use Rattle.ov_wire.specs.Faults.{FirstFault};
-ghost use Rattle.ov_wire.specs.Fields.{up_to, any, Number, Ids, Payload, One, Many};
+ghost use Rattle.ov_wire.specs.Fields.{up_to, any, Ids, Payload, One, Many};
 ghost use Rattle.ov_wire.specs.Messages.{own_fields, fields_of, kind_of, own_values, flag, HasList, Spelling};
 ghost use Rattle.ov_wire.specs.Messages.{AreInRange, most_kind};
 ghost use Rattle.ov_wire.specs.Code.Reading.{ReadsAs, MapsResult, number_at, values_at, ids_in};

@@ -1,4 +1,5 @@
-ghost use Rattle.std.specs.Prelude.{◌≡◌, ◌≢◌, ◌<◌, ◌≤◌, ◌+◌, ◌++◌, ◌↔◌, ℕ, List, [], ◌∷◌, length, slice_get, Some, None, IfNone, IfSome};
+ghost use Rattle.std.specs.Prelude.{◌≡◌, ◌≢◌, ◌<◌, ◌≤◌, ◌+◌, ◌++◌, ◌%◌, ◌↔◌, ℕ, [], ◌∷◌, length, None};
+ghost use Rattle.std.specs.Prelude.{IfNone, IfSome};
 ghost use Rattle.rand_core.specs.Steps.{first_words};
 ghost use Rattle.rand_pcg.specs.Pcg.{pcg64};
 ghost use Rattle.ov_words.specs.Pick.{AreDrawn};
@@ -94,8 +95,7 @@ impl<'a> Draws<'a> {
         requires some { 0 < count }
         requires word { 0 < length self.old }
         ensures within { result < count }
-        ensures drawn { (set : List ℕ) (d : ℕ) → length set ≡ count → slice_get set result ≡ Some d
-            → AreDrawn (record { from = set; member = d } ∷ []) self.old self.new }
+        ensures drawn { (word : ℕ) × (self.old ≡ word ∷ self.new) × (result ≡ word % count) }
     {
         let word = self.next();
         (word % count as u64) as usize
@@ -113,7 +113,6 @@ impl<'a> Draws<'a> {
         if set.is_empty() {
             return None;
         }
-        let word = self.next();
-        Some(set[(word % set.len() as u64) as usize])
+        Some(set[self.place(set.len())])
     }
 }

@@ -2,7 +2,7 @@
 use Rattle.std.proofs.Common.{◌≡◌, ◌≢◌, ◌⊎◌, ℕ, List, Option, Some, None, inl, inr, codes}
 use Rattle.ov_arguments.specs.Arguments.{IsOfGiven, least_asked, text_given}
 use Rattle.ov_arguments.specs.declared.arguments.Request.{Request}
-use Rattle.ov_arguments.specs.declared.arguments.Request.TheVariants.{Run, Analyse, Import, Picture, Graph}
+use Rattle.ov_arguments.specs.declared.arguments.Request.TheVariants.{Run, Analyse, Import, Picture, Graph, Tell}
 use Rattle.ov_commands.specs.Statuses.{IsAlarmStatus}
 use Rattle.overlay.specs.Program.{IsStatusGiven, IsStatusOf}
 
@@ -17,11 +17,12 @@ least_given (Some t) (Some k) status is (inr three) = inr (three, λ none. absur
 pub status_given : (arguments : List (List ℕ)) (r : Request) (status : ℕ) → IsOfGiven arguments r
     → IsStatusOf r status → IsStatusGiven arguments status
 status_given arguments (Analyse file analysis) status given is =
-    elim (least_given (text_given arguments (codes "at-least")) analysis.at_least status given.5 is.1) [
+    elim (least_given (text_given arguments (codes "at-least")) analysis.at_least status given.1.5 is) [
       | inl zero ↦ inl zero
-      | inr three ↦ inr (three.0, given.0, three.1)
+      | inr three ↦ inr (three.0, given.1.0, three.1)
     ]
 status_given arguments (Run file run) status given is = inl is
 status_given arguments (Import file dump) status given is = inl is
 status_given arguments (Picture file picture) status given is = inl is
 status_given arguments (Graph file) status given is = inl is
+status_given arguments (Tell telling) status given is = inl is

@@ -5,7 +5,6 @@ use Rattle.ov_arguments.specs.Arguments.{command_given, number_of, text_given}
 use Rattle.ov_arguments.specs.declared.arguments.ArgumentsFault.TheVariants.{BadArguments, OutOfMemory}
 use Rattle.ov_arguments.specs.declared.arguments.Request.{Request}
 use Rattle.ov_arguments.specs.declared.arguments.Request.TheVariants.{Analyse}
-use Rattle.ov_commands.specs.Alarms.{IsStatusAsked}
 use Rattle.ov_commands.specs.Statuses.{IsAlarmStatus}
 use Rattle.ov_commands.specs.Faults.{command_fault_text}
 use Rattle.ov_grow_commands.specs.GrowFaults.{growth_number}
@@ -24,10 +23,10 @@ abbrev pub IsOfRequest : ProgramFault → Type 0
 IsOfRequest (Command fault) = ⊤
 IsOfRequest other = ⊥
 
--- a status with which what is asked for may end that had no fault: of an analysis that of what is answered, which is 0,
--- or 3 too if a least number is asked for; else 0
+-- a status with which what is asked for may end that had no fault: of an analysis 0, or 3 too if a least number is
+-- asked for; else 0
 abbrev pub IsStatusOf : Request → ℕ → Type 0
-IsStatusOf (Analyse file analysis) status = IsStatusAsked analysis status × IsAlarmStatus analysis.at_least status
+IsStatusOf (Analyse file analysis) status = IsAlarmStatus analysis.at_least status
 IsStatusOf other status = status ≡ 0
 
 -- a status with which these arguments may end that had no fault: 0, and of `analyse` with `--at-least` 3 too

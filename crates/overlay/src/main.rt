@@ -14,6 +14,7 @@ use crate::fault_and_exit_status::{ProgramFault, exit_status};
 use ov_arguments::{ArgumentsFault, Request, argument_reasons, read_arguments, unopened_tip};
 use ov_commands::{
     CommandFault, analyse_asked, graph_asked, import_asked, picture_asked, print_command_tip,
+    tell_asked,
 };
 use ov_grow_commands::grow_or_sweep;
 use ov_reasons::{print_reason, print_tip};
@@ -97,7 +98,7 @@ fn behind_name(command_line: &[String]) -> &[String]
     }
 }
 
-/// Ends if the arguments can't be read. Prints help, the version, or what is wrong with them.
+/// Ends if the arguments can't be read. Prints what is wrong with them.
 fn unread_arguments(rt: &HostRuntime, fault: ArgumentsFault, arguments: &[String]) -> ProgramFault
     ensures { result ≡ Arguments fault }
 {
@@ -130,5 +131,6 @@ fn do_asked<T: Threads + Wait + Sync>(
         Request::Import { file, dump } => Ok(import_asked(rt, file, dump)?),
         Request::Picture { file, picture } => Ok(picture_asked(rt, file, picture)?),
         Request::Graph { file } => Ok(graph_asked(rt, file)?),
+        Request::Tell(telling) => Ok(tell_asked(rt, telling)?),
     }
 }

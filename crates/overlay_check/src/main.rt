@@ -29,6 +29,15 @@ const STANDARD_INPUT: &str = "standard input";
 /// What is printed if that is a terminal.
 const TYPED: &str = "reading a certificate file from standard input, to its end (Ctrl-D)";
 
+/// What is printed if no file is called `--help`.
+const HELP: &str = "\
+`overlay-check [FILE]` judges a certificate file of `overlay`, and prints one line: `holds ..` with status 0 if its number
+is exact; `fails N` or `refused N` with status 1 if it is not, or the file is no certificate file.";
+
+/// What is printed if no file is called `--version`: the program, and the logic that it is proved with. Each kit of that
+/// logic may build it.
+const VERSION: &str = "overlay-check 1.0, proved with Rattle's logic dac8208d650f15bf";
+
 /// What is printed if a file can't be opened whose name begins as an option.
 const NO_OPTIONS: &str =
     "tip: `overlay-check [FILE]` has no options; without FILE it reads standard input";
@@ -96,11 +105,26 @@ fn judge_named<R: Runtime + AllocGlobal + Threads + Sync>(
                 let _ = eprintln!(rt; "{text}");
             }
             if path.starts_with('-') {
-                let _ = eprintln!(rt; "{NO_OPTIONS}");
+                tell_program(rt, path);
             }
             Err(ended)
         }
     }
+}
+
+/// Prints what a person may want who takes the name of a file that can't be opened for an option: help, or the version;
+/// and that there are no options.
+fn tell_program(rt: &impl Runtime, path: &str) {
+    match path {
+        "--help" | "-h" => {
+            let _ = eprintln!(rt; "{HELP}");
+        }
+        "--version" | "-V" => {
+            let _ = eprintln!(rt; "{VERSION}");
+        }
+        _ => {}
+    }
+    let _ = eprintln!(rt; "{NO_OPTIONS}");
 }
 
 /// Judges what a reader gives, the file of this name or standard input, and writes the line of the outcome. Ok: the

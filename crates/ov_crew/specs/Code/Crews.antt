@@ -7,7 +7,8 @@ use Rattle.ov_board.specs.Claims.{fresh}
 use Rattle.ov_board.specs.Board.{BoardState, SeatState}
 use Rattle.ov_even.specs.Order.{AreMoreThan}
 use Rattle.ov_even.specs.declared.worker_haul.Haul.{Haul}
-use Rattle.ov_crew.specs.Hauls.{IsHaulOf}
+use Rattle.ov_even.specs.declared.worker_haul.Keeping.{Keeping}
+use Rattle.ov_crew.specs.Code.Kept.{IsHaulKeeping}
 
 -- the numbers from `first` on, `total` of them, are numbers of pieces, and fit in 32 bits
 pub record IsRange (g : LinkGraph) (q : List ℕ) (first total : ℕ) : Type 0 where
@@ -23,10 +24,11 @@ abbrev pub Outcome : Type 0
 Outcome = Result Haul OutOfMemory × SeatState
 
 -- a worker has worked at the board: it has ended, and this is its haul, unless it was out of memory
-pub record HasWorked (g : LinkGraph) (q : List ℕ) (first : ℕ) (b : BoardState) (o : Outcome) : Type 0 where
+pub record HasWorked (keeping : Keeping) (g : LinkGraph) (q : List ℕ) (first : ℕ) (b : BoardState) (o : Outcome)
+    : Type 0 where
   pub board : o.1.board ≡ b
   pub ended : OnOk o.0 (o.1.worker.ended ≡ true)
-  pub haul : IfOk o.0 (λ h. IsHaulOf g q first o.1.worker h.pieces.items)
+  pub haul : IfOk o.0 (λ h. IsHaulKeeping keeping g q first o.1.worker h.pieces.items)
 
 -- what workers with these hauls and these seats return
 abbrev pub outcomes : List Haul → List SeatState → List Outcome
@@ -35,9 +37,9 @@ outcomes (h ∷ hauls) [] = []
 outcomes (h ∷ hauls) (s ∷ seats) = (Ok h, s) ∷ outcomes hauls seats
 
 -- each seat's worker has the haul at its place
-abbrev pub AreHaulsOf : LinkGraph → List ℕ → ℕ → List SeatState → List Haul → Type 0
-AreHaulsOf g q first [] [] = Unit {0}
-AreHaulsOf g q first [] (h ∷ hauls) = ⊥
-AreHaulsOf g q first (s ∷ seats) [] = ⊥
-AreHaulsOf g q first (s ∷ seats) (h ∷ hauls) =
-    IsHaulOf g q first s.worker h.pieces.items × AreHaulsOf g q first seats hauls
+abbrev pub AreHaulsOf : Keeping → LinkGraph → List ℕ → ℕ → List SeatState → List Haul → Type 0
+AreHaulsOf keeping g q first [] [] = Unit {0}
+AreHaulsOf keeping g q first [] (h ∷ hauls) = ⊥
+AreHaulsOf keeping g q first (s ∷ seats) [] = ⊥
+AreHaulsOf keeping g q first (s ∷ seats) (h ∷ hauls) =
+    IsHaulKeeping keeping g q first s.worker h.pieces.items × AreHaulsOf keeping g q first seats hauls

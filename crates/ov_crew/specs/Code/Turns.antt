@@ -4,11 +4,14 @@ use Rattle.std.specs.Prelude.{◌≡◌, ◌↔◌, ◌⊎◌, ℕ, ◌<◌, tru
 use Rattle.ov_ids.specs.Members.{Has}
 use Rattle.ov_graph.specs.Links.{LinkGraph}
 use Rattle.ov_fans.specs.Cuts.{IsRight}
+use Rattle.ov_fans.specs.Pieces.{IsGood}
 use Rattle.ov_fans.specs.Theorems.{IsNoCut}
 use Rattle.ov_fans.specs.declared.piece.Piece.{Piece}
 use Rattle.ov_fans.specs.declared.piece_result.Settled.{Settled}
 use Rattle.ov_board.specs.Claims.{WorkerState}
 use Rattle.ov_board.specs.Steps.{failing}
+use Rattle.ov_even.specs.declared.worker_haul.Keeping.{Keeping}
+use Rattle.ov_even.specs.declared.worker_haul.Keeping.TheVariants.{CutsAlone}
 
 -- the worker has taken x, a number below the total and above all that it had claimed
 pub record HasTaken (total x : ℕ) (w v : WorkerState) : Type 0 where
@@ -30,3 +33,9 @@ pub record HasSettled (g : LinkGraph) (q : List ℕ) (piece : Piece) (x : ℕ) (
   pub right : IsRight g q settled
   pub pieces : after ≡ before ++ settled ∷ []
   pub became : (IsNoCut settled.found × (v ≡ w)) ⊎ ((¬ IsNoCut settled.found) × (v ≡ failing x w))
+
+-- the worker has settled a piece and kept it; or the piece is good and cuts alone are kept, and nothing has changed
+abbrev pub HasSettledKeeping : Keeping → LinkGraph → List ℕ → Piece → ℕ → WorkerState → WorkerState → List Settled
+    → List Settled → Type 0
+HasSettledKeeping keeping g q piece x w v before after =
+    ((keeping ≡ CutsAlone) × IsGood g q piece × (v ≡ w) × (after ≡ before)) ⊎ HasSettled g q piece x w v before after

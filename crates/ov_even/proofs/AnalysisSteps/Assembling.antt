@@ -1,6 +1,6 @@
 -- The hauls of the workers, and the certificate that is made from them.
 use Rattle.std.proofs.Common.{◌≡◌, ◌⊎◌, inl, inr, ℕ, ◌<◌, ◌+◌, ◌-◌, List, length, slice_get, Option, Some, None}
-use Rattle.std.proofs.Common.{refl, sym, ◌∙◌, subst, ap, arith, Box, Global, Result, Ok, Err, IfErr}
+use Rattle.std.proofs.Common.{refl, sym, ◌∙◌, subst, ap, arith, Box, Global, Result, Ok, Err, IfErr, IfNone}
 use Rattle.ov_ids.specs.FaultOrder.{IsRefusedBy}
 use Rattle.ov_graph.specs.Links.{LinkGraph, HasNode, IsGraph, IsGroup, AreAllLinked}
 use Rattle.ov_fans.specs.Pieces.{IsPiece, IsLinkedPair, level_of}
@@ -13,17 +13,20 @@ use Rattle.ov_fans.specs.declared.piece_result.Found.TheVariants.{Linked, Paths,
 use Rattle.ov_fans.specs.declared.piece_result.Settled.{Settled}
 use Rattle.ov_fans.proofs.PieceCuts.Decided.{decides}
 use Rattle.std.proofs.Common.{zero, suc, eqb, false}
+use Rattle.ov_cert.specs.declared.cert.Cert.{Cert}
 use Rattle.ov_cert.specs.declared.cert.Split.{Split}
 use Rattle.ov_even.specs.Answer.{NamesParting, NamesFirstCut}
 use Rattle.ov_even.specs.declared.fault.AnalyseFault.{AnalyseFault}
 use Rattle.ov_even.specs.declared.fault.AnalyseFault.TheVariants.{OutOfMemory}
 use Rattle.ov_even.specs.Faults.{GroupJudged}
 use Rattle.ov_even.specs.First.{IsFirst}
-use Rattle.ov_even.specs.Hauls.{AreRight, Decides, Suffice}
+use Rattle.ov_even.specs.Hauls.{AreRight, Decides, Suffice, SufficeForOutline}
 use Rattle.ov_even.specs.declared.worker_haul.Haul.{Haul}
+use Rattle.ov_even.specs.declared.worker_haul.Keeping.{Keeping}
+use Rattle.ov_even.specs.declared.worker_haul.Keeping.TheVariants.{EachPiece}
 use Rattle.ov_even.specs.Code.Levels.{pieces_of_level}
 use Rattle.ov_even.specs.Code.Slots.{StandsAt, AreSlotsOf, HaveSlots, ArePiecesOf}
-use Rattle.ov_even.specs.Levels.{IsLevelCleared}
+use Rattle.ov_even.specs.Levels.{IsLevelDone}
 use Rattle.ov_even.specs.Code.Cuts.{IsLowestCut, IsFirstCut, IsDeciding, all_settled}
 use Rattle.ov_even.proofs.PieceOrder.PieceLevels.{level_low, level_high}
 use Rattle.ov_even.proofs.PieceOrder.Ordering.{one_comes_before}
@@ -51,7 +54,7 @@ some_is : {X : Type 0} (x y : X) → Some x ≡ Some y → x ≡ y
 some_is x y e = cc
 
 pub have_slots : (g : LinkGraph) (q : List ℕ) (level : ℕ) (hauls : List Haul) (slots : List (Option (List (List ℕ))))
-    → AreRight g q hauls → IsLevelCleared g q hauls level → AreSlotsOf (length q) level (all_settled hauls) slots
+    → AreRight g q hauls → IsLevelDone EachPiece g q hauls level → AreSlotsOf (length q) level (all_settled hauls) slots
     → HaveSlots g q level slots
 have_slots g q level hauls slots right cleared are p place at same apart stands = elim (cleared p at same) [
   | inl l ↦ absurd (apart l)
@@ -75,10 +78,11 @@ have_slots g q level hauls slots right cleared are p place at same apart stands 
 ]
 
 -- the first cut of hauls that suffice is that of the deciding piece
-same_first : (g : LinkGraph) (q : List ℕ) (hauls : List Haul) (s t : Settled) → IsGraph g → IsGroup g q
-    → AreRight g q hauls → Decides g q hauls t → IsLowestCut (all_settled hauls) s → s.piece ≡ t.piece
-same_first g q hauls s t graph group right decided low =
-    let first = decides_first g q hauls t graph group right decided in
+same_first : (keeping : Keeping) (g : LinkGraph) (q : List ℕ) (hauls : List Haul) (s t : Settled) → IsGraph g
+    → IsGroup g q → AreRight g q hauls → Decides keeping g q hauls t → IsLowestCut (all_settled hauls) s
+    → s.piece ≡ t.piece
+same_first keeping g q hauls s t graph group right decided low =
+    let first = decides_first keeping g q hauls t graph group right decided in
     let there = in_hauls hauls s low.there in
     let is = right s there in
     elim (one_comes_before s.piece t.piece) [
@@ -90,14 +94,15 @@ same_first g q hauls s t graph group right decided low =
     ]
 
 pub deciding : (g : LinkGraph) (q : List ℕ) (hauls : List Haul) (s : Settled) → IsGraph g → IsGroup g q
-    → ¬ AreAllLinked g q → Suffice g q hauls → IsLowestCut (all_settled hauls) s → IsDeciding g q s
-deciding g q hauls s graph group apart suffice low = elim suffice.1 [
+    → ¬ AreAllLinked g q → SufficeForOutline g q hauls → IsLowestCut (all_settled hauls) s → IsDeciding g q s
+deciding g q hauls s graph group apart suffice low = elim suffice.1.1 [
   | inl all ↦ absurd (apart all)
   | inr d ↦
+      let keeping = suffice.0 in
       let t = d.0 in
-      let right = suffice.0 in
-      let e : s.piece ≡ t.piece = same_first g q hauls s t graph group right d.1 low in record {
-        first = subst (IsFirst g q) (sym e) (decides_first g q hauls t graph group right d.1);
+      let right = suffice.1.0 in
+      let e : s.piece ≡ t.piece = same_first keeping g q hauls s t graph group right d.1 low in record {
+        first = subst (IsFirst g q) (sym e) (decides_first keeping g q hauls t graph group right d.1);
         right = (right s (in_hauls hauls s low.there)).1;
         cut = low.cut;
       }
@@ -106,23 +111,41 @@ deciding g q hauls s graph group apart suffice low = elim suffice.1 [
 -- the level below that of the deciding piece is cleared
 pub cleared_under : (g : LinkGraph) (q : List ℕ) (hauls : List Haul) (s : Settled) → IsGraph g → IsGroup g q
     → ¬ AreAllLinked g q → Suffice g q hauls → IsLowestCut (all_settled hauls) s
-    → IsLevelCleared g q hauls (level_of s.piece - 1)
+    → IsLevelDone EachPiece g q hauls (level_of s.piece - 1)
 cleared_under g q hauls s graph group apart suffice low r at same = elim suffice.1 [
   | inl all ↦ absurd (apart all)
   | inr d ↦
       let right = suffice.0 in
-      let e = same_first g q hauls s d.0 graph group right d.1 low in
+      let e = same_first EachPiece g q hauls s d.0 graph group right d.1 low in
       let least = level_low g q s.piece (right s (in_hauls hauls s low.there)).0 in
       let level : level_of s.piece ≡ level_of d.0.piece = ap level_of e in
       d.1.before r at (inl (omega (arith, same, least, level))) (omega (arith, same, least, level))
 ]
 
-pub some_cut : (g : LinkGraph) (q : List ℕ) (hauls : List Haul) → ¬ AreAllLinked g q → Suffice g q hauls
+pub some_cut : (g : LinkGraph) (q : List ℕ) (hauls : List Haul) → ¬ AreAllLinked g q → SufficeForOutline g q hauls
     → ¬ IsFirstCut (all_settled hauls) None
-some_cut g q hauls apart suffice none = elim suffice.1 [
+some_cut g q hauls apart suffice none = elim suffice.1.1 [
   | inl all ↦ apart all
   | inr d ↦ d.1.cut (none d.0 (among_all hauls d.0 d.1.there))
 ]
+
+-- what holds if there is none holds if there is not some one
+pub none_given : {T : Type 0} (r : Option T) (P : Type 0) → IfNone r P → ((x : T) → ¬ (r ≡ Some x)) → P
+none_given None P holds not = holds
+none_given (Some x) P holds not = absurd (not x refl)
+
+-- where no certificate says that all members are linked, the first cut is that of the deciding piece, and there is one
+pub deciding_first : (g : LinkGraph) (q : List ℕ) (hauls : List Haul) (s : Settled) (linked : Option Cert) → IsGraph g
+    → IsGroup g q → SufficeForOutline g q hauls → IfNone linked (¬ AreAllLinked g q)
+    → ((c : Cert) → ¬ (linked ≡ Some c)) → IsLowestCut (all_settled hauls) s → IsDeciding g q s
+deciding_first g q hauls s linked graph group suffice none not low =
+    deciding g q hauls s graph group (none_given linked (¬ AreAllLinked g q) none not) suffice low
+
+pub some_first : (g : LinkGraph) (q : List ℕ) (hauls : List Haul) (linked : Option Cert) → SufficeForOutline g q hauls
+    → IfNone linked (¬ AreAllLinked g q) → ((c : Cert) → ¬ (linked ≡ Some c))
+    → ¬ IsFirstCut (all_settled hauls) None
+some_first g q hauls linked suffice none not =
+    some_cut g q hauls (none_given linked (¬ AreAllLinked g q) none not) suffice
 
 -- a list that is not empty has an item
 pub some_node : (n : ℕ) → eqb n 0 ≡ false → 0 < n

@@ -6,36 +6,37 @@ use Rattle.ov_fans.specs.Theorems.{IsNoCut}
 use Rattle.ov_fans.specs.declared.piece.Piece.{Piece}
 use Rattle.ov_fans.specs.declared.piece_result.Settled.{Settled}
 use Rattle.ov_even.specs.Order.{IsNumbered}
-use Rattle.ov_even.specs.Hauls.{IsInHauls, IsCleared}
+use Rattle.ov_even.specs.Hauls.{IsInHauls, IsDone}
 use Rattle.ov_even.specs.Levels.{IsTried, AreNumbersOf}
 use Rattle.ov_even.specs.declared.worker_haul.Haul.{Haul}
+use Rattle.ov_even.specs.declared.worker_haul.Keeping.{Keeping}
 use Rattle.ov_even.proofs.PieceNumbers.Numbering.{every_number, numbers_order}
 
--- the hauls clear the first pieces of a level, `least` of them
-abbrev pub AreClearedUpTo : LinkGraph → List ℕ → List Haul → ℕ → ℕ → Type 0
-AreClearedUpTo g q hauls first least = (x : ℕ) → x < least → (r : Piece)
-    → IsNumbered (length g.nodes) (length q) (first + x) r → IsCleared g q hauls r
+-- the first pieces of a level are done with, `least` of them
+abbrev pub AreDoneUpTo : Keeping → LinkGraph → List ℕ → List Haul → ℕ → ℕ → Type 0
+AreDoneUpTo keeping g q hauls first least = (x : ℕ) → x < least → (r : Piece)
+    → IsNumbered (length g.nodes) (length q) (first + x) r → IsDone keeping g q hauls r
 
 -- the hauls have a cut for the piece of this number
 abbrev pub IsCutAt : LinkGraph → List ℕ → List Haul → ℕ → Type 0
 IsCutAt g q hauls number = (s : Settled) × IsInHauls hauls s
     × IsNumbered (length g.nodes) (length q) number s.piece × (¬ IsNoCut s.found)
 
--- a piece whose number is within the first is cleared
-cleared_before : (g : LinkGraph) (q : List ℕ) (hauls : List Haul) (first least y : ℕ) (r : Piece)
-    → AreClearedUpTo g q hauls first least → IsNumbered (length g.nodes) (length q) y r → first ≤ y → y < first + least
-    → IsCleared g q hauls r
-cleared_before g q hauls first least y r cleared numbered from to =
+-- a piece whose number is within the first is done with
+done_before : (keeping : Keeping) (g : LinkGraph) (q : List ℕ) (hauls : List Haul) (first least y : ℕ) (r : Piece)
+    → AreDoneUpTo keeping g q hauls first least → IsNumbered (length g.nodes) (length q) y r → first ≤ y
+    → y < first + least → IsDone keeping g q hauls r
+done_before keeping g q hauls first least y r done numbered from to =
     let e : y ≡ first + (y - first) = omega arith in
-    cleared (y - first) (omega arith) r
+    done (y - first) (omega arith) r
     (subst (λ (z : ℕ). IsNumbered (length g.nodes) (length q) z r) e numbered)
 
--- where the first pieces of a level are cleared, and these are all of it or the next one has a cut, the level was tried
-pub tried_by_numbers : (g : LinkGraph) (q : List ℕ) (hauls : List Haul) (level first size least : ℕ)
-    → AreNumbersOf (length g.nodes) (length q) level first size → least ≤ size
-    → AreClearedUpTo g q hauls first least → (least ≡ size) ⊎ IsCutAt g q hauls (first + least)
-    → IsTried g q hauls level
-tried_by_numbers g q hauls level first size least numbers few cleared last =
+-- where the first pieces of a level are done with, and these are all of it or the next one has a cut, the level was tried
+pub tried_by_numbers : (keeping : Keeping) (g : LinkGraph) (q : List ℕ) (hauls : List Haul)
+    (level first size least : ℕ) → AreNumbersOf (length g.nodes) (length q) level first size → least ≤ size
+    → AreDoneUpTo keeping g q hauls first least → (least ≡ size) ⊎ IsCutAt g q hauls (first + least)
+    → IsTried keeping g q hauls level
+tried_by_numbers keeping g q hauls level first size least numbers few done last =
     let n = length g.nodes in
     let m = length q in
     elim (cases_lt least size) [
@@ -44,7 +45,7 @@ tried_by_numbers g q hauls level first size least numbers few cleared last =
           let h = (numbers.each numbered.0 r numbered.1).0 same in
           let from = h.0 in
           let to = h.1 in
-          cleared_before g q hauls first least numbered.0 r cleared numbered.1 from (omega (arith, all, to)))
+          done_before keeping g q hauls first least numbered.0 r done numbered.1 from (omega (arith, all, to)))
       | inl less ↦ elim last [
         | inl e ↦ absurd (omega (arith, less, e))
         | inr s ↦ inr (
@@ -57,7 +58,7 @@ tried_by_numbers g q hauls level first size least numbers few cleared last =
                 let numbered = every_number n m r at in
                 let h = (numbers.each numbered.0 r numbered.1).0 same in
                 let to = (numbers_order n m numbered.0 (first + least) r s.0.piece numbered.1 s.2).1 before in
-                cleared_before g q hauls first least numbered.0 r cleared numbered.1 h.0 to;
+                done_before keeping g q hauls first least numbered.0 r done numbered.1 h.0 to;
           },
         )
       ]

@@ -14,13 +14,15 @@ use Rattle.ov_fans.specs.declared.piece_result.Found.TheVariants.{Linked as link
 use Rattle.ov_fans.specs.declared.piece_result.Settled.{Settled}
 use Rattle.ov_fans.proofs.PieceCuts.Decided.{decides}
 use Rattle.ov_fans.proofs.PieceNets.Ranks.{fits}
-use Rattle.ov_even.specs.Hauls.{IsInHauls, IsCleared, AreRight, Suffice}
+use Rattle.ov_even.specs.Hauls.{IsInHauls, IsCleared, IsDone, AreRight, SufficeKeeping}
 use Rattle.ov_even.specs.declared.worker_haul.Haul.{Haul}
+use Rattle.ov_even.specs.declared.worker_haul.Keeping.{Keeping}
+use Rattle.ov_even.specs.declared.worker_haul.Keeping.TheVariants.{EachPiece, CutsAlone}
 use Rattle.ov_fans.specs.Group.{SettlerState}
-use Rattle.ov_even.specs.Levels.{IsLevelGood, IsLevelCleared, StopsAt, IsTried, SearchState}
+use Rattle.ov_even.specs.Levels.{IsLevelGood, IsLevelDone, StopsAt, IsTried, SearchState, KeepingSearch}
 use Rattle.ov_even.specs.Searching.{SearchGoesOn}
 use Rattle.ov_even.specs.Code.Narrowing.{BoundsState, AreKept, HasCutWithin, IsCutOf, HasCutOf}
-use Rattle.ov_even.proofs.EvenTest.Deciding.{cleared_good}
+use Rattle.ov_even.proofs.EvenTest.Deciding.{done_good}
 use Rattle.ov_even.proofs.EvenTest.Passing.{below_good}
 use Rattle.ov_even.specs.Code.Cuts.{IsFirstCut, all_settled}
 use Rattle.ov_even.proofs.AnalysisSteps.FirstCut.{among_all, in_hauls}
@@ -69,32 +71,32 @@ is_cut (Cut parting) size of none = none
 pub cut_within : (hauls : List Haul) (level size : ℕ) → HasCutOf hauls level size → HasCutWithin hauls level
 cut_within hauls level size within = (within.0, within.1, is_cut within.0.found size within.2, within.3)
 
--- where no piece of a tried level or of a lower one has a cut, the level is cleared
-pub tried_clears : (g : LinkGraph) (q : List ℕ) (hauls : List Haul) (level : ℕ) → IsTried g q hauls level
-    → ¬ HasCutWithin hauls level → IsLevelCleared g q hauls level
-tried_clears g q hauls level tried none = elim tried [
-  | inl cleared ↦ cleared
+-- where no piece of a tried level or of a lower one has a cut, the level is done with
+pub tried_done : (keeping : Keeping) (g : LinkGraph) (q : List ℕ) (hauls : List Haul) (level : ℕ)
+    → IsTried keeping g q hauls level → ¬ HasCutWithin hauls level → IsLevelDone keeping g q hauls level
+tried_done keeping g q hauls level tried none = elim tried [
+  | inl done ↦ done
   | inr stop ↦
       let at = stop.1.of_level in
       absurd (none (stop.0, stop.1.there, stop.1.cut, omega (arith, at)))
 ]
 
 -- where no piece of a tried level or of a lower one has a cut, the level is good
-pub tried_good : (g : LinkGraph) (q : List ℕ) (hauls : List Haul) (level : ℕ) → IsGraph g → AreRight g q hauls
-    → IsTried g q hauls level → ¬ HasCutWithin hauls level → IsLevelGood g q level
-tried_good g q hauls level graph right tried none p at e =
-    cleared_good g q hauls p graph right (tried_clears g q hauls level tried none p at e)
+pub tried_good : (keeping : Keeping) (g : LinkGraph) (q : List ℕ) (hauls : List Haul) (level : ℕ) → IsGraph g
+    → AreRight g q hauls → IsTried keeping g q hauls level → ¬ HasCutWithin hauls level → IsLevelGood g q level
+tried_good keeping g q hauls level graph right tried none p at e =
+    done_good keeping g q hauls p graph right (tried_done keeping g q hauls level tried none p at e)
 
--- where such a piece has a cut, the level is not cleared
-pub tried_stops : (g : LinkGraph) (q : List ℕ) (hauls : List Haul) (level : ℕ) → IsGraph g → IsGroup g q
-    → AreRight g q hauls → level < length g.nodes → IsTried g q hauls level → HasCutWithin hauls level
-    → (s : Settled) × StopsAt g q hauls level s
-tried_stops g q hauls level graph group right high tried within = elim tried [
-  | inl cleared ↦
+-- where such a piece has a cut, the level is not done with
+pub tried_stops : (keeping : Keeping) (g : LinkGraph) (q : List ℕ) (hauls : List Haul) (level : ℕ) → IsGraph g
+    → IsGroup g q → AreRight g q hauls → level < length g.nodes → IsTried keeping g q hauls level
+    → HasCutWithin hauls level → (s : Settled) × StopsAt keeping g q hauls level s
+tried_stops keeping g q hauls level graph group right high tried within = elim tried [
+  | inl done ↦
       let s = within.0 in
       let is = right s within.1 in
       let good = below_good g q level s.piece graph group high
-      (λ p at e. cleared_good g q hauls p graph right (cleared p at e)) is.0 within.3 in
+      (λ p at e. done_good keeping g q hauls p graph right (done p at e)) is.0 within.3 in
       absurd (within.2 ((decides g q s graph is.1).0 good))
   | inr stop ↦ stop
 ]
@@ -125,10 +127,22 @@ cleared_right g q kept hauls r cleared = elim cleared [
       inr (t.0, (b.0, has_append_right kept hauls b.0 b.1, b.2), t.2, t.3)
 ]
 
--- a level with a cut and the cleared level below it suffice
-pub suffices : (g : LinkGraph) (q : List ℕ) (low : ℕ) (kept hauls : List Haul) (s : Settled) → AreRight g q kept
-    → IsLevelCleared g q kept low → AreRight g q hauls → StopsAt g q hauls (low + 1) s → Suffice g q (kept ++ hauls)
-suffices g q low kept hauls s kept_right cleared right stop =
+-- what is done with in one of two lists is done with in both
+done_left : (keeping : Keeping) (g : LinkGraph) (q : List ℕ) (kept hauls : List Haul) (r : Piece)
+    → IsDone keeping g q kept r → IsDone keeping g q (kept ++ hauls) r
+done_left EachPiece g q kept hauls r cleared = cleared_left g q kept hauls r cleared
+done_left CutsAlone g q kept hauls r good = good
+
+done_right : (keeping : Keeping) (g : LinkGraph) (q : List ℕ) (kept hauls : List Haul) (r : Piece)
+    → IsDone keeping g q hauls r → IsDone keeping g q (kept ++ hauls) r
+done_right EachPiece g q kept hauls r cleared = cleared_right g q kept hauls r cleared
+done_right CutsAlone g q kept hauls r good = good
+
+-- a level with a cut and the level below it, which is done with, suffice
+pub suffices : (keeping : Keeping) (g : LinkGraph) (q : List ℕ) (low : ℕ) (kept hauls : List Haul) (s : Settled)
+    → AreRight g q kept → IsLevelDone keeping g q kept low → AreRight g q hauls
+    → StopsAt keeping g q hauls (low + 1) s → SufficeKeeping keeping g q (kept ++ hauls)
+suffices keeping g q low kept hauls s kept_right done right stop =
     let at = stop.of_level in
     let there = stop.there in (
       (λ t h. elim (in_either kept hauls t h) [ inl k ↦ kept_right t k | inr k ↦ right t k ]),
@@ -138,9 +152,9 @@ suffices g q low kept hauls s kept_right cleared right stop =
           there = (there.0, has_append_right kept hauls there.0 there.1, there.2);
           cut = stop.cut;
           before = λ r is first near. elim (number_cases (level_of r) (low + 1)) [
-            | inl l ↦ cleared_left g q kept hauls r (cleared r is (omega (arith, l, near, at)))
+            | inl l ↦ done_left keeping g q kept hauls r (done r is (omega (arith, l, near, at)))
             | inr n ↦ elim n [
-              | inl e ↦ cleared_right g q kept hauls r (stop.before r is e first)
+              | inl e ↦ done_right keeping g q kept hauls r (stop.before r is e first)
               | inr l ↦ absurd (elim first [
                 | inl m ↦ omega (arith, m, l, at)
                 | inr m ↦ let d = m.0 in omega (arith, d, l, at)
@@ -151,32 +165,34 @@ suffices g q low kept hauls s kept_right cleared right stop =
       ),
     )
 
--- a tried level with a cut suffices, together with the cleared level below it
-pub tried_suffices : (bounds : BoundsState) (kept hauls : List Haul) (level : ℕ) → IsGraph bounds.search.graph
-    → IsGroup bounds.search.graph bounds.search.members → level < length bounds.search.graph.nodes
-    → AreKept bounds kept → AreRight bounds.search.graph bounds.search.members hauls
-    → IsTried bounds.search.graph bounds.search.members hauls level → HasCutWithin hauls level
-    → level ≡ bounds.low + 1 → Suffice bounds.search.graph bounds.search.members (kept ++ hauls)
-tried_suffices bounds kept hauls level graph group below keeps right tried within next =
+-- a tried level with a cut suffices, together with the level below it, which is done with
+pub tried_suffices : (keeping : Keeping) (bounds : BoundsState) (kept hauls : List Haul) (level : ℕ)
+    → IsGraph bounds.search.graph → IsGroup bounds.search.graph bounds.search.members
+    → level < length bounds.search.graph.nodes → AreKept keeping bounds kept
+    → AreRight bounds.search.graph bounds.search.members hauls
+    → IsTried keeping bounds.search.graph bounds.search.members hauls level → HasCutWithin hauls level
+    → level ≡ bounds.low + 1
+    → SufficeKeeping keeping bounds.search.graph bounds.search.members (kept ++ hauls)
+tried_suffices keeping bounds kept hauls level graph group below keeps right tried within next =
     let g = bounds.search.graph in
     let q = bounds.search.members in
-    let stop = tried_stops g q hauls level graph group right below tried within in
-    suffices g q bounds.low kept hauls stop.0 keeps.right keeps.cleared right
-    (subst (λ (l : ℕ). StopsAt g q hauls l stop.0) next stop.1)
+    let stop = tried_stops keeping g q hauls level graph group right below tried within in
+    suffices keeping g q bounds.low kept hauls stop.0 keeps.right keeps.done right
+    (subst (λ (l : ℕ). StopsAt keeping g q hauls l stop.0) next stop.1)
 
--- the hauls that cleared a level are kept when it becomes the lower bound
-pub kept_raised : (bounds next : BoundsState) (hauls : List Haul)
+-- the hauls of a level that is done with are kept when it becomes the lower bound
+pub kept_raised : (keeping : Keeping) (bounds next : BoundsState) (hauls : List Haul)
     → AreRight bounds.search.graph bounds.search.members hauls
-    → IsLevelCleared bounds.search.graph bounds.search.members hauls bounds.search.level
-    → next.low ≡ bounds.search.level → SearchGoesOn bounds.search next.search → AreKept next hauls
-kept_raised bounds next hauls right cleared low on =
-    record { right = rw (on.graph, on.members) right; cleared = rw (low, on.graph, on.members) cleared }
+    → IsLevelDone keeping bounds.search.graph bounds.search.members hauls bounds.search.level
+    → next.low ≡ bounds.search.level → SearchGoesOn bounds.search next.search → AreKept keeping next hauls
+kept_raised keeping bounds next hauls right done low on =
+    record { right = rw (on.graph, on.members) right; done = rw (low, on.graph, on.members) done }
 
 -- the kept hauls are kept while the lower bound stays
-pub kept_on : (bounds next : BoundsState) (kept : List Haul) → AreKept bounds kept → next.low ≡ bounds.low
-    → SearchGoesOn bounds.search next.search → AreKept next kept
-kept_on bounds next kept keeps low on =
-    record { right = rw (on.graph, on.members) keeps.right; cleared = rw (low, on.graph, on.members) keeps.cleared }
+pub kept_on : (keeping : Keeping) (bounds next : BoundsState) (kept : List Haul) → AreKept keeping bounds kept
+    → next.low ≡ bounds.low → SearchGoesOn bounds.search next.search → AreKept keeping next kept
+kept_on keeping bounds next kept keeps low on =
+    record { right = rw (on.graph, on.members) keeps.right; done = rw (low, on.graph, on.members) keeps.done }
 
 -- the haul of a settler for the graph and the group of a search is right for that search
 pub right_of_one : (settler : SettlerState) (g : LinkGraph) (q : List ℕ) (s : SearchState) (haul : Haul)
@@ -186,13 +202,14 @@ right_of_one settler g q s haul hauls is d e f right =
     rw (d, e, f) (subst (λ (x : SettlerState). AreRight x.graph x.members (haul ∷ [])) is right)
 
 -- a level that it tried is one that the search had tried
-pub tried_of_one : (settler : SettlerState) (g : LinkGraph) (q : List ℕ) (s : SearchState) (haul : Haul)
-    (hauls : List Haul) (level : ℕ) → settler ≡ record { graph = g; members = q } → s.graph ≡ g → s.members ≡ q
-    → hauls ≡ haul ∷ []
-    → level ≡ s.level → IsTried settler.graph settler.members (haul ∷ []) level
-    → IsTried s.graph s.members hauls s.level
-tried_of_one settler g q s haul hauls level is d e f same tried =
-    rw (d, e, f, ← same) (subst (λ (x : SettlerState). IsTried x.graph x.members (haul ∷ []) level) is tried)
+pub tried_of_one : (keeping : Keeping) (settler : SettlerState) (g : LinkGraph) (q : List ℕ) (s : KeepingSearch)
+    (haul : Haul) (hauls : List Haul) (level : ℕ) → settler ≡ record { graph = g; members = q } → s.search.graph ≡ g
+    → s.search.members ≡ q → s.keeping ≡ keeping → hauls ≡ haul ∷ [] → level ≡ s.search.level
+    → IsTried keeping settler.graph settler.members (haul ∷ []) level
+    → IsTried s.keeping s.search.graph s.search.members hauls s.search.level
+tried_of_one keeping settler g q s haul hauls level is d e k f same tried =
+    rw (d, e, k, f, ← same)
+    (subst (λ (x : SettlerState). IsTried keeping x.graph x.members (haul ∷ []) level) is tried)
 
 -- a fact that holds anyway, where there is none
 pub if_none : {T : Type 0} (P : Type 0) (r : Option T) → P → IfNone r P

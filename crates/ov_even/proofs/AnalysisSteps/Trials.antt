@@ -3,8 +3,8 @@ use Rattle.std.proofs.Common.{◌≡◌, inl, inr, ℕ, ◌<◌, ◌≤◌, List
 use Rattle.std.proofs.Common.{arith, append_assoc, append-nil}
 use Rattle.ov_ids.specs.Members.{Has, Ordered}
 use Rattle.ov_ids.proofs.Members.{has_append_left, has_append_right, has_append_cases}
-use Rattle.ov_graph.specs.Links.{LinkGraph}
-use Rattle.ov_fans.specs.Pieces.{IsPiece, IsLinkedPair, level_of}
+use Rattle.ov_graph.specs.Links.{LinkGraph, IsGraph}
+use Rattle.ov_fans.specs.Pieces.{IsPiece, IsGood, IsLinkedPair, level_of}
 use Rattle.std.proofs.lemmas.Bool.{cases_lt}
 use Rattle.ov_even.proofs.PieceNumbers.LevelPlaces.{length_level_low, length_level_high}
 use Rattle.ov_even.proofs.PieceNumbers.Pairs.{pairs_few}
@@ -13,12 +13,15 @@ use Rattle.ov_fans.specs.Cuts.{IsRight, IsFoundFor}
 use Rattle.ov_fans.specs.Theorems.{IsNoCut}
 use Rattle.ov_fans.specs.declared.piece.Piece.{Piece}
 use Rattle.ov_fans.specs.declared.piece_result.Settled.{Settled}
+use Rattle.ov_fans.proofs.PieceCuts.Decided.{decides}
 use Rattle.ov_even.specs.Order.{ComesBefore}
 use Rattle.ov_even.specs.Code.Levels.{pieces_of_level}
-use Rattle.ov_even.specs.Code.Trying.{AreSettledRight, IsClearedBy}
-use Rattle.ov_even.specs.Hauls.{AreRight, IsCleared}
-use Rattle.ov_even.specs.Levels.{IsLevelCleared, StopsAt}
+use Rattle.ov_even.specs.Code.Trying.{AreSettledRight, IsDoneBy}
+use Rattle.ov_even.specs.Hauls.{AreRight, IsDone}
+use Rattle.ov_even.specs.Levels.{IsLevelDone, StopsAt}
 use Rattle.ov_even.specs.declared.worker_haul.Haul.{Haul}
+use Rattle.ov_even.specs.declared.worker_haul.Keeping.{Keeping}
+use Rattle.ov_even.specs.declared.worker_haul.Keeping.TheVariants.{EachPiece, CutsAlone}
 use Rattle.ov_even.proofs.PieceOrder.Comparing.{before_once}
 use Rattle.ov_even.proofs.PieceOrder.Ordering.{not_both_before}
 use Rattle.ov_even.proofs.PieceOrder.Columns.{ordered_columns}
@@ -40,31 +43,43 @@ unlisted g q level r low high h =
 pub next_listed : (pieces before rest : List Piece) (p : Piece) → pieces ≡ before ++ p ∷ rest → Has pieces p
 next_listed pieces before rest p e = subst (λ l. Has l p) (sym e) (has_append_right before (p ∷ rest) p (inl refl))
 
-pub cleared_more : (g : LinkGraph) (q : List ℕ) (pieces : List Settled) (s : Settled) (r : Piece)
-    → IsClearedBy g q pieces r → IsClearedBy g q (pieces ++ s ∷ []) r
-cleared_more g q pieces s r cleared = elim cleared [
+-- a piece stays done with after one more is kept
+pub done_more : (keeping : Keeping) (g : LinkGraph) (q : List ℕ) (pieces : List Settled) (s : Settled) (r : Piece)
+    → IsDoneBy keeping g q pieces r → IsDoneBy keeping g q (pieces ++ s ∷ []) r
+done_more EachPiece g q pieces s r cleared = elim cleared [
   | inl l ↦ inl l
   | inr t ↦ inr (t.0, has_append_left pieces (s ∷ []) t.0 t.1, t.2, t.3)
 ]
+done_more CutsAlone g q pieces s r good = good
 
-pub cleared_here : (g : LinkGraph) (q : List ℕ) (pieces : List Settled) (s : Settled) → IsNoCut s.found
-    → IsClearedBy g q (pieces ++ s ∷ []) s.piece
-cleared_here g q pieces s none = inr (s, has_append_right pieces (s ∷ []) s (inl refl), refl, none)
+-- a piece without a cut that is kept is done with
+pub done_here : (keeping : Keeping) (g : LinkGraph) (q : List ℕ) (pieces : List Settled) (s : Settled) → IsGraph g
+    → IsRight g q s → IsNoCut s.found → IsDoneBy keeping g q (pieces ++ s ∷ []) s.piece
+done_here EachPiece g q pieces s graph right none =
+    inr (s, has_append_right pieces (s ∷ []) s (inl refl), refl, none)
+done_here CutsAlone g q pieces s graph right none = (decides g q s graph right).1 none
 
--- each of these pieces is cleared
-abbrev pub AreCleared : LinkGraph → List ℕ → List Settled → List Piece → Type 0
-AreCleared g q pieces seen = (r : Piece) → Has seen r → IsClearedBy g q pieces r
+-- a linked pair is done with
+done_linked : (keeping : Keeping) (g : LinkGraph) (q : List ℕ) (pieces : List Settled) (p : Piece)
+    → IsLinkedPair g q p → IsDoneBy keeping g q pieces p
+done_linked EachPiece g q pieces p linked = inl linked
+done_linked CutsAlone g q pieces p linked = inl linked
 
-pub all_cleared_more : (g : LinkGraph) (q : List ℕ) (pieces : List Settled) (seen : List Piece) (p : Piece)
-    → AreCleared g q pieces seen → IsClearedBy g q pieces p → AreCleared g q pieces (seen ++ p ∷ [])
-all_cleared_more g q pieces seen p cleared here r h = elim (has_append_cases seen (p ∷ []) r h) [
-  | inl k ↦ cleared r k
-  | inr k ↦ elim k [ inl e ↦ subst (IsClearedBy g q pieces) e here | inr k ↦ absurd k ]
+-- each of these pieces is done with
+abbrev pub AreDone : Keeping → LinkGraph → List ℕ → List Settled → List Piece → Type 0
+AreDone keeping g q pieces seen = (r : Piece) → Has seen r → IsDoneBy keeping g q pieces r
+
+pub all_done_more : (keeping : Keeping) (g : LinkGraph) (q : List ℕ) (pieces : List Settled) (seen : List Piece)
+    (p : Piece) → AreDone keeping g q pieces seen → IsDoneBy keeping g q pieces p
+    → AreDone keeping g q pieces (seen ++ p ∷ [])
+all_done_more keeping g q pieces seen p done here r h = elim (has_append_cases seen (p ∷ []) r h) [
+  | inl k ↦ done r k
+  | inr k ↦ elim k [ inl e ↦ subst (IsDoneBy keeping g q pieces) e here | inr k ↦ absurd k ]
 ]
 
-pub all_cleared_kept : (g : LinkGraph) (q : List ℕ) (pieces : List Settled) (s : Settled) (seen : List Piece)
-    → AreCleared g q pieces seen → AreCleared g q (pieces ++ s ∷ []) seen
-all_cleared_kept g q pieces s seen cleared r h = cleared_more g q pieces s r (cleared r h)
+pub all_done_kept : (keeping : Keeping) (g : LinkGraph) (q : List ℕ) (pieces : List Settled) (s : Settled)
+    (seen : List Piece) → AreDone keeping g q pieces seen → AreDone keeping g q (pieces ++ s ∷ []) seen
+all_done_kept keeping g q pieces s seen done r h = done_more keeping g q pieces s r (done r h)
 
 pub right_more : (g : LinkGraph) (q : List ℕ) (pieces : List Settled) (s : Settled) → AreSettledRight g q pieces
     → IsPiece g q s.piece → IsRight g q s → AreSettledRight g q (pieces ++ s ∷ [])
@@ -84,12 +99,13 @@ alone_right g q haul right s h = elim h.1 [
   | inr k ↦ absurd k
 ]
 
-pub alone_cleared : (g : LinkGraph) (q : List ℕ) (haul : Haul) (r : Piece) → IsClearedBy g q haul.pieces.items r
-    → IsCleared g q (haul ∷ []) r
-alone_cleared g q haul r cleared = elim cleared [
+pub alone_done : (keeping : Keeping) (g : LinkGraph) (q : List ℕ) (haul : Haul) (r : Piece)
+    → IsDoneBy keeping g q haul.pieces.items r → IsDone keeping g q (haul ∷ []) r
+alone_done EachPiece g q haul r cleared = elim cleared [
   | inl l ↦ inl l
   | inr t ↦ inr (t.0, (haul, inl refl, t.1), t.2, t.3)
 ]
+alone_done CutsAlone g q haul r good = good
 
 -- a piece of the level that comes before the next one is among those that were yielded
 pub before_seen : (g : LinkGraph) (q : List ℕ) (level : ℕ) (seen rest : List Piece) (p r : Piece)
@@ -110,90 +126,108 @@ before_seen g q level seen rest p r e is same first =
       ])
     ]
 
--- a piece has a cut, and the pieces before it in the level are cleared
-pub stops : (g : LinkGraph) (q : List ℕ) (level : ℕ) (pieces : List Settled) (haul : Haul) (s : Settled)
-    (seen rest : List Piece) → haul.pieces.items ≡ pieces ++ s ∷ []
+-- a piece has a cut, and the pieces before it in the level are done with
+pub stops : (keeping : Keeping) (g : LinkGraph) (q : List ℕ) (level : ℕ) (pieces : List Settled) (haul : Haul)
+    (s : Settled) (seen rest : List Piece) → haul.pieces.items ≡ pieces ++ s ∷ []
     → pieces_of_level (length q) level ≡ seen ++ s.piece ∷ rest → level_of s.piece ≡ level → ¬ IsNoCut s.found
-    → AreCleared g q pieces seen → StopsAt g q (haul ∷ []) level s
-stops g q level pieces haul s seen rest put e at cut cleared = record {
+    → AreDone keeping g q pieces seen → StopsAt keeping g q (haul ∷ []) level s
+stops keeping g q level pieces haul s seen rest put e at cut done = record {
   there = (haul, inl refl, subst (λ l. Has l s) (sym put) (has_append_right pieces (s ∷ []) s (inl refl)));
   of_level = at;
   cut = cut;
-  before = λ r is same first. alone_cleared g q haul r (subst (λ l. IsClearedBy g q l r) (sym put)
-      (cleared_more g q pieces s r (cleared r (before_seen g q level seen rest s.piece r e is same first))));
+  before = λ r is same first.
+      alone_done keeping g q haul r (subst (λ l. IsDoneBy keeping g q l r) (sym put)
+      (done_more keeping g q pieces s r (done r (before_seen g q level seen rest s.piece r e is same first))));
 }
 
 -- no piece of the level is left
-pub level_cleared : (g : LinkGraph) (q : List ℕ) (level : ℕ) (haul : Haul) (seen : List Piece)
-    → pieces_of_level (length q) level ≡ seen → AreCleared g q haul.pieces.items seen
-    → IsLevelCleared g q (haul ∷ []) level
-level_cleared g q level haul seen e cleared r is same =
-    alone_cleared g q haul r (cleared r (subst (λ l. Has l r) e (listed g q level r is same)))
+pub level_done : (keeping : Keeping) (g : LinkGraph) (q : List ℕ) (level : ℕ) (haul : Haul) (seen : List Piece)
+    → pieces_of_level (length q) level ≡ seen → AreDone keeping g q haul.pieces.items seen
+    → IsLevelDone keeping g q (haul ∷ []) level
+level_done keeping g q level haul seen e done r is same =
+    alone_done keeping g q haul r (done r (subst (λ l. Has l r) e (listed g q level r is same)))
 
--- the state of a level: the pieces yielded so far are cleared, and the others are still to come
-pub record IsUnderWay (g : LinkGraph) (q : List ℕ) (level : ℕ) (pieces : List Settled) (seen coming : List Piece)
-    : Type 0 where
+-- the state of a level: the pieces yielded so far are done with, and the others are still to come
+pub record IsUnderWay (keeping : Keeping) (g : LinkGraph) (q : List ℕ) (level : ℕ) (pieces : List Settled)
+    (seen coming : List Piece) : Type 0 where
   pub listed : pieces_of_level (length q) level ≡ seen ++ coming
   pub right : AreSettledRight g q pieces
-  pub cleared : AreCleared g q pieces seen
+  pub done : AreDone keeping g q pieces seen
 
-pub begun : (g : LinkGraph) (q : List ℕ) (level : ℕ) (pieces : List Settled) (coming : List Piece) → pieces ≡ []
-    → coming ≡ pieces_of_level (length q) level → IsUnderWay g q level pieces [] coming
-begun g q level pieces coming none all = record {
+pub begun : (keeping : Keeping) (g : LinkGraph) (q : List ℕ) (level : ℕ) (pieces : List Settled)
+    (coming : List Piece) → pieces ≡ [] → coming ≡ pieces_of_level (length q) level
+    → IsUnderWay keeping g q level pieces [] coming
+begun keeping g q level pieces coming none all = record {
   listed = sym all;
   right = λ s h. absurd (subst (λ l. Has l s) none h);
-  cleared = λ r h. absurd h;
+  done = λ r h. absurd h;
 }
 
-pub next_is : (g : LinkGraph) (q : List ℕ) (level : ℕ) (pieces : List Settled) (seen coming rest : List Piece)
-    (p : Piece) → 1 ≤ level → level < length g.nodes → IsUnderWay g q level pieces seen coming → coming ≡ p ∷ rest
-    → IsPiece g q p × (level_of p ≡ level)
-next_is g q level pieces seen coming rest p low high way e = unlisted g q level p low high
+pub next_is : (keeping : Keeping) (g : LinkGraph) (q : List ℕ) (level : ℕ) (pieces : List Settled)
+    (seen coming rest : List Piece) (p : Piece) → 1 ≤ level → level < length g.nodes
+    → IsUnderWay keeping g q level pieces seen coming → coming ≡ p ∷ rest → IsPiece g q p × (level_of p ≡ level)
+next_is keeping g q level pieces seen coming rest p low high way e = unlisted g q level p low high
     (next_listed (pieces_of_level (length q) level) seen rest p (way.listed ∙ ap (λ l. seen ++ l) e))
 
 turned : (seen coming rest : List Piece) (p : Piece) → coming ≡ p ∷ rest → seen ++ coming ≡ (seen ++ p ∷ []) ++ rest
 turned seen coming rest p e = ap (λ l. seen ++ l) e ∙ sym (append_assoc seen (p ∷ []) rest)
 
-pub more_linked : (g : LinkGraph) (q : List ℕ) (level : ℕ) (pieces : List Settled) (seen coming rest : List Piece)
-    (p : Piece) → IsUnderWay g q level pieces seen coming → coming ≡ p ∷ rest → IsLinkedPair g q p
-    → IsUnderWay g q level pieces (seen ++ p ∷ []) rest
-more_linked g q level pieces seen coming rest p way e linked = record {
+-- one more piece, of which nothing is kept
+pub more_done : (keeping : Keeping) (g : LinkGraph) (q : List ℕ) (level : ℕ) (pieces : List Settled)
+    (seen coming rest : List Piece) (p : Piece) → IsUnderWay keeping g q level pieces seen coming → coming ≡ p ∷ rest
+    → IsDoneBy keeping g q pieces p → IsUnderWay keeping g q level pieces (seen ++ p ∷ []) rest
+more_done keeping g q level pieces seen coming rest p way e here = record {
   listed = way.listed ∙ turned seen coming rest p e;
   right = way.right;
-  cleared = all_cleared_more g q pieces seen p way.cleared (inl linked);
+  done = all_done_more keeping g q pieces seen p way.done here;
 }
 
-pub more_kept : (g : LinkGraph) (q : List ℕ) (level : ℕ) (pieces new : List Settled) (seen coming rest : List Piece)
-    (p : Piece) (s : Settled) → IsUnderWay g q level pieces seen coming → coming ≡ p ∷ rest → s.piece ≡ p
-    → IsPiece g q p → IsRight g q s → IsNoCut s.found → new ≡ pieces ++ s ∷ []
-    → IsUnderWay g q level new (seen ++ p ∷ []) rest
-more_kept g q level pieces new seen coming rest p s way e same at right none put = record {
+pub more_linked : (keeping : Keeping) (g : LinkGraph) (q : List ℕ) (level : ℕ) (pieces : List Settled)
+    (seen coming rest : List Piece) (p : Piece) → IsUnderWay keeping g q level pieces seen coming → coming ≡ p ∷ rest
+    → IsLinkedPair g q p → IsUnderWay keeping g q level pieces (seen ++ p ∷ []) rest
+more_linked keeping g q level pieces seen coming rest p way e linked =
+    more_done keeping g q level pieces seen coming rest p way e (done_linked keeping g q pieces p linked)
+
+pub more_good : (keeping : Keeping) (g : LinkGraph) (q : List ℕ) (level : ℕ) (pieces : List Settled)
+    (seen coming rest : List Piece) (p : Piece) → IsUnderWay keeping g q level pieces seen coming → coming ≡ p ∷ rest
+    → (keeping ≡ CutsAlone) × IsGood g q p → IsUnderWay keeping g q level pieces (seen ++ p ∷ []) rest
+more_good keeping g q level pieces seen coming rest p way e here =
+    more_done keeping g q level pieces seen coming rest p way e
+    (subst (λ (k : Keeping). IsDoneBy k g q pieces p) (sym here.0) here.1)
+
+pub more_kept : (keeping : Keeping) (g : LinkGraph) (q : List ℕ) (level : ℕ) (pieces new : List Settled)
+    (seen coming rest : List Piece) (p : Piece) (s : Settled) → IsUnderWay keeping g q level pieces seen coming
+    → coming ≡ p ∷ rest → s.piece ≡ p → IsGraph g → IsPiece g q p → IsRight g q s → IsNoCut s.found
+    → new ≡ pieces ++ s ∷ [] → IsUnderWay keeping g q level new (seen ++ p ∷ []) rest
+more_kept keeping g q level pieces new seen coming rest p s way e same graph at right none put = record {
   listed = way.listed ∙ turned seen coming rest p e;
   right = subst (AreSettledRight g q) (sym put)
       (right_more g q pieces s way.right (subst (IsPiece g q) (sym same) at) right);
-  cleared = subst (λ l. AreCleared g q l (seen ++ p ∷ [])) (sym put)
-      (all_cleared_more g q (pieces ++ s ∷ []) seen p (all_cleared_kept g q pieces s seen way.cleared)
-      (subst (IsClearedBy g q (pieces ++ s ∷ [])) same (cleared_here g q pieces s none)));
+  done = subst (λ l. AreDone keeping g q l (seen ++ p ∷ [])) (sym put)
+      (all_done_more keeping g q (pieces ++ s ∷ []) seen p (all_done_kept keeping g q pieces s seen way.done)
+      (subst (IsDoneBy keeping g q (pieces ++ s ∷ [])) same (done_here keeping g q pieces s graph right none)));
 }
 
-pub more_right : (g : LinkGraph) (q : List ℕ) (level : ℕ) (pieces new : List Settled) (seen coming : List Piece)
-    (p : Piece) (s : Settled) → IsUnderWay g q level pieces seen coming → s.piece ≡ p → IsPiece g q p → IsRight g q s
-    → new ≡ pieces ++ s ∷ [] → AreSettledRight g q new
-more_right g q level pieces new seen coming p s way same at right put = subst (AreSettledRight g q) (sym put)
+pub more_right : (keeping : Keeping) (g : LinkGraph) (q : List ℕ) (level : ℕ) (pieces new : List Settled)
+    (seen coming : List Piece) (p : Piece) (s : Settled) → IsUnderWay keeping g q level pieces seen coming
+    → s.piece ≡ p → IsPiece g q p → IsRight g q s → new ≡ pieces ++ s ∷ [] → AreSettledRight g q new
+more_right keeping g q level pieces new seen coming p s way same at right put = subst (AreSettledRight g q) (sym put)
     (right_more g q pieces s way.right (subst (IsPiece g q) (sym same) at) right)
 
-pub stopped : (g : LinkGraph) (q : List ℕ) (level : ℕ) (pieces : List Settled) (haul : Haul)
-    (seen coming rest : List Piece) (p : Piece) (s : Settled) → IsUnderWay g q level pieces seen coming
+pub stopped : (keeping : Keeping) (g : LinkGraph) (q : List ℕ) (level : ℕ) (pieces : List Settled) (haul : Haul)
+    (seen coming rest : List Piece) (p : Piece) (s : Settled) → IsUnderWay keeping g q level pieces seen coming
     → coming ≡ p ∷ rest → s.piece ≡ p → level_of p ≡ level → ¬ IsNoCut s.found
-    → haul.pieces.items ≡ pieces ++ s ∷ [] → StopsAt g q (haul ∷ []) level s
-stopped g q level pieces haul seen coming rest p s way e same at cut put = stops g q level pieces haul s seen rest put
+    → haul.pieces.items ≡ pieces ++ s ∷ [] → StopsAt keeping g q (haul ∷ []) level s
+stopped keeping g q level pieces haul seen coming rest p s way e same at cut put =
+    stops keeping g q level pieces haul s seen rest put
     (way.listed ∙ ap (λ l. seen ++ l) e ∙ ap (λ x. seen ++ x ∷ rest) (sym same)) (ap level_of same ∙ at) cut
-    way.cleared
+    way.done
 
-pub ended : (g : LinkGraph) (q : List ℕ) (level : ℕ) (haul : Haul) (seen coming : List Piece)
-    → IsUnderWay g q level haul.pieces.items seen coming → coming ≡ [] → IsLevelCleared g q (haul ∷ []) level
-ended g q level haul seen coming way e = level_cleared g q level haul seen
-    (way.listed ∙ ap (λ l. seen ++ l) e ∙ append-nil seen) way.cleared
+pub ended : (keeping : Keeping) (g : LinkGraph) (q : List ℕ) (level : ℕ) (haul : Haul) (seen coming : List Piece)
+    → IsUnderWay keeping g q level haul.pieces.items seen coming → coming ≡ []
+    → IsLevelDone keeping g q (haul ∷ []) level
+ended keeping g q level haul seen coming way e = level_done keeping g q level haul seen
+    (way.listed ∙ ap (λ l. seen ++ l) e ∙ append-nil seen) way.done
 
 pub linked_right : (g : LinkGraph) (q : List ℕ) (s : Settled) (p : Piece) → IsRight g q s → s.found ≡ Linked
     → s.piece ≡ p → IsLinkedPair g q p

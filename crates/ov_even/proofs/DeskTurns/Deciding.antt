@@ -20,6 +20,7 @@ use Rattle.ov_board.specs.Theorems.{AllEnded, IsDone}
 use Rattle.ov_board.proofs.Ending.{ends_done}
 use Rattle.ov_even.specs.Code.Levels.{all_pieces}
 use Rattle.ov_even.specs.Hauls.{IsInHauls, Decides, Suffice}
+use Rattle.ov_even.specs.declared.worker_haul.Keeping.TheVariants.{EachPiece}
 use Rattle.ov_even.specs.Order.{IsNumbered}
 use Rattle.ov_even.specs.declared.worker_haul.Haul.{Haul}
 use Rattle.ov_even.proofs.PieceNumbers.AllLevels.{all_listed}
@@ -198,7 +199,7 @@ to_hauls d hauls s e there =
 
 -- if the desk has decided, its deciding piece decides among the hauls
 decides_hauls : (g : LinkGraph) (d : GroupDeskState) (hauls : List Haul) → map pieces_of_haul hauls ≡ d.settled
-    → (h : HasDecided g d) → Decides g d.members hauls h.deciding
+    → (h : HasDecided g d) → Decides EachPiece g d.members hauls h.deciding
 decides_hauls g d hauls e h = record {
   there = to_hauls d hauls h.deciding e h.there;
   cut = h.cut;

@@ -12,8 +12,9 @@ use Rattle.ov_fans.specs.declared.piece_result.Found.{Found}
 use Rattle.ov_fans.specs.declared.piece_result.Found.TheVariants.{Linked as linked_found, Paths, Cut}
 use Rattle.ov_fans.specs.declared.piece_result.Settled.{Settled}
 use Rattle.ov_even.specs.Hauls.{IsInHauls, AreRight}
-use Rattle.ov_even.specs.Levels.{IsLevelGood, IsLevelCleared, SearchState}
+use Rattle.ov_even.specs.Levels.{IsLevelGood, IsLevelDone, SearchState}
 use Rattle.ov_even.specs.declared.worker_haul.Haul.{Haul}
+use Rattle.ov_even.specs.declared.worker_haul.Keeping.{Keeping}
 
 -- the graph and the group are such that there is a deciding piece
 pub record HasDeciding (g : LinkGraph) (q : List ℕ) : Type 0 where
@@ -35,10 +36,10 @@ pub record BoundsState : Type 0 where
   pub search : SearchState
   pub low : ℕ
 
--- the hauls that a search keeps are right and clear the good level `low`
-pub record AreKept (bounds : BoundsState) (kept : List Haul) : Type 0 where
+-- the hauls that a search keeps are right, and the good level `low` is done with
+pub record AreKept (keeping : Keeping) (bounds : BoundsState) (kept : List Haul) : Type 0 where
   pub right : AreRight bounds.search.graph bounds.search.members kept
-  pub cleared : IsLevelCleared bounds.search.graph bounds.search.members kept bounds.low
+  pub done : IsLevelDone keeping bounds.search.graph bounds.search.members kept bounds.low
 
 -- the level to try next is `high` if that is just above `low`. Otherwise it lies between the two: if levels are
 -- guessed, it is 2 * low + 1 or just below `high`; if not, it is in the middle

@@ -2,9 +2,13 @@
 use crate::crew::gates::{Counting, Holding, Meeting, Opening};
 use crate::crew::graphs::{Family, of_size};
 use ov_board::Board;
-use ov_cert::Cert;
+use ov_cert::{Cert, Checked};
 use ov_crew::{Gate, OpenGate, analyse, analyse_group, analyse_group_watched, work};
-use ov_even::{Unwatched, Watcher, analyse_alone, analyse_group_alone, total};
+use ov_even::{
+    AnalyseFault, Unwatched, Watcher, analyse_alone, analyse_group_alone, assemble,
+    settle_group_watched, total,
+};
+use ov_graph::Graph;
 use ov_ids::{NodeId, OutOfMemory, Workers};
 use std::alloc::Global;
 use std::test::Fail;
@@ -271,6 +275,22 @@ fn one_thread_without_a_board(rt: HostRuntime) -> Result<(), Fail> {
     for row in [&PETERSEN, &RING, &LINKED] {
         let graph = of_size(rt.alloc(), row.family, row.nodes)?;
         let checked = analyse_alone(rt.alloc(), &graph)?;
+        assert!(rt; gives(checked.cert(), row));
+    }
+    Ok(())
+}
+
+/// The answer that is put together of the pieces which one thread has settled.
+fn put_together(alloc: Global, graph: &Graph) -> Result<Checked, AnalyseFault> {
+    let hauls = settle_group_watched(alloc, graph, graph.nodes(), &mut Unwatched)?;
+    assemble(alloc, graph, &hauls)
+}
+
+#[test]
+fn settled_pieces_are_put_together(rt: HostRuntime) -> Result<(), Fail> {
+    for row in [&LINKED, &PETERSEN, &RING] {
+        let graph = of_size(rt.alloc(), row.family, row.nodes)?;
+        let checked = put_together(rt.alloc(), &graph)?;
         assert!(rt; gives(checked.cert(), row));
     }
     Ok(())

@@ -24,13 +24,8 @@ const FIELDS: [&str; 3] = [
     ",58,0.0625,,0,1,2,3,4,0.0000,1.0001,5,6,7,8,9,1.0000,2.5000,10,11,12,4294967295",
 ];
 
-/// The forms of rows that have further columns, and whether they have the costs and the shapes.
-const FORMS: [(RowForm, bool, bool); 4] = [
-    (RowForm::Further, false, false),
-    (RowForm::Costs, true, false),
-    (RowForm::Shape, false, true),
-    (RowForm::CostsAndShape, true, true),
-];
+/// Whether rows with the further columns have the costs, and the shapes.
+const MEASURED: [(bool, bool); 4] = [(false, false), (true, false), (false, true), (true, true)];
 
 fn decimals(parts: u64) -> Option<FourDecimals> {
     Some(FourDecimals { parts })
@@ -157,8 +152,12 @@ fn is_written(alloc: Global, form: RowForm, row: &Row, text: &str) -> bool {
 #[test]
 fn costs_and_shapes_are_read_and_written(rt: HostRuntime) -> Result<(), Fail> {
     let options = first_options().ok_or("options out of their limits")?;
-    for (form, has_costs, has_shape) in FORMS {
-        let asked = (has_costs, has_shape);
+    for asked in MEASURED {
+        let form = RowForm {
+            further: true,
+            costs: asked.0,
+            shape: asked.1,
+        };
         let expected = row(options, asked);
         let mut text = line(rt.alloc(), HEADER, &HEADERS, asked)?;
         let behind = line(rt.alloc(), ROWS[0], &FIELDS, asked)?;

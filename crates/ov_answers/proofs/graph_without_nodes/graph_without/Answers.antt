@@ -1,5 +1,5 @@
 -- One node is taken away, and then the others.
-use Rattle.std.proofs.Common.{◌≡◌, ◌∙◌, ◌∷◌, ◌+◌, drop, ap, sym, subst, List, ℕ}
+use Rattle.std.proofs.Common.{◌∙◌, ◌∷◌, ◌+◌, drop, ap, sym, subst, List, ℕ}
 use Rattle.std.proofs.lemmas.List.{drop_more, drop_all}
 use Rattle.ov_graph.specs.Links.{LinkGraph}
 use Rattle.ov_answers.specs.Fewer.{LosesNodes}

@@ -1,5 +1,5 @@
 -- One id is taken out, and then the others.
-use Rattle.std.proofs.Common.{◌≡◌, ◌∙◌, ◌∷◌, ◌+◌, drop, sym, ap, List, ℕ}
+use Rattle.std.proofs.Common.{◌∙◌, ◌∷◌, ◌+◌, drop, sym, ap, List, ℕ}
 use Rattle.std.proofs.lemmas.List.{drop_more, at_drop_all}
 use Rattle.ov_ids.specs.Sets.{without_all}
 use Rattle.ov_answers.proofs.graph_without_nodes.ids_without.Goals as goal

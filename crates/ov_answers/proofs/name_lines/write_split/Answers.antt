@@ -1,6 +1,6 @@
 -- The lines of a split, one after the other.
 use Rattle.std.proofs.Common.{ℕ, List, ◌++◌, codes, refl, subst}
-use Rattle.ov_answers.specs.Components.{AreComponents}
+use Rattle.ov_components.specs.Components.{AreComponents}
 use Rattle.ov_answers.specs.Lines.{IsNodeLine, AreNodeLines, AreComponentLines}
 use Rattle.ov_answers.specs.Code.Begun.{Gains}
 use Rattle.ov_answers.proofs.Growing.{split_lines}

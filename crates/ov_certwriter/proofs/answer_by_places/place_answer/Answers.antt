@@ -6,11 +6,15 @@ use Rattle.ov_cert.proofs.Validity.Exact.{valid_means}
 use Rattle.ov_even.specs.Naming.{AreWanted, AreFound, named_of}
 use Rattle.ov_even.specs.Code.Entries.{pair_entries, fan_entries}
 use Rattle.ov_even.specs.declared.paths_by_ids.FoundPaths.{FoundPaths}
+use Rattle.ov_even.specs.declared.worker_haul.Keeping.TheVariants.{EachPiece}
 use Rattle.ov_even.proofs.AnalysisSteps.Entered.{same_pieces, all_asked}
 use Rattle.ov_certwriter.specs.Code.Placed.{cert_with}
 use Rattle.ov_certwriter.proofs.Answering.{IsAnsweredBy, answered}
 use Rattle.ov_certwriter.proofs.answer_by_places.place_answer.Goals as goal
 use Rattle.ov_certwriter.proofs.answer_by_places.place_answer.Goals.{In_ok-entries}
+
+pub outline_of_hauls-requires-clause-suffice : goal.outline_of_hauls-requires-clause-suffice
+outline_of_hauls-requires-clause-suffice c = (EachPiece, c.requires.suffice)
 
 pub place_entries-requires : goal.place_entries-requires
 place_entries-requires c =

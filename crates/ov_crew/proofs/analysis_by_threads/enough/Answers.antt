@@ -1,8 +1,8 @@
 -- The search takes the hauls of a level's workers. It is a search of the same graph and group.
 use Rattle.std.proofs.Common.{ℕ, List, length, sym, ap, subst, arith}
 use Rattle.ov_graph.specs.Links.{LinkGraph}
-use Rattle.ov_even.specs.Hauls.{AreRight, Suffice}
-use Rattle.ov_even.specs.Levels.{AreNumbersOf, IsTried}
+use Rattle.ov_even.specs.Hauls.{AreRight, SufficeKeeping}
+use Rattle.ov_even.specs.Levels.{AreNumbersOf}
 use Rattle.ov_even.specs.Searching.{IsSearched}
 use Rattle.ov_even.proofs.AnalysisSteps.Narrowing.{members_few}
 use Rattle.ov_crew.proofs.Gathering.{range_of}
@@ -29,7 +29,7 @@ take-requires-clause-right g c =
     let hauls = c.in_ok-hauls.hauls.items in
     let right = c.in_ok-hauls.ensures.right in
     let of_graph = subst (λ (x : LinkGraph). AreRight x c.args.group.now hauls) (sym i.graph) right in
-    subst (λ (q : List ℕ). AreRight c.loop-levels.levels.graph q hauls) (sym i.members) of_graph
+    subst (λ (q : List ℕ). AreRight c.loop-levels.levels.search.graph q hauls) (sym i.members) of_graph
 
 pub take-requires-clause-tried : goal.take-requires-clause-tried
 take-requires-clause-tried g c =
@@ -40,16 +40,13 @@ take-requires-clause-tried g c =
     let r = c.level_numbers-numbers.result in
     let numbers = subst (λ (nodes : List ℕ). AreNumbersOf (length nodes) m level r.first r.size) c.nodes.ensures.nodes
     c.level_numbers-numbers.ensures.numbers in
-    let tried : IsTried c.args.graph.now c.args.group.now hauls level = c.in_ok-hauls.ensures.tried level numbers in
-    let of_graph = subst (λ (x : LinkGraph). IsTried x c.args.group.now hauls level) (sym i.graph) tried in
-    let of_group = subst (λ (q : List ℕ). IsTried c.loop-levels.levels.graph q hauls level) (sym i.members) of_graph in
-    subst (IsTried c.loop-levels.levels.graph c.loop-levels.levels.members hauls) c.level-level.ensures.level of_group
+    rw (i.graph, i.members, i.keeping, ← c.level-level.ensures.level) (c.in_ok-hauls.ensures.tried level numbers)
 
 pub returns-in-Enough : goal.returns-in-Enough
 returns-in-Enough g c =
     let i = c.loop-levels.invariant in
     let hauls = c.in-Enough.hauls.items in
-    let enough : Suffice c.loop-levels.levels.graph c.loop-levels.levels.members hauls =
+    let enough : SufficeKeeping c.loop-levels.levels.keeping c.loop-levels.levels.search.graph
+    c.loop-levels.levels.search.members hauls =
     subst (IsSearched c.loop-levels.levels) c.in-Enough.is c.in_ok-hauls-2.ensures in
-    let of_graph = subst (λ (x : LinkGraph). Suffice x c.loop-levels.levels.members hauls) i.graph enough in
-    subst (λ (q : List ℕ). Suffice c.args.graph.now q hauls) i.members of_graph
+    rw (i.graph, i.members, i.keeping) at enough

@@ -4,9 +4,10 @@ use Rattle.ov_crew.proofs.analysis_by_threads.enough.Given as goal
 
 abbrev pub invariant-loop-levels : goal.invariant-loop-levels
 invariant-loop-levels g l = record {
-  graph : l.levels.graph ≡ l.graph;
-  members : l.levels.members ≡ l.group;
+  graph : l.levels.search.graph ≡ l.graph;
+  members : l.levels.search.members ≡ l.group;
+  keeping : l.levels.keeping ≡ l.keeping;
 }
 
 abbrev pub decreases-loop-levels : goal.decreases-loop-levels
-decreases-loop-levels g l = l.levels.left
+decreases-loop-levels g l = l.levels.search.left

@@ -8,11 +8,11 @@ use Rattle.ov_crew.proofs.analysis_by_threads.try_level.Goals.{In_ok-hauls}
 use Rattle.ov_crew.proofs.analysis_by_threads.try_level.Goals as goal
 
 -- all workers have worked at the board
-worked : (g : _) (c : In_ok-hauls g) → HaveAllWorked c.args.graph.now c.args.group.now c.args.numbers.first
+worked : (g : _) (c : In_ok-hauls g) → HaveAllWorked c.args.keeping c.args.graph.now c.args.group.now c.args.numbers.first
     c.in_ok-board.board c.in_ok-hauls.seats.items c.in_ok-hauls.hauls.items
-worked g c = all_worked c.args.graph.now c.args.group.now c.args.numbers.first c.in_ok-board.board
+worked g c = all_worked c.args.keeping c.args.graph.now c.args.group.now c.args.numbers.first c.in_ok-board.board
     c.in_ok-hauls.seats.items c.in_ok-hauls.hauls.items c.in_ok-hauls.ensures.count
-    (subst (λ (os : List Outcome). All (HasWorked c.args.graph.now c.args.group.now c.args.numbers.first
+    (subst (λ (os : List Outcome). All (HasWorked c.args.keeping c.args.graph.now c.args.group.now c.args.numbers.first
     c.in_ok-board.board) os) c.in_ok-hauls.ensures.same c.in_ok-done.ensures.each)
 
 pub run-requires-clause-new : goal.run-requires-clause-new
@@ -36,18 +36,18 @@ pub close-requires-clause-ended : goal.close-requires-clause-ended
 close-requires-clause-ended g c = (worked g c).ended
 
 pub returns-clause-right : goal.returns-clause-right
-returns-clause-right g c = crew_right c.args.graph.now c.args.group.now c.args.numbers.first
-    c.in_ok-hauls.seats.items c.in_ok-hauls.hauls.items (all_worked c.args.graph.now c.args.group.now
+returns-clause-right g c = crew_right c.args.keeping c.args.graph.now c.args.group.now c.args.numbers.first
+    c.in_ok-hauls.seats.items c.in_ok-hauls.hauls.items (all_worked c.args.keeping c.args.graph.now c.args.group.now
     c.args.numbers.first c.in_ok-board.board c.in_ok-hauls.seats.items c.in_ok-hauls.hauls.items
-    c.in_ok-hauls.ensures.count (subst (λ (os : List Outcome). All (HasWorked c.args.graph.now c.args.group.now
+    c.in_ok-hauls.ensures.count (subst (λ (os : List Outcome). All (HasWorked c.args.keeping c.args.graph.now c.args.group.now
     c.args.numbers.first c.in_ok-board.board) os) c.in_ok-hauls.ensures.same c.in_ok-done.ensures.each)).hauls
 
 pub returns-clause-tried : goal.returns-clause-tried
 returns-clause-tried g c level numbers =
-    let all = all_worked c.args.graph.now c.args.group.now c.args.numbers.first c.in_ok-board.board
+    let all = all_worked c.args.keeping c.args.graph.now c.args.group.now c.args.numbers.first c.in_ok-board.board
     c.in_ok-hauls.seats.items c.in_ok-hauls.hauls.items c.in_ok-hauls.ensures.count
-    (subst (λ (os : List Outcome). All (HasWorked c.args.graph.now c.args.group.now c.args.numbers.first
+    (subst (λ (os : List Outcome). All (HasWorked c.args.keeping c.args.graph.now c.args.group.now c.args.numbers.first
     c.in_ok-board.board) os) c.in_ok-hauls.ensures.same c.in_ok-done.ensures.each) in
-    crew_tried c.args.graph.now c.args.group.now c.in_ok-board.board c.in_ok-hauls.seats.items
+    crew_tried c.args.keeping c.args.graph.now c.args.group.now c.in_ok-board.board c.in_ok-hauls.seats.items
     c.in_ok-hauls.hauls.items level c.args.numbers.first c.args.numbers.size c.close.result c.close.ensures.closed
     c.in_ok-board.ensures.total numbers all.hauls

@@ -1,5 +1,4 @@
 -- One column more.
-use Rattle.std.proofs.Common.{arith}
 use Rattle.ov_crew.proofs.Ascending.{column_more}
 use Rattle.ov_crew.proofs.ascending_piece_lookup.column_from.Goals as goal
 

@@ -1,20 +1,20 @@
 -- One more piece of the level is settled.
 use Rattle.std.proofs.Common.{◌∙◌, ℕ, inl, inr, length, sym, subst}
 use Rattle.std.proofs.lemmas.Bool.{both_ways}
-use Rattle.ov_fans.specs.Pieces.{IsPiece}
-use Rattle.ov_fans.specs.Cuts.{IsRight}
 use Rattle.ov_fans.specs.Group.{SettlerState}
-use Rattle.ov_fans.specs.Pieces.{IsPieceOf}
-use Rattle.ov_even.proofs.AnalysisSteps.Trials.{next_is, more_linked, more_kept, more_right, stopped, ended}
-use Rattle.ov_even.proofs.AnalysisSteps.Trials.{linked_right, alone_right}
-use Rattle.ov_even.proofs.AnalysisSteps.FirstCut.{not_cut}
+use Rattle.ov_fans.specs.Pieces.{IsPiece, IsPieceOf}
+use Rattle.ov_even.specs.Hauls.{IsKeptOf}
 use Rattle.ov_even.specs.declared.worker_haul.Haul.{Haul}
+use Rattle.ov_even.proofs.AnalysisSteps.Trials.{next_is, more_good, more_linked, more_kept, more_right, stopped}
+use Rattle.ov_even.proofs.AnalysisSteps.Trials.{ended, linked_right, alone_right}
+use Rattle.ov_even.proofs.AnalysisSteps.FirstCut.{not_cut}
+use Rattle.ov_even.proofs.level_trying.try_level.Goals.{In_ok-kept}
 use Rattle.ov_even.proofs.level_trying.try_level.Goals as goal
 
 pub place_in_level-requires : goal.place_in_level-requires
 place_in_level-requires g c =
     let s = c.args.settler.now in
-    let is = next_is s.graph s.members c.args.level c.loop-piece.pieces.items c.loop-piece.yielded
+    let is = next_is c.args.keeping s.graph s.members c.args.level c.loop-piece.pieces.items c.loop-piece.yielded
     c.loop-piece.piece-iterator c.next.new.self c.in-Some.piece c.requires.low c.requires.below
     c.loop-piece.invariant.way c.in-Some.ensures.steps in (
       length s.graph.nodes,
@@ -22,42 +22,55 @@ place_in_level-requires g c =
           (is.0),
     )
 
-pub settle-requires : goal.settle-requires
-settle-requires g c =
+pub settle_keeping-requires : goal.settle_keeping-requires
+settle_keeping-requires g c =
     let s = c.args.settler.now in
-    let is = next_is s.graph s.members c.args.level c.loop-piece.pieces.items c.loop-piece.yielded
+    let is = next_is c.args.keeping s.graph s.members c.args.level c.loop-piece.pieces.items c.loop-piece.yielded
     c.loop-piece.piece-iterator c.next.new.self c.in-Some.piece c.requires.low c.requires.below
     c.loop-piece.invariant.way c.in-Some.ensures.steps in
     subst (λ (x : SettlerState). IsPiece x.graph x.members c.in-Some.piece) (sym c.loop-piece.invariant.stays) is.0
 
+-- what was kept of the piece
+kept : (g : _) (c : In_ok-kept g) → IsKeptOf c.args.keeping c.args.settler.now.graph c.args.settler.now.members
+    c.in-Some.piece c.in_ok-kept.kept
+kept g c = subst (λ (x : SettlerState). IsKeptOf c.args.keeping x.graph x.members c.in-Some.piece c.in_ok-kept.kept)
+    c.loop-piece.invariant.stays c.in_ok-kept.ensures.kept
+
+pub loop-piece-preserved-in_default : goal.loop-piece-preserved-in_default
+loop-piece-preserved-in_default g c =
+    let s = c.args.settler.now in
+    record {
+      stays = c.in_ok-kept.ensures.stays ∙ c.loop-piece.invariant.stays;
+      way = more_good c.args.keeping s.graph s.members c.args.level c.loop-piece.pieces.items c.loop-piece.yielded
+          c.loop-piece.piece-iterator c.next.new.self c.in-Some.piece c.loop-piece.invariant.way c.in-Some.ensures.steps
+          (subst (IsKeptOf c.args.keeping s.graph s.members c.in-Some.piece) c.in_default.is (kept g (goal.at.loop-piece-preserved-in_default g c).In_ok-kept));
+    }
+
 pub loop-piece-preserved-then-is_linked : goal.loop-piece-preserved-then-is_linked
 loop-piece-preserved-then-is_linked g c =
     let s = c.args.settler.now in
-    let t = c.in_ok-settled.settled in
-    let right : IsRight s.graph s.members t = subst (λ (x : SettlerState). IsRight x.graph x.members t)
-    c.loop-piece.invariant.stays c.in_ok-settled.ensures.right in
+    let t = c.in-Some-kept.settled in
+    let own = subst (IsKeptOf c.args.keeping s.graph s.members c.in-Some.piece) c.in-Some-kept.is (kept g (goal.at.loop-piece-preserved-then-is_linked g c).In_ok-kept) in
     record {
-      stays = c.in_ok-settled.ensures.stays ∙ c.loop-piece.invariant.stays;
-      way = more_linked s.graph s.members c.args.level c.loop-piece.pieces.items c.loop-piece.yielded
+      stays = c.in_ok-kept.ensures.stays ∙ c.loop-piece.invariant.stays;
+      way = more_linked c.args.keeping s.graph s.members c.args.level c.loop-piece.pieces.items c.loop-piece.yielded
           c.loop-piece.piece-iterator c.next.new.self c.in-Some.piece c.loop-piece.invariant.way c.in-Some.ensures.steps
-          (linked_right s.graph s.members t c.in-Some.piece right (c.is_linked.ensures.0 c.if-is_linked.true)
-          c.in_ok-settled.ensures.piece);
+          (linked_right s.graph s.members t c.in-Some.piece own.1 (c.is_linked.ensures.0 c.if-is_linked.true) own.0);
     }
 
 pub loop-piece-preserved : goal.loop-piece-preserved
 loop-piece-preserved g c =
     let s = c.args.settler.now in
-    let t = c.in_ok-settled.settled in
-    let right : IsRight s.graph s.members t = subst (λ (x : SettlerState). IsRight x.graph x.members t)
-    c.loop-piece.invariant.stays c.in_ok-settled.ensures.right in
-    let is = next_is s.graph s.members c.args.level c.loop-piece.pieces.items c.loop-piece.yielded
+    let t = c.in-Some-kept.settled in
+    let own = subst (IsKeptOf c.args.keeping s.graph s.members c.in-Some.piece) c.in-Some-kept.is (kept g (goal.at.loop-piece-preserved g c).In_ok-kept) in
+    let is = next_is c.args.keeping s.graph s.members c.args.level c.loop-piece.pieces.items c.loop-piece.yielded
     c.loop-piece.piece-iterator c.next.new.self c.in-Some.piece c.requires.low c.requires.below
     c.loop-piece.invariant.way c.in-Some.ensures.steps in
     record {
-      stays = c.in_ok-settled.ensures.stays ∙ c.loop-piece.invariant.stays;
-      way = more_kept s.graph s.members c.args.level c.loop-piece.pieces.items c.push.new.self.items
+      stays = c.in_ok-kept.ensures.stays ∙ c.loop-piece.invariant.stays;
+      way = more_kept c.args.keeping s.graph s.members c.args.level c.loop-piece.pieces.items c.push.new.self.items
           c.loop-piece.yielded c.loop-piece.piece-iterator c.next.new.self c.in-Some.piece t c.loop-piece.invariant.way
-          c.in-Some.ensures.steps c.in_ok-settled.ensures.piece is.0 right
+          c.in-Some.ensures.steps own.0 c.requires.graph is.0 own.1
           (not_cut t.found (λ cut. both_ways c.is_cut-stops.result c.if-stops.false (c.is_cut-stops.ensures.1 cut)))
           c.in_ok-push.ensures.items;
     }
@@ -65,32 +78,31 @@ loop-piece-preserved g c =
 pub returns-then-stops-clause-right : goal.returns-then-stops-clause-right
 returns-then-stops-clause-right g c =
     let s = c.args.settler.now in
-    let t = c.in_ok-settled.settled in
-    let right : IsRight s.graph s.members t = subst (λ (x : SettlerState). IsRight x.graph x.members t)
-    c.loop-piece.invariant.stays c.in_ok-settled.ensures.right in
-    let is = next_is s.graph s.members c.args.level c.loop-piece.pieces.items c.loop-piece.yielded
+    let t = c.in-Some-kept.settled in
+    let own = subst (IsKeptOf c.args.keeping s.graph s.members c.in-Some.piece) c.in-Some-kept.is (kept g (goal.at.returns-then-stops-clause-right g c).In_ok-kept) in
+    let is = next_is c.args.keeping s.graph s.members c.args.level c.loop-piece.pieces.items c.loop-piece.yielded
     c.loop-piece.piece-iterator c.next.new.self c.in-Some.piece c.requires.low c.requires.below
     c.loop-piece.invariant.way c.in-Some.ensures.steps in
     let haul : Haul = record { pieces = c.push.new.self } in
     alone_right s.graph s.members haul
-    (more_right s.graph s.members c.args.level c.loop-piece.pieces.items c.push.new.self.items c.loop-piece.yielded
-    c.loop-piece.piece-iterator c.in-Some.piece t c.loop-piece.invariant.way c.in_ok-settled.ensures.piece is.0 right
+    (more_right c.args.keeping s.graph s.members c.args.level c.loop-piece.pieces.items c.push.new.self.items
+    c.loop-piece.yielded c.loop-piece.piece-iterator c.in-Some.piece t c.loop-piece.invariant.way own.0 is.0 own.1
     c.in_ok-push.ensures.items)
 
 pub returns-then-stops-clause-tried : goal.returns-then-stops-clause-tried
 returns-then-stops-clause-tried g c =
     let s = c.args.settler.now in
-    let t = c.in_ok-settled.settled in
-    let is = next_is s.graph s.members c.args.level c.loop-piece.pieces.items c.loop-piece.yielded
+    let t = c.in-Some-kept.settled in
+    let own = subst (IsKeptOf c.args.keeping s.graph s.members c.in-Some.piece) c.in-Some-kept.is (kept g (goal.at.returns-then-stops-clause-tried g c).In_ok-kept) in
+    let is = next_is c.args.keeping s.graph s.members c.args.level c.loop-piece.pieces.items c.loop-piece.yielded
     c.loop-piece.piece-iterator c.next.new.self c.in-Some.piece c.requires.low c.requires.below
     c.loop-piece.invariant.way c.in-Some.ensures.steps in
     let haul : Haul = record { pieces = c.push.new.self } in
     inr (
       t,
-      stopped s.graph s.members c.args.level c.loop-piece.pieces.items haul c.loop-piece.yielded
+      stopped c.args.keeping s.graph s.members c.args.level c.loop-piece.pieces.items haul c.loop-piece.yielded
           c.loop-piece.piece-iterator c.next.new.self c.in-Some.piece t c.loop-piece.invariant.way
-          c.in-Some.ensures.steps c.in_ok-settled.ensures.piece is.1 (c.is_cut-stops.ensures.0 c.if-stops.true)
-          c.in_ok-push.ensures.items,
+          c.in-Some.ensures.steps own.0 is.1 (c.is_cut-stops.ensures.0 c.if-stops.true) c.in_ok-push.ensures.items,
     )
 
 pub returns-clause-right : goal.returns-clause-right
@@ -103,5 +115,5 @@ pub returns-clause-tried : goal.returns-clause-tried
 returns-clause-tried g c =
     let s = c.args.settler.now in
     let haul : Haul = record { pieces = c.loop-piece.pieces } in
-    inl (ended s.graph s.members c.args.level haul c.loop-piece.yielded c.loop-piece.piece-iterator
+    inl (ended c.args.keeping s.graph s.members c.args.level haul c.loop-piece.yielded c.loop-piece.piece-iterator
     c.loop-piece.invariant.way c.in-None.ensures.steps.0)

@@ -6,5 +6,6 @@ use Rattle.ov_even.proofs.level_trying.try_level.Given as goal
 abbrev pub invariant-loop-piece : goal.invariant-loop-piece
 invariant-loop-piece g l = record {
   stays : l.settler ≡ l.fn.settler;
-  way : IsUnderWay l.fn.settler.graph l.fn.settler.members l.level l.pieces.items l.yielded l.piece-iterator;
+  way : IsUnderWay l.keeping l.fn.settler.graph l.fn.settler.members l.level l.pieces.items l.yielded
+      l.piece-iterator;
 }

@@ -4,9 +4,10 @@ use Rattle.std.proofs.lemmas.Bool.{both_ways}
 use Rattle.std.specs.Option.{option_copied}
 use Rattle.ov_graph.specs.Links.{AreAllLinked}
 use Rattle.ov_fans.specs.Pieces.{level_of}
-use Rattle.ov_even.specs.Levels.{IsLevelCleared}
+use Rattle.ov_even.specs.Levels.{IsLevelDone}
 use Rattle.ov_even.specs.Naming.{AreUnlinkedPieces}
 use Rattle.ov_even.specs.Code.Cuts.{IsDeciding, IsFirstCut, all_settled}
+use Rattle.ov_even.specs.declared.worker_haul.Keeping.TheVariants.{EachPiece}
 use Rattle.ov_even.proofs.PieceOrder.PieceLevels.{level_low}
 use Rattle.ov_even.proofs.EvenTest.Firsts.{fails_apart, one_first}
 use Rattle.ov_even.proofs.AnalysisSteps.Assembling.{deciding, cleared_under, some_cut, level_under}
@@ -23,12 +24,12 @@ unreachable-requires c =
     let hauls = c.args.hauls.now in
     let apart : ¬ AreAllLinked c.args.graph.now c.args.group.now = λ all.
     both_ways c.are_all_linked.result c.if-are_all_linked.false (c.are_all_linked.ensures.1 all) in
-    some_cut c.args.graph.now c.args.group.now hauls apart c.requires.suffice
+    some_cut c.args.graph.now c.args.group.now hauls apart (EachPiece, c.requires.suffice)
     (subst (λ o. IsFirstCut (all_settled hauls) (option_copied o)) c.in_default.is c.first_cut.ensures)
 
 -- the deciding piece, and the level below it
 decides_in : (c : After-level) → IsDeciding c.args.graph.now c.args.group.now c.in-Some.first.now
-    × IsLevelCleared c.args.graph.now c.args.group.now c.args.hauls.now (level_of c.in-Some.first.now.piece - 1)
+    × IsLevelDone EachPiece c.args.graph.now c.args.group.now c.args.hauls.now (level_of c.in-Some.first.now.piece - 1)
 decides_in c =
     let g = c.args.graph.now in
     let q = c.args.group.now in
@@ -38,7 +39,7 @@ decides_in c =
     let apart : ¬ AreAllLinked g q = λ all.
     both_ways c.are_all_linked.result c.if-are_all_linked.false (c.are_all_linked.ensures.1 all) in
     let low = subst (λ o. IsFirstCut (all_settled hauls) (option_copied o)) c.in-Some.is c.first_cut.ensures in (
-      deciding g q hauls s graph c.requires.group apart c.requires.suffice low,
+      deciding g q hauls s graph c.requires.group apart (EachPiece, c.requires.suffice) low,
       cleared_under g q hauls s graph c.requires.group apart c.requires.suffice low,
     )
 
@@ -56,8 +57,8 @@ paths_at-requires-clause-below c =
 
 pub paths_at-requires-clause-cleared : goal.paths_at-requires-clause-cleared
 paths_at-requires-clause-cleared c =
-    subst (λ (l : ℕ). IsLevelCleared c.args.graph.now c.args.group.now c.args.hauls.now (l - 1)) (sym c.level.ensures)
-    (decides_in c).1
+    subst (λ (l : ℕ). IsLevelDone EachPiece c.args.graph.now c.args.group.now c.args.hauls.now (l - 1))
+    (sym c.level.ensures) (decides_in c).1
 
 pub returns-clause-wanted : goal.returns-clause-wanted
 returns-clause-wanted c p first =
@@ -68,7 +69,7 @@ returns-clause-wanted c p first =
     both_ways c.are_all_linked.result c.if-are_all_linked.false (c.are_all_linked.ensures.1 all) in
     let hauls = c.args.hauls.now in
     let low = subst (λ o. IsFirstCut (all_settled hauls) (option_copied o)) c.in-Some.is c.first_cut.ensures in
-    let decides = deciding g q hauls s c.nodes.ensures.graph c.requires.group apart c.requires.suffice low in
+    let decides = deciding g q hauls s c.nodes.ensures.graph c.requires.group apart (EachPiece, c.requires.suffice) low in
     let same = one_first g q s.piece p decides.first first in
     let level : c.level.result - 1 ≡ level_of p - 1 =
     ap (λ (l : ℕ). l - 1) (c.level.ensures ∙ ap level_of same) in

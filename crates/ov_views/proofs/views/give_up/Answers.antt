@@ -1,7 +1,6 @@
-use Rattle.std.proofs.Common.{◌≡◌, ◌<◌, ◌+◌, ℕ, [], ◌∷◌, length, get_or, refl, sym, arith, rules}
+use Rattle.std.proofs.Common.{◌≡◌, [], ◌∷◌, refl, sym, ap, length, arith, rules}
 use Rattle.std.proofs.lemmas.List.{nil_from_length}
-use Rattle.std.proofs.lemmas.Option.{slice_get-get_or}
-use Rattle.ov_words.proofs.PickLemmas.{picked_word}
+use Rattle.ov_words.proofs.PickLemmas.{drawn_at}
 use Rattle.ov_views.proofs.Giving.{passed_more, none_left, next_given, random_given}
 use Rattle.ov_views.proofs.Sufficing.{pick_gives}
 use Rattle.ov_views.proofs.views.give_up.Goals as goal
@@ -27,13 +26,7 @@ pub returns-clause-drawn : goal.returns-clause-drawn
 returns-clause-drawn c = λ d at.
     let none : c.loop-next.left.now ≡ [] = nil_from_length _ c.in_default.ensures.cases in
     random_given _ _ _ _ d _ _ c.loop-next.invariant none at
-    (c.place-place.ensures.drawn c.args.passive.now d (sym c.len.ensures.value) at)
+    (drawn_at c.args.passive.now _ _ d _ _ c.place-place.ensures.drawn (sym c.len.ensures.value) at)
 
 pub returns-clause-words : goal.returns-clause-words
-returns-clause-words c =
-    let within : c.place-place.result < length c.args.passive.now = omega arith in
-    let d : ℕ = get_or c.args.passive.now c.place-place.result 0 in
-    let drawn = c.place-place.ensures.drawn c.args.passive.now d (sym c.len.ensures.value)
-    (slice_get-get_or c.args.passive.now c.place-place.result 0 within) in
-    let word : length c.place-place.new.self + 1 ≡ length c.args.draws.now = picked_word _ d _ _ drawn in
-    omega (arith, word)
+returns-clause-words c = let word = ap length c.place-place.ensures.drawn.1 in omega (arith, word)

@@ -9,5 +9,5 @@ pub of_parts-requires : goal.of_parts-requires
 of_parts-requires c =
     let b = c.self.inside in
     let a = c.self.invariant in
-    subst (AreEnds 0 b.ends.items)
+    subst (AreEnds 0 b.ends)
     (none_begun b.last_end b.ids.items a.1 (ap (λ (v : Building). v.begun) c.self.view_is ∙ c.requires)) a.0

@@ -9,6 +9,6 @@ pub returns-clause-pushed : goal.returns-clause-pushed
 returns-clause-pushed c =
     let b = c.self.inside in
     let a = c.self.invariant in
-    subst (λ (v : Building). built (paths_from 0 b.ends.items c.push.new.self.items)
+    subst (λ (v : Building). built (paths_from 0 b.ends c.push.new.self.items)
     (drop b.last_end c.push.new.self.items) ≡ built v.paths (v.begun ++ c.args.id ∷ [])) c.self.view_is
-    (id_pushed b.ends.items b.last_end b.ids.items c.push.new.self.items c.args.id a.0 a.1 c.in_ok-push.ensures.items)
+    (id_pushed b.ends b.last_end b.ids.items c.push.new.self.items c.args.id a.0 a.1 c.in_ok-push.ensures.items)

@@ -5,6 +5,6 @@ use Rattle.ov_peer.proofs.peer.Peer.apply.Goals as goal
 
 pub returns-clause-step : goal.returns-clause-step
 returns-clause-step c =
-    let P : Output → Type 0 = λ o. IsPeerStep c.args.self.now c.follow.new.self o.sends.items o.changes.items o.delivered
-    in
+    let q = c.follow.new.self in
+    let P : Output → Type 0 = λ o. IsPeerStep c.args.self.now q o.sends.items o.changes.items o.delivered in
     subst P (sym c.follow.ensures.output) c.in_ok-follow.ensures.step

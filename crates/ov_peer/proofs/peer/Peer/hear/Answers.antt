@@ -1,5 +1,6 @@
-use Rattle.std.proofs.Common.{◌≡◌, ◌≤◌, ℕ, List, Option, IfOk, IfSome, IfNone, length, sym, ap, subst}
+use Rattle.std.proofs.Common.{◌≤◌, ℕ, List, Option, IfOk, IfSome, length, sym, ap, subst}
 use Rattle.ov_wire.specs.declared.message.Message.{Message}
+use Rattle.ov_words.proofs.PickLemmas.{none_drawn}
 use Rattle.ov_views.specs.Allowed.{hears}
 use Rattle.ov_views.specs.Handling.{ViewsStep}
 use Rattle.ov_views.specs.declared.step_effects.Moves.{Moves}
@@ -35,15 +36,13 @@ returns-in-Some c =
 
 pub handle-requires-clause-words : goal.handle-requires-clause-words
 handle-requires-clause-words c =
-    let same = subst (λ (w : Option Moves). IfNone w (c.walk.new.draws ≡ c.args.draws.now)) c.in-None.is
-    c.in_ok-walked.ensures.none in
+    let same = none_drawn _ _ _ c.in_ok-walked.ensures.none c.in-None.is in
     subst (λ (d : List ℕ). most_words ≤ length d) (sym same) c.requires.words
 
 pub returns-in-None : goal.returns-in-None
 returns-in-None c =
     let message : Message = record { from = c.args.from; body = c.args.body.now } in
-    let same = subst (λ (w : Option Moves). IfNone w (c.walk.new.draws ≡ c.args.draws.now)) c.in-None.is
-    c.in_ok-walked.ensures.none in
+    let same = none_drawn _ _ _ c.in_ok-walked.ensures.none c.in-None.is in
     subst
     (λ (d : List ℕ). IfOk c.handle.result (IsGoodPlan c.args.self.now (Receive message) d c.handle.new.draws)) same
     c.handle.ensures

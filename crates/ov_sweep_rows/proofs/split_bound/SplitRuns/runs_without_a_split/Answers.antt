@@ -1,4 +1,4 @@
-use Rattle.std.proofs.Common.{ℕ, ◌≤◌, ◌+◌, arith}
+use Rattle.std.proofs.Common.{◌≤◌, arith}
 use Rattle.std.proofs.lemmas.Bool.{false≢true}
 use Rattle.ov_sweep_rows.specs.SplitBounds.{LiesBelow, split_runs}
 use Rattle.ov_sweep_rows.proofs.Bounding.{none_more}

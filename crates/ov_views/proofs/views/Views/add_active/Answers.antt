@@ -1,31 +1,26 @@
-use Rattle.std.proofs.Common.{None, ◌∷◌, ◌++◌, ◌≡◌, ◌<◌, ◌≤◌, [], false, length, refl, sym, ◌∙◌, ap, subst, arith, inl}
+use Rattle.std.proofs.Common.{None, ◌∷◌, ◌++◌, ◌≡◌, ◌<◌, ◌≤◌, [], length, refl, sym, ◌∙◌, ap, subst, arith, inl}
 use Rattle.std.proofs.Common.{inr}
 use Rattle.std.proofs.lemmas.Bool.{lt-ltb, le-ltb}
 use Rattle.std.specs.Prelude.{List}
 use Rattle.ov_ids.specs.Sets.{without}
 use Rattle.ov_ids.proofs.Sets.{IsIn-without}
 use Rattle.ov_words.specs.Pick.{Suffice}
-use Rattle.ov_views.specs.ViewsState.{ViewsState, is_close}
+use Rattle.ov_views.specs.ViewsState.{ViewsState}
 use Rattle.ov_views.specs.Changes.{AddsActive}
 use Rattle.ov_views.specs.Code.ChangeOrder.{in_order}
 use Rattle.ov_views.specs.declared.change.ViewChange.{ViewChange}
 use Rattle.ov_views.specs.declared.change.ViewChange.TheVariants.{Up}
-use Rattle.ov_views.proofs.Keeping.{AreOthers, others, KeepsFewer, AreViews-without_passive, AreViews-adding_active}
+use Rattle.ov_views.proofs.Fields.{views_of, is_far}
+use Rattle.ov_views.proofs.Keeping.{others, KeepsFewer, AreViews-without_passive, AreViews-adding_active}
 use Rattle.ov_views.proofs.Keeping.{DropsRandom-keeps, enters, comes_up}
 use Rattle.ov_views.proofs.Sufficing.{drops_first}
 use Rattle.ov_views.proofs.views.Views.add_active.Goals as goal
 
 pub invariant_of-self : goal.invariant_of-self
 invariant_of-self c =
-    let v : ViewsState = record {
-      me = c.self.inside.me;
-      params = c.self.inside.params;
-      active = c.self.inside.active;
-      passive = c.self.inside.passive;
-    } in
-    let P : ViewsState → Type 0 = λ v. AreOthers v c.args.id in
-    let o : AreOthers v c.args.id =
-    subst P (sym c.self.view_is) (others _ _ (sym c.is_close.ensures.close ∙ c.if-is_close.false)) in
+    let v = views_of c.self.inside in
+    let far = is_far c.self.inside _ c.args.id _ c.self.view_is c.is_close.ensures.close c.if-is_close.false in
+    let o = others v c.args.id far in
     let room : length c.self.inside.active < c.self.inside.params.active = omega arith in
     rw (c.insert.ensures.value, c.remove.ensures.value)
     (AreViews-adding_active (record v { passive = without c.args.id v.passive }) c.args.id
@@ -34,16 +29,9 @@ invariant_of-self c =
 
 pub returns-then-len-active-clause-drawn : goal.returns-then-len-active-clause-drawn
 returns-then-len-active-clause-drawn c =
-    let v : ViewsState = record {
-      me = c.self.inside.me;
-      params = c.self.inside.params;
-      active = c.self.inside.active;
-      passive = c.self.inside.passive;
-    } in
+    let v = views_of c.self.inside in
     let u : ViewsState = record v { passive = without c.args.id v.passive } in
-    let P : ViewsState → Type 0 = λ v. is_close v c.args.id ≡ false in
-    let far : is_close v c.args.id ≡ false =
-    subst P (sym c.self.view_is) (sym c.is_close.ensures.close ∙ c.if-is_close.false) in
+    let far = is_far c.self.inside _ c.args.id _ c.self.view_is c.is_close.ensures.close c.if-is_close.false in
     let room : length c.self.inside.active < c.self.inside.params.active = omega arith in (
       [],
       refl,
@@ -57,17 +45,10 @@ invariant_of-self-else-len-active c = rw c.remove.ensures.value (AreViews-withou
 
 pub drop_one-down-requires : goal.drop_one-down-requires
 drop_one-down-requires c =
-    let v : ViewsState = record {
-      me = c.self.inside.me;
-      params = c.self.inside.params;
-      active = c.self.inside.active;
-      passive = c.self.inside.passive;
-    } in
+    let v = views_of c.self.inside in
     let P : ViewsState → Type 0 = λ u. Suffice c.args.draws.now
     (λ cs. (w : ViewsState) × (changes : List ViewChange) × AddsActive u c.args.id cs w changes) in
-    let Q : ViewsState → Type 0 = λ v. is_close v c.args.id ≡ false in
-    let far : is_close v c.args.id ≡ false =
-    subst Q (sym c.self.view_is) (sym c.is_close.ensures.close ∙ c.if-is_close.false) in
+    let far = is_far c.self.inside _ c.args.id _ c.self.view_is c.is_close.ensures.close c.if-is_close.false in
     let full : c.self.inside.params.active ≤ length c.self.inside.active = omega arith in
     rw c.remove.ensures.value
     (drops_first v c.args.id c.args.draws.now far
@@ -76,21 +57,10 @@ drop_one-down-requires c =
 
 pub invariant_of-self-2 : goal.invariant_of-self-2
 invariant_of-self-2 c =
-    let v : ViewsState = record {
-      me = c.self.inside.me;
-      params = c.self.inside.params;
-      active = c.self.inside.active;
-      passive = c.self.inside.passive;
-    } in
-    let u : ViewsState = record {
-      me = c.self-2.inside.me;
-      params = c.self-2.inside.params;
-      active = c.self-2.inside.active;
-      passive = c.self-2.inside.passive;
-    } in
-    let P : ViewsState → Type 0 = λ v. AreOthers v c.args.id in
-    let o : AreOthers v c.args.id =
-    subst P (sym c.self.view_is) (others _ _ (sym c.is_close.ensures.close ∙ c.if-is_close.false)) in
+    let v = views_of c.self.inside in
+    let u = views_of c.self-2.inside in
+    let far = is_far c.self.inside _ c.args.id _ c.self.view_is c.is_close.ensures.close c.if-is_close.false in
+    let o = others v c.args.id far in
     let d = rw (c.remove.ensures.value, ← c.self-2.view_is) at c.drop_one-down.ensures.drawn in
     let some : 0 < length c.self.inside.active = omega (arith, c.active.ensures.limits.active_low) in
     let k : KeepsFewer (record v { passive = without c.args.id v.passive }) u = DropsRandom-keeps _ d.0 u _ some d.2 in
@@ -104,21 +74,9 @@ invariant_of-self-2 c =
 
 pub returns-clause-drawn : goal.returns-clause-drawn
 returns-clause-drawn c =
-    let v : ViewsState = record {
-      me = c.self.inside.me;
-      params = c.self.inside.params;
-      active = c.self.inside.active;
-      passive = c.self.inside.passive;
-    } in
-    let u : ViewsState = record {
-      me = c.self-2.inside.me;
-      params = c.self-2.inside.params;
-      active = c.self-2.inside.active;
-      passive = c.self-2.inside.passive;
-    } in
-    let P : ViewsState → Type 0 = λ v. is_close v c.args.id ≡ false in
-    let far : is_close v c.args.id ≡ false =
-    subst P (sym c.self.view_is) (sym c.is_close.ensures.close ∙ c.if-is_close.false) in
+    let v = views_of c.self.inside in
+    let u = views_of c.self-2.inside in
+    let far = is_far c.self.inside _ c.args.id _ c.self.view_is c.is_close.ensures.close c.if-is_close.false in
     let d = rw (c.remove.ensures.value, ← c.self-2.view_is) at c.drop_one-down.ensures.drawn in
     let full : c.self.inside.params.active ≤ length c.self.inside.active = omega arith in
     let changes : c.new-2.result ≡ in_order c.drop_one-down.result None ++ Up c.args.id ∷ [] = c.new-2.ensures

@@ -1,6 +1,6 @@
 use Rattle.std.proofs.Common.{◌≡◌, ◌+◌, ◌∷◌, drop, arith}
 use Rattle.std.proofs.lemmas.Grind.{common_steps}
-use Rattle.ov_ids.proofs.Sets.{IsSet-without, length-without, length-without_set}
+use Rattle.ov_ids.proofs.Sets.{IsSet-without, length-without}
 use Rattle.ov_views.proofs.views.Views.all_but.Goals as goal
 
 pub loop-id-preserved : goal.loop-id-preserved
@@ -11,5 +11,4 @@ loop-id-preserved c =
       IsSet-without _ _ c.loop-id.invariant.0,
       rw next at c.loop-id.invariant.1,
       omega (arith, c.loop-id.invariant.2, length-without c.id-item.result c.loop-id.rest),
-      omega (arith, c.loop-id.invariant.3, length-without_set c.id-item.result c.loop-id.rest c.loop-id.invariant.0),
     )

@@ -5,18 +5,14 @@ use Rattle.std.specs.Prelude.{List}
 use Rattle.ov_views.specs.ViewsState.{ViewsState}
 use Rattle.ov_views.specs.Changes.{DropsRandom}
 use Rattle.ov_views.specs.declared.change.ViewChange.{ViewChange}
+use Rattle.ov_views.proofs.Fields.{views_of}
 use Rattle.ov_views.proofs.Keeping.{AreViews-without_active, drops}
 use Rattle.ov_views.proofs.Sufficing.{pick_drops, added_after}
 use Rattle.ov_views.proofs.views.Views.drop_one.Goals as goal
 
 pub pick-requires : goal.pick-requires
 pick-requires c =
-    let v : ViewsState = record {
-      me = c.self.inside.me;
-      params = c.self.inside.params;
-      active = c.self.inside.active;
-      passive = c.self.inside.passive;
-    } in
+    let v = views_of c.self.inside in
     let P : ViewsState → Type 0 = λ u. Suffice c.args.draws.now
     (λ cs. (w : ViewsState) × (changes : List ViewChange) × DropsRandom u cs w changes) in
     rw c.as_slice.ensures.value
@@ -27,12 +23,7 @@ invariant_of-self c = rw c.remove.ensures.value (AreViews-without_active _ _ c.s
 
 pub add_passive-requires : goal.add_passive-requires
 add_passive-requires c =
-    let v : ViewsState = record {
-      me = c.self.inside.me;
-      params = c.self.inside.params;
-      active = c.self.inside.active;
-      passive = c.self.inside.passive;
-    } in
+    let v = views_of c.self.inside in
     let P : ViewsState → Type 0 = λ u. Suffice c.args.draws.now
     (λ cs. (w : ViewsState) × (changes : List ViewChange) × DropsRandom u cs w changes) in
     let first = rw c.as_slice.ensures.value at c.in_ok-dropped.ensures.drawn in
@@ -42,12 +33,7 @@ add_passive-requires c =
 
 pub returns-clause-drawn : goal.returns-clause-drawn
 returns-clause-drawn c =
-    let v : ViewsState = record {
-      me = c.self.inside.me;
-      params = c.self.inside.params;
-      active = c.self.inside.active;
-      passive = c.self.inside.passive;
-    } in
+    let v = views_of c.self.inside in
     let first = rw c.as_slice.ensures.value at c.in_ok-dropped.ensures.drawn in
     let h = picked_member _ _ _ _ first in
     let more = rw c.remove.ensures.value at c.add_passive.ensures.drawn in

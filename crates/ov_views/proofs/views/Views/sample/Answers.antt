@@ -1,6 +1,7 @@
 use Rattle.std.proofs.Common.{◌≡◌, ◌∙◌, ◌<◌, ◌+◌, ◌-◌, ◌++◌, ℕ, List, [], ◌∷◌, length, take, ap, subst, arith}
 use Rattle.std.specs.Prelude.{Some, slice_get}
 use Rattle.std.proofs.lemmas.List.{length-append}
+use Rattle.ov_words.proofs.PickLemmas.{drawn_at}
 use Rattle.ov_views.specs.ViewsState.{members}
 use Rattle.ov_views.specs.Code.LeftOf.{left_of}
 use Rattle.ov_views.proofs.LeftOf.{left_next}
@@ -25,7 +26,7 @@ loop-i-preserved c =
     let within : place < length rest = omega (arith, count, c.place-place.ensures.within) in
     let room : i < length taken = omega (arith, c.as_slice.array_long) in
     let next = left_next set taken i place x room sampling.ascends within member in
-    let drawn = c.place-place.ensures.drawn rest x count member in
+    let drawn = drawn_at rest _ place x _ _ c.place-place.ensures.drawn count member in
     let more = subst (Sampling set c.args.draws.now c.place-place.new.self (c.loop-i.picked ++ x ∷ [])) next
     (sampled_more set _ _ _ _ rest x sampling drawn) in (
       rw c.push.ensures more,

@@ -1,6 +1,0 @@
-use Rattle.std.proofs.Common.{arith}
-use Rattle.ov_graph.proofs.BitRows.Bits.{empty_bit}
-use Rattle.ov_answers.proofs.bits_of_nodes_outside_cut.all_places.Goals as goal
-
-pub loop-place-init : goal.loop-place-init
-loop-place-init c q = ((λ h. absurd (empty_bit q h)), (λ l. absurd (omega (arith, l))))

@@ -1,5 +1,0 @@
-use Rattle.ov_answers.proofs.Divided.{one_division}
-use Rattle.ov_answers.proofs.unique_components_theorem.one_division.Goals as goal
-
-pub returns : goal.returns
-returns c = one_division

@@ -1,0 +1,4 @@
+pub mod Rows
+pub mod Grown
+pub mod Divided
+pub mod Surviving

@@ -1,0 +1,309 @@
+//! A row, made of the cells that its columns read. Each cell is one that its column takes, so what would stand for
+//! another cell is never needed.
+ghost use Rattle.std.specs.Prelude.{◌≡◌, ◌<◌, ◌+◌, ◌*◌, ◌∷◌, ◌++◌, [], IfNone, IfSome, None, Some, length, take};
+ghost use Rattle.std.specs.Prelude.{drop};
+ghost use Rattle.std.specs.Prelude.{true, false};
+ghost use Rattle.ov_grow_options.specs.Limits.{most_of_hundred, most_rounds, most_share, most_turns};
+ghost use Rattle.ov_ids.specs.ParamsState.{AreWithinLimits, ParamsState};
+ghost use Rattle.ov_sweep_rows.specs.Cells.{cells, cost_cells, crash_cell, decimals_cell, flag_cell};
+ghost use Rattle.ov_sweep_rows.specs.Cells.{further_cells, most_long, most_short, number_cell, parameter_cells};
+ghost use Rattle.ov_sweep_rows.specs.Cells.{phase_cells, setting_cells, shape_cells, share_cell};
+ghost use Rattle.ov_sweep_rows.specs.Columns.{forms};
+ghost use Rattle.ov_sweep_rows.specs.Fields.{HasNoMore};
+ghost use Rattle.ov_sweep_rows.specs.Code.Taking.{EqualFrom, IsBetween, IsBetweenOrNothing, IsCrash, IsDecimals};
+ghost use Rattle.ov_sweep_rows.specs.Code.Taking.{IsDecimalsOrNothing, IsOrder, IsRefill, TakeFrom, cell_at};
+ghost use Rattle.ov_sweep_rows.specs.Code.Written.{cost_forms, further_forms, parameter_forms, phase_forms};
+ghost use Rattle.ov_sweep_rows.specs.Code.Written.{costs_from, option_forms, shape_forms, shapes_from};
+ghost use Rattle.ov_sweep_rows.specs.declared.cell.Cell.TheVariants as told;
+
+use crate::cell::Cell;
+use crate::{DeliveredShare, FourDecimals, PhaseCosts, PhaseRow, PhaseShape, Row, RowForm};
+use ov_grow_options::{Chance, Count, Crash, GrowOptions, NodeCount, Order, Pace, Share};
+use ov_ids::{NodeId, Params, Refill};
+
+/// The row of this form with these cells. None is returned if its parameters are not within their limits.
+pub(crate) fn row_with(form: RowForm, found: &[Cell]) -> Option<Row>
+    requires long { length found.now ≡ length (forms form) }
+    requires taken { TakeFrom found.now 0 0 (forms form) }
+    ensures cells { IfSome result (λ row. cells form row ≡ found.now) }
+    ensures three { IfSome result (λ row. length row.phases ≡ 3) }
+    ensures within { IfSome result (λ row. AreWithinLimits row.options.params) }
+    ensures no_more { IfSome result (HasNoMore form) }
+    ensures none { IfNone result
+        ((p : ParamsState) → parameter_cells p ≡ take 7 (drop 1 found.now) → AreWithinLimits p → ⊥) }
+{
+    match params_with(found) {
+        None => None,
+        Some(params) => Some(Row {
+            options: options_with(form, found, params),
+            phases: [
+                phase_with(form, found, 0),
+                phase_with(form, found, 1),
+                phase_with(form, found, 2),
+            ],
+        }),
+    }
+}
+
+/// HyParView's parameters, if they are within their limits, with the rule at DISCONNECT.
+fn params_with(cells: &[Cell]) -> Option<Params>
+    ensures cells { IfSome result (λ p. TakeFrom cells.now 1 0 parameter_forms
+        → EqualFrom cells.now 1 0 (parameter_cells p)) }
+    ensures rule { IfSome result (λ p. IsRefill (cell_at cells.now 8) → told.Refill p.refill ≡ cell_at cells.now 8) }
+    ensures within { IfSome result AreWithinLimits }
+    ensures none { IfNone result (TakeFrom cells.now 1 0 parameter_forms
+        → (p : ParamsState) → EqualFrom cells.now 1 0 (parameter_cells p) → AreWithinLimits p → ⊥) }
+{
+    let active = number(cell_at(cells, 1));
+    let passive = number(cell_at(cells, 2));
+    let arwl = number(cell_at(cells, 3));
+    let prwl = number(cell_at(cells, 4));
+    let ka = number(cell_at(cells, 5));
+    let kp = number(cell_at(cells, 6));
+    let ttl = number(cell_at(cells, 7));
+    match Params::new(active, passive, arwl, prwl, ka, kp, ttl) {
+        Ok(params) => Some(params.with_refill(refill(cell_at(cells, 8)))),
+        Err(_) => None,
+    }
+}
+
+/// The options with these parameters.
+fn options_with(form: RowForm, cells: &[Cell], params: Params) -> GrowOptions
+    ensures params { result.params ≡ params }
+    ensures cells { TakeFrom cells.now 0 0 option_forms → EqualFrom cells.now 1 0 (parameter_cells params)
+        → told.Refill params.refill ≡ cell_at cells.now 8
+        → EqualFrom cells.now 0 0 (setting_cells result ++ (told.Number result.seed ∷ [])) }
+    ensures further { form.further ≡ true → TakeFrom cells.now 37 0 further_forms
+        → EqualFrom cells.now 37 0 (further_cells result) }
+    ensures alone { form.further ≡ false → result.sequential ≡ false }
+    ensures chosen { form.further ≡ false → result.sender ≡ None }
+    ensures learned { form.further ≡ false → result.detect ≡ false }
+{
+    GrowOptions {
+        nodes: nodes(cell_at(cells, 0)),
+        params,
+        seed: long_number(cell_at(cells, 18)),
+        loss_join: chance(cell_at(cells, 9)),
+        loss: chance(cell_at(cells, 10)),
+        repeat: share(cell_at(cells, 11)),
+        order: order(cell_at(cells, 12)),
+        pace: pace(cell_at(cells, 13)),
+        rounds: count(cell_at(cells, 14)),
+        crash: crash(cell_at(cells, 15)),
+        heal: count(cell_at(cells, 16)),
+        broadcasts: count(cell_at(cells, 17)),
+        sequential: form.further && flag(cell_at(cells, 37)),
+        sender: further_sender(form, cells),
+        detect: form.further && flag(cell_at(cells, 39)),
+    }
+}
+
+/// The node that makes each broadcast, if rows have a column for it.
+fn further_sender(form: RowForm, cells: &[Cell]) -> Option<NodeId>
+    ensures cell { form.further ≡ true → IsBetweenOrNothing 1 256 (cell_at cells.now 38)
+        → number_cell result ≡ cell_at cells.now 38 }
+    ensures none { form.further ≡ false → result ≡ None }
+{
+    if form.further {
+        sender(cell_at(cells, 38))
+    } else {
+        None
+    }
+}
+
+/// What a run came to after a phase, which are counted from 0.
+fn phase_with(form: RowForm, cells: &[Cell], phase: usize) -> PhaseRow
+    requires { phase < 3 }
+    ensures cells { TakeFrom cells.now (19 + 6 * phase) 0 phase_forms
+        → EqualFrom cells.now (19 + 6 * phase) 0 (phase_cells result) }
+    ensures costs { form.costs ≡ true → TakeFrom cells.now (costs_from form + 6 * phase) 0 cost_forms
+        → EqualFrom cells.now (costs_from form + 6 * phase) 0 (cost_cells result.costs) }
+    ensures unpriced { form.costs ≡ false → result.costs ≡ None }
+    ensures shape { form.shape ≡ true → TakeFrom cells.now (shapes_from form + 7 * phase) 0 shape_forms
+        → EqualFrom cells.now (shapes_from form + 7 * phase) 0 (shape_cells result.shape) }
+    ensures shapeless { form.shape ≡ false → result.shape ≡ None }
+{
+    let first = 19 + 6 * phase;
+    PhaseRow {
+        nodes: number(cell_at(cells, first)),
+        k: number(cell_at(cells, first + 1)),
+        least_degree: number(cell_at(cells, first + 2)),
+        links: number(cell_at(cells, first + 3)),
+        entries: number(cell_at(cells, first + 4)),
+        delivered: delivered(cell_at(cells, first + 5)),
+        costs: costs_of_phase(form, cells, phase),
+        shape: shape_of_phase(form, cells, phase),
+    }
+}
+
+/// What the broadcasts of a phase cost, if rows have columns for that.
+fn costs_of_phase(form: RowForm, cells: &[Cell], phase: usize) -> Option<PhaseCosts>
+    requires { phase < 3 }
+    ensures cells { form.costs ≡ true → TakeFrom cells.now (costs_from form + 6 * phase) 0 cost_forms
+        → EqualFrom cells.now (costs_from form + 6 * phase) 0 (cost_cells result) }
+    ensures none { form.costs ≡ false → result ≡ None }
+{
+    if !form.costs {
+        return None;
+    }
+    let first = form.costs_from() + 6 * phase;
+    Some(PhaseCosts {
+        gossip: number(cell_at(cells, first)),
+        ihave: number(cell_at(cells, first + 1)),
+        graft: number(cell_at(cells, first + 2)),
+        prune: number(cell_at(cells, first + 3)),
+        hops: decimals(cell_at(cells, first + 4)),
+        redundancy: decimals(cell_at(cells, first + 5)),
+    })
+}
+
+/// The shape of a phase, if rows have columns for it.
+fn shape_of_phase(form: RowForm, cells: &[Cell], phase: usize) -> Option<PhaseShape>
+    requires { phase < 3 }
+    ensures cells { form.shape ≡ true → TakeFrom cells.now (shapes_from form + 7 * phase) 0 shape_forms
+        → EqualFrom cells.now (shapes_from form + 7 * phase) 0 (shape_cells result) }
+    ensures none { form.shape ≡ false → result ≡ None }
+{
+    if !form.shape {
+        return None;
+    }
+    let first = form.shapes_from() + 7 * phase;
+    Some(PhaseShape {
+        largest: number(cell_at(cells, first)),
+        clustering: clustering(cell_at(cells, first + 1)),
+        path: decimals(cell_at(cells, first + 2)),
+        diameter: number(cell_at(cells, first + 3)),
+        degree_25: number(cell_at(cells, first + 4)),
+        degree_50: number(cell_at(cells, first + 5)),
+        degree_75: number(cell_at(cells, first + 6)),
+    })
+}
+
+/// The cell at a place; nothing behind the last.
+pub(crate) fn cell_at(cells: &[Cell], place: usize) -> Cell
+    ensures { result ≡ cell_at cells.now place }
+{
+    match cells.get(place) {
+        Some(cell) => *cell,
+        None => Cell::Empty,
+    }
+}
+
+fn long_number(cell: Cell) -> u64
+    ensures { IsBetween 0 most_long cell → number_cell (Some result) ≡ cell }
+{
+    match cell {
+        Cell::Number(number) => number,
+        _ => 0,
+    }
+}
+
+fn number(cell: Cell) -> u32
+    ensures { IsBetween 0 most_short cell → number_cell (Some result) ≡ cell }
+{
+    u32::try_from(long_number(cell)).unwrap_or(0)
+}
+
+fn nodes(cell: Cell) -> NodeCount
+    ensures { IsBetween 1 256 cell → number_cell (Some result) ≡ cell }
+{
+    NodeCount::new(number(cell)).unwrap_or(NodeCount::DEFAULT)
+}
+
+fn chance(cell: Cell) -> Chance
+    ensures { IsBetween 0 most_of_hundred cell → number_cell (Some result) ≡ cell }
+{
+    Chance::new(number(cell)).unwrap_or(Chance::ZERO)
+}
+
+fn share(cell: Cell) -> Share
+    ensures { IsBetween 0 most_share cell → number_cell (Some result) ≡ cell }
+{
+    Share::new(number(cell)).unwrap_or(Share::ZERO)
+}
+
+fn count(cell: Cell) -> Count
+    ensures { IsBetween 0 most_rounds cell → number_cell (Some result) ≡ cell }
+{
+    Count::new(number(cell)).unwrap_or(Count::ZERO)
+}
+
+fn pace(cell: Cell) -> Option<Pace>
+    ensures { IsBetweenOrNothing 0 most_turns cell → number_cell result ≡ cell }
+{
+    if cell == Cell::Empty {
+        return None;
+    }
+    Pace::new(number(cell))
+}
+
+fn sender(cell: Cell) -> Option<NodeId>
+    ensures { IsBetweenOrNothing 1 256 cell → number_cell result ≡ cell }
+{
+    if cell == Cell::Empty {
+        return None;
+    }
+    Some(NodeId::new(number(cell)))
+}
+
+fn crash(cell: Cell) -> Crash
+    ensures { IsCrash cell → crash_cell result ≡ cell }
+{
+    if cell == Cell::Cut {
+        return Crash::Cut;
+    }
+    Crash::Share(share(cell))
+}
+
+fn order(cell: Cell) -> Order
+    ensures { IsOrder cell → told.Order result ≡ cell }
+{
+    match cell {
+        Cell::Order(order) => order,
+        _ => Order::Random,
+    }
+}
+
+fn refill(cell: Cell) -> Refill
+    ensures { IsRefill cell → told.Refill result ≡ cell }
+{
+    match cell {
+        Cell::Refill(rule) => rule,
+        _ => Refill::Never,
+    }
+}
+
+fn flag(cell: Cell) -> bool
+    ensures { IsBetween 0 1 cell → flag_cell result ≡ cell }
+{
+    long_number(cell) == 1
+}
+
+fn decimals(cell: Cell) -> Option<FourDecimals>
+    ensures { IsDecimalsOrNothing cell → decimals_cell result ≡ cell }
+{
+    match cell {
+        Cell::Decimals(number) => Some(number),
+        _ => None,
+    }
+}
+
+fn clustering(cell: Cell) -> FourDecimals
+    ensures { IsDecimals cell → decimals_cell (Some result) ≡ cell }
+{
+    match cell {
+        Cell::Decimals(number) => number,
+        _ => FourDecimals { parts: 0 },
+    }
+}
+
+fn delivered(cell: Cell) -> Option<DeliveredShare>
+    ensures { IsDecimalsOrNothing cell → share_cell result ≡ cell }
+{
+    match cell {
+        Cell::Decimals(number) => Some(DeliveredShare {
+            parts: number.parts,
+        }),
+        _ => None,
+    }
+}
