@@ -2,7 +2,7 @@ ghost use Rattle.std.specs.Prelude.{◌≡◌, IfOk};
 ghost use Rattle.example_programs.specs.Outcome.{IsOutcome};
 
 use crate::drivers::{Driven, WATCHED, crash_and_report, deliver_all, report, start};
-use crate::outcome::{count_of, fewest_at};
+use crate::filed_numbers::{count_of, fewest_at};
 use anyhow::{Context, Result, bail};
 use ov_hall::{Gathered, Hall, HallName, Opening, Pass, Whole};
 use ov_ids::{IdsText, NodeId, Params};

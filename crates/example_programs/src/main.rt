@@ -6,8 +6,8 @@ mod analysing;
 mod drivers;
 mod driving;
 mod failures;
+mod filed_numbers;
 mod judging;
-mod outcome;
 mod routers;
 
 use crate::analysing::print_failures;

@@ -17,8 +17,8 @@ use Rattle.ov_answers.specs.Code.Files.{IsWritingFault}
 use Rattle.ov_answers.specs.Code.ToldOfGraph.{IsToldOfGraph}
 use Rattle.ov_answers.specs.Fewer.{LosesNodes}
 use Rattle.ov_answers.specs.Telling.{TellsAnswer, IsToldOf, IsTelling, answered_of}
-use Rattle.ov_answers.specs.declared.report_or_refusal.Answered.{Answered}
-use Rattle.ov_answers.specs.declared.request.Told.{Told}
+use Rattle.ov_answers.specs.declared.report_or_refusal.ReportOrRefusal.{ReportOrRefusal}
+use Rattle.ov_answers.specs.declared.request.ToldAnalysis.{ToldAnalysis}
 use Rattle.ov_cert.specs.Valid.{k_of}
 use Rattle.ov_cert.specs.declared.cert.Cert.{Cert}
 use Rattle.ov_even.specs.Outlines.{IsOutline}
@@ -26,7 +26,7 @@ use Rattle.ov_ids.specs.declared.out_of_memory.OutOfMemory.{OutOfMemory}
 use Rattle.ov_run_meaning.specs.Printed.{report_line}
 use Rattle.ov_answers.specs.Telling.{AreLinesBetween}
 use Rattle.ov_answers.specs.declared.answer_making.Answer.{Answer}
-use Rattle.ov_answers.specs.declared.report_or_refusal.Answered.TheVariants.{Report}
+use Rattle.ov_answers.specs.declared.report_or_refusal.ReportOrRefusal.TheVariants.{Report}
 use Rattle.ov_cert.specs.State.{CheckedState}
 use Rattle.ov_cert.specs.Valid.{IsValidForGroup}
 use Rattle.ov_even.specs.Answer.{IsCheckedAnswer}
@@ -51,8 +51,8 @@ unwritten g q names certificate named contents sink = record {
 
 -- an answer that was written, or of which a prefix was
 pub written : {W : Type 0} (g : LinkGraph) (q : List ℕ) (names : NamesState) (certificate named : Bool)
-    (contents : W → Option (List ℕ)) (before after : SinkState W) (answer : Told) (text : List ℕ)
-    (result : Result Told RunFault) → TellsAnswer g q names certificate named answer.answered text
+    (contents : W → Option (List ℕ)) (before after : SinkState W) (answer : ToldAnalysis) (text : List ℕ)
+    (result : Result ToldAnalysis RunFault) → TellsAnswer g q names certificate named answer.answered text
     → IfOk result (λ t. t ≡ answer) → OnOk result (Appends (contents before.writer) (contents after.writer) text)
     → AppendsPrefixOf text (contents before.writer) (contents after.writer)
     → after.faults ≡ before.faults + write_faults result → IfErr result (λ f. ¬ (f ≡ fault.Write) → after ≡ before)
@@ -61,7 +61,7 @@ written g q names certificate named contents before after answer text (Ok t) tel
     record {
       tells = (
         text,
-        subst (λ (x : Told). TellsAnswer g q names certificate named x.answered text) (sym is) tells,
+        subst (λ (x : ToldAnalysis). TellsAnswer g q names certificate named x.answered text) (sym is) tells,
         appends,
       );
       begun = inr (answer.answered, text, tells, prefix);
@@ -92,7 +92,7 @@ writing_fault bytes (fault.Refused n refusal) is = absurd is
 
 plain_begun : {W : Type 0} (bytes : List ℕ) (g : LinkGraph) (q : List ℕ) (names : NamesState)
     (group : Option (List ℕ)) (certificate named : Bool) (contents : W → Option (List ℕ)) (before after : SinkState W)
-    (result : Result Told RunFault) → named ≡ false → IsGraphFile bytes g → q ≡ members_of group g
+    (result : Result ToldAnalysis RunFault) → named ≡ false → IsGraphFile bytes g → q ≡ members_of group g
     → IsToldOfGraph g q names certificate named contents before after result
     → (after ≡ before)
     ⊎ BeginsAnalysis (Some bytes) group certificate (contents before.writer) (contents after.writer)
@@ -110,7 +110,7 @@ plain_begun bytes g q names group certificate named contents before after result
 
 pub of_file : {W : Type 0} (bytes : List ℕ) (g : LinkGraph) (q : List ℕ) (names : NamesState)
     (group : Option (List ℕ)) (certificate named : Bool) (contents : W → Option (List ℕ)) (before after : SinkState W)
-    (result : Result Told RunFault) → named ≡ false → IsGraphFile bytes g → q ≡ members_of group g
+    (result : Result ToldAnalysis RunFault) → named ≡ false → IsGraphFile bytes g → q ≡ members_of group g
     → IsToldOfGraph g q names certificate named contents before after result
     → IsAnalysisOf (Some bytes) contents before group certificate after (answered_of result)
 of_file bytes g q names group certificate named contents before after (Ok told) plain says members t = record {
@@ -129,7 +129,7 @@ of_file bytes g q names group certificate named contents before after (Ok told) 
 of_file bytes g q names group certificate named contents before after (Err f) plain says members t = record {
   prints = tt;
   begun = plain_begun bytes g q names group certificate named contents before after (Err f) plain says members t;
-  sink = t.sink ∙ ap (λ n. before.faults + n) (same_faults Told Answered f);
+  sink = t.sink ∙ ap (λ n. before.faults + n) (same_faults ToldAnalysis ReportOrRefusal f);
   unwritten = t.unwritten;
   fault = writing_fault bytes f t.kind;
 }
@@ -138,9 +138,9 @@ of_file bytes g q names group certificate named contents before after (Err f) pl
 
 named_begun : {W : Type 0} (bytes gone : List ℕ) (g h : LinkGraph) (q : List ℕ) (names : NamesState)
     (group : Option (List ℕ)) (certificate named : Bool) (contents : W → Option (List ℕ)) (before after : SinkState W)
-    (result : Result Told RunFault) → IsGraphFile bytes g → AreNamesOf bytes g names → LosesNodes g gone h
+    (result : Result ToldAnalysis RunFault) → IsGraphFile bytes g → AreNamesOf bytes g names → LosesNodes g gone h
     → q ≡ members_of group h → IsToldOfGraph h q names certificate named contents before after result
-    → (after ≡ before) ⊎ ((answered : Answered) × (text : List ℕ)
+    → (after ≡ before) ⊎ ((answered : ReportOrRefusal) × (text : List ℕ)
     × IsTelling bytes gone group certificate named answered text
     × AppendsPrefixOf text (contents before.writer) (contents after.writer))
 named_begun bytes gone g h q names group certificate named contents before after result says keeps loses members t =
@@ -156,7 +156,7 @@ named_begun bytes gone g h q names group certificate named contents before after
 
 pub of_named_file : {W : Type 0} (bytes gone : List ℕ) (g h : LinkGraph) (q : List ℕ) (names : NamesState)
     (group : Option (List ℕ)) (certificate named : Bool) (contents : W → Option (List ℕ)) (before after : SinkState W)
-    (result : Result Told RunFault) → IsGraphFile bytes g → AreNamesOf bytes g names → LosesNodes g gone h
+    (result : Result ToldAnalysis RunFault) → IsGraphFile bytes g → AreNamesOf bytes g names → LosesNodes g gone h
     → q ≡ members_of group h → IsToldOfGraph h q names certificate named contents before after result
     → IsToldOf bytes contents before gone group certificate named after result
 of_named_file bytes gone g h q names group certificate named contents before after (Ok x) says keeps loses members t =
@@ -192,7 +192,7 @@ pub outline_told : (g : LinkGraph) (q : List ℕ) (outline : Cert) (names : Name
     × (answer.text.items ≡ report_line 0 outline g q ++ lines))
     → IfOk result (λ answer. TellsAnswer g q names false named answer.told.answered answer.text.items)
 outline_told g q outline names named (Ok answer) is said begun =
-    subst (λ (a : Answered). TellsAnswer g q names false named a answer.text.items) (sym said)
+    subst (λ (a : ReportOrRefusal). TellsAnswer g q names false named a answer.text.items) (sym said)
     (outlined g q outline names named begun.0 answer.text.items is begun.1 begun.2)
 outline_told g q outline names named (Err f) is said begun = tt
 
@@ -204,5 +204,5 @@ pub file_told : (g : LinkGraph) (q : List ℕ) (c : CheckedState) (outline : Cer
     × (answer.text.items ≡ report_line 0 outline g q ++ lines))
     → TellsAnswer g q names true named answer.told.answered (with_file_of answer.text.items (Some c))
 file_told g q c outline names named answer is valid alike said begun =
-    subst (λ (a : Answered). TellsAnswer g q names true named a (with_file_of answer.text.items (Some c))) (sym said)
+    subst (λ (a : ReportOrRefusal). TellsAnswer g q names true named a (with_file_of answer.text.items (Some c))) (sym said)
     (certified g q c outline names named begun.0 answer.text.items is valid alike begun.1 begun.2)

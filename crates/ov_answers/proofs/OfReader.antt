@@ -3,7 +3,7 @@
 use Rattle.std.proofs.Common.{◌≡◌, ◌⊎◌, inl, inr, ◌∙◌, ℕ, Bool, List, Option, Some, IfSome, Result, Ok, Err, subst}
 use Rattle.ov_io.specs.Device.{SinkState}
 use Rattle.ov_answers.specs.Analysing.{IsAnalysis, PrintsAnalysis, BeginsAnalysis, IsAnalysisOf}
-use Rattle.ov_answers.specs.declared.report_or_refusal.Answered.{Answered}
+use Rattle.ov_answers.specs.declared.report_or_refusal.ReportOrRefusal.{ReportOrRefusal}
 use Rattle.ov_run_meaning.specs.Faults.{IsAnalysisFileFault, IsAnalysisFault}
 use Rattle.ov_run_meaning.specs.declared.run_fault.RunFault.{RunFault}
 use Rattle.ov_run_meaning.specs.declared.run_fault.RunFault.TheVariants as fault
@@ -11,7 +11,7 @@ use Rattle.ov_run_meaning.proofs.OfReader.{told}
 
 -- what is printed of its analysis
 pub analysis_prints :
-    (reader before after : Option (List ℕ)) (group : Option (List ℕ)) (certificate : Bool) (answered : Answered)
+    (reader before after : Option (List ℕ)) (group : Option (List ℕ)) (certificate : Bool) (answered : ReportOrRefusal)
     (bytes read : List ℕ)
     → IfSome reader (λ xs. bytes ≡ xs) → read ≡ bytes
     → PrintsAnalysis (Some read) group certificate answered before after
@@ -50,7 +50,7 @@ analysis_fault reader bytes read fault.OutOfMemory had same is = tt
 -- its analysis
 pub analysis_of_reader :
     {W : Type 0} (contents : W → Option (List ℕ)) (sink sink' : SinkState W) (group : Option (List ℕ))
-    (certificate : Bool) (reader : Option (List ℕ)) (bytes read : List ℕ) (result : Result Answered RunFault)
+    (certificate : Bool) (reader : Option (List ℕ)) (bytes read : List ℕ) (result : Result ReportOrRefusal RunFault)
     → IfSome reader (λ xs. bytes ≡ xs) → read ≡ bytes
     → IsAnalysisOf (Some read) contents sink group certificate sink' result
     → IsAnalysisOf reader contents sink group certificate sink' result

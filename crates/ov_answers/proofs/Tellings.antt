@@ -19,8 +19,8 @@ use Rattle.ov_run_meaning.specs.Faults.{write_faults}
 use Rattle.ov_answers.specs.Code.TextFaults.{IsTextFault}
 use Rattle.ov_run_meaning.specs.Printed.{report_line, file_text}
 use Rattle.ov_run_meaning.specs.Subjects.{members_of}
-use Rattle.ov_answers.specs.declared.report_or_refusal.Answered.{Answered}
-use Rattle.ov_answers.specs.declared.report_or_refusal.Answered.TheVariants.{Report, NoNodes, BadGroup}
+use Rattle.ov_answers.specs.declared.report_or_refusal.ReportOrRefusal.{ReportOrRefusal}
+use Rattle.ov_answers.specs.declared.report_or_refusal.ReportOrRefusal.TheVariants.{Report, NoNodes, BadGroup}
 use Rattle.ov_run_meaning.specs.declared.run_fault.RunFault.{RunFault}
 use Rattle.ov_run_meaning.specs.declared.run_fault.RunFault.TheVariants as fault
 use Rattle.ov_answers.proofs.Fewer.{loses_none}
@@ -28,7 +28,7 @@ use Rattle.ov_answers.proofs.SameLines.{same_line}
 use Rattle.ov_answers.specs.Fewer.{LosesNodes}
 use Rattle.ov_answers.specs.Telling.{AreLinesBetween, TellsReport, TellsAnswer, IsTelling, IsToldOf}
 use Rattle.ov_answers.specs.Telling.{answered_of}
-use Rattle.ov_answers.specs.declared.request.Told.{Told}
+use Rattle.ov_answers.specs.declared.request.ToldAnalysis.{ToldAnalysis}
 
 -- certificates that agree in everything but their paths have the same lines
 alike_lines : (g : LinkGraph) (c d : Cert) (names : NamesState) (named : Bool) (lines : List ℕ) → AreAlike c d
@@ -84,7 +84,7 @@ certified g q c outline names named lines text answer valid same are is =
     )
 
 -- with the file that says the graph and keeps the names it is what is told of the file
-pub told : (bytes text gone : List ℕ) (group : Option (List ℕ)) (certificate named : Bool) (answered : Answered)
+pub told : (bytes text gone : List ℕ) (group : Option (List ℕ)) (certificate named : Bool) (answered : ReportOrRefusal)
     (g h : LinkGraph) (q : List ℕ) (names : NamesState) → IsGraphFile bytes g → AreNamesOf bytes g names
     → LosesNodes g gone h → q ≡ members_of group h → TellsAnswer h q names certificate named answered text
     → IsTelling bytes gone group certificate named answered text
@@ -136,7 +136,7 @@ refused bytes contents sink gone group certificate named fault.OutOfMemory is = 
 plain_text : (line file lines : List ℕ) → lines ≡ [] → line ++ (lines ++ file) ≡ line ++ file
 plain_text line file lines none = ap (λ (t : List ℕ). line ++ (t ++ file)) none
 
-plain_answer : (g : LinkGraph) (q : List ℕ) (names : NamesState) (certificate : Bool) (answered : Answered)
+plain_answer : (g : LinkGraph) (q : List ℕ) (names : NamesState) (certificate : Bool) (answered : ReportOrRefusal)
     (text : List ℕ) → TellsAnswer g q names certificate false answered text
     → PrintsAnswer g q certificate answered text
 unfolding answer_text
@@ -148,7 +148,7 @@ plain_answer g q names certificate NoNodes text t = t
 plain_answer g q names certificate BadGroup text t = t
 
 -- of a file whose names were not read
-pub unnamed : (bytes text : List ℕ) (group : Option (List ℕ)) (certificate named : Bool) (answered : Answered)
+pub unnamed : (bytes text : List ℕ) (group : Option (List ℕ)) (certificate named : Bool) (answered : ReportOrRefusal)
     (g : LinkGraph) (q : List ℕ) (names : NamesState) → named ≡ false → IsGraphFile bytes g → q ≡ members_of group g
     → TellsAnswer g q names certificate named answered text → IsAnalysis bytes group certificate answered text
 unnamed bytes text group certificate named answered g q names plain says members tells = record {
@@ -160,7 +160,7 @@ unnamed bytes text group certificate named answered g q names plain says members
 }
 
 -- of a graph of which no node is gone
-plain_file : (bytes : List ℕ) (group : Option (List ℕ)) (certificate : Bool) (answered : Answered) (text : List ℕ)
+plain_file : (bytes : List ℕ) (group : Option (List ℕ)) (certificate : Bool) (answered : ReportOrRefusal) (text : List ℕ)
     → IsTelling bytes [] group certificate false answered text → IsAnalysis bytes group certificate answered text
 plain_file bytes group certificate answered text t = record {
   graph = t.left;
@@ -179,7 +179,7 @@ same_faults A B (fault.Refused n refusal) = refl
 same_faults A B fault.OutOfMemory = refl
 
 plain_begun : {W : Type 0} (bytes : List ℕ) (contents : W → Option (List ℕ)) (before after : SinkState W)
-    (group : Option (List ℕ)) (certificate : Bool) (result : Result Told RunFault)
+    (group : Option (List ℕ)) (certificate : Bool) (result : Result ToldAnalysis RunFault)
     → IsToldOf bytes contents before [] group certificate false after result
     → (after ≡ before)
     ⊎ BeginsAnalysis (Some bytes) group certificate (contents before.writer) (contents after.writer)
@@ -189,7 +189,7 @@ plain_begun bytes contents before after group certificate result t = elim t.begu
 ]
 
 pub plain : {W : Type 0} (bytes : List ℕ) (contents : W → Option (List ℕ)) (before after : SinkState W)
-    (group : Option (List ℕ)) (certificate : Bool) (result : Result Told RunFault)
+    (group : Option (List ℕ)) (certificate : Bool) (result : Result ToldAnalysis RunFault)
     → IsToldOf bytes contents before [] group certificate false after result
     → IsAnalysisOf (Some bytes) contents before group certificate after (answered_of result)
 plain bytes contents before after group certificate (Ok told) t = record {
@@ -203,7 +203,7 @@ plain bytes contents before after group certificate (Ok told) t = record {
 plain bytes contents before after group certificate (Err f) t = record {
   prints = tt;
   begun = plain_begun bytes contents before after group certificate (Err f) t;
-  sink = t.sink ∙ ap (λ n. before.faults + n) (same_faults Told Answered f);
+  sink = t.sink ∙ ap (λ n. before.faults + n) (same_faults ToldAnalysis ReportOrRefusal f);
   unwritten = t.unwritten;
   fault = t.fault;
 }

@@ -13,8 +13,8 @@ use Rattle.ov_run_meaning.specs.Faults.{read_faults, write_faults, IsAnalysisFau
 use Rattle.ov_graphfile.specs.GraphFiles.{IsGraphFile}
 use Rattle.ov_run_meaning.specs.Printed.{report_line, file_text, refused_line}
 use Rattle.ov_run_meaning.specs.Subjects.{members_of}
-use Rattle.ov_answers.specs.declared.report_or_refusal.Answered.{Answered}
-use Rattle.ov_answers.specs.declared.report_or_refusal.Answered.TheVariants.{Report, NoNodes, BadGroup}
+use Rattle.ov_answers.specs.declared.report_or_refusal.ReportOrRefusal.{ReportOrRefusal}
+use Rattle.ov_answers.specs.declared.report_or_refusal.ReportOrRefusal.TheVariants.{Report, NoNodes, BadGroup}
 use Rattle.ov_run_meaning.specs.declared.run_fault.RunFault.{RunFault}
 use Rattle.ov_run_meaning.specs.declared.run_fault.RunFault.TheVariants.{Read, Write}
 
@@ -26,7 +26,7 @@ answer_text c g q true = report_line 0 c g q ++ file_text c g q 0
 -- what is printed of an analysis, and its text: a graph without nodes is refused with 30; ids that are no group of the
 -- nodes are refused with 34; otherwise the answer is printed, a certificate that is valid for the group, with the
 -- number k
-abbrev pub PrintsAnswer : LinkGraph → List ℕ → Bool → Answered → List ℕ → Type 0
+abbrev pub PrintsAnswer : LinkGraph → List ℕ → Bool → ReportOrRefusal → List ℕ → Type 0
 PrintsAnswer g q certificate (Report k) text =
     (c : Cert) × IsAnswer g q c × IsValidForGroup g q c × (k ≡ k_of c) × (text ≡ answer_text c g q certificate)
 PrintsAnswer g q certificate NoNodes text = (¬ HasNode g) × (text ≡ refused_line (even.number_of analysis.NoNodes))
@@ -34,7 +34,7 @@ PrintsAnswer g q certificate BadGroup text =
     HasNode g × (¬ IsGroup g q) × (text ≡ refused_line (even.number_of analysis.BadGroup))
 
 -- the bytes of a file say a graph, and this is printed of its analysis, with this text
-pub record IsAnalysis (bytes : List ℕ) (group : Option (List ℕ)) (certificate : Bool) (answered : Answered)
+pub record IsAnalysis (bytes : List ℕ) (group : Option (List ℕ)) (certificate : Bool) (answered : ReportOrRefusal)
     (text : List ℕ) : Type 0 where
   pub graph : LinkGraph
   pub says : IsGraphFile bytes graph
@@ -42,7 +42,7 @@ pub record IsAnalysis (bytes : List ℕ) (group : Option (List ℕ)) (certificat
 
 -- all that the reader had was read, and the writer took the text of the analysis after what it held
 abbrev pub PrintsAnalysis :
-    Option (List ℕ) → Option (List ℕ) → Bool → Answered → Option (List ℕ) → Option (List ℕ) → Type 0
+    Option (List ℕ) → Option (List ℕ) → Bool → ReportOrRefusal → Option (List ℕ) → Option (List ℕ) → Type 0
 PrintsAnalysis reader group certificate answered before after =
     (bytes : List ℕ) × (text : List ℕ) × IfSome reader (λ xs. bytes ≡ xs)
     × IsAnalysis bytes group certificate answered text
@@ -51,7 +51,7 @@ PrintsAnalysis reader group certificate answered before after =
 -- the same for a prefix of that text
 abbrev pub BeginsAnalysis : Option (List ℕ) → Option (List ℕ) → Bool → Option (List ℕ) → Option (List ℕ) → Type 0
 BeginsAnalysis reader group certificate before after =
-    (bytes : List ℕ) × (answered : Answered) × (text : List ℕ) × IfSome reader (λ xs. bytes ≡ xs)
+    (bytes : List ℕ) × (answered : ReportOrRefusal) × (text : List ℕ) × IfSome reader (λ xs. bytes ≡ xs)
     × IsAnalysis bytes group certificate answered text
     × AppendsPrefixOf text before after
 
@@ -60,7 +60,7 @@ BeginsAnalysis reader group certificate before after =
 -- all nodes without it, and `certificate` asks for the certificate file too.
 pub record IsAnalysisOf {W : Type 0} (reader : Option (List ℕ)) (contents : W → Option (List ℕ))
     (sink_before : SinkState W) (group : Option (List ℕ)) (certificate : Bool) (sink_after : SinkState W)
-    (result : Result Answered RunFault) : Type 0 where
+    (result : Result ReportOrRefusal RunFault) : Type 0 where
   -- without fault, the writer took the text of the analysis after what it held, and nothing else, and what was printed
   -- is returned
   pub prints : IfOk result (λ answered.
@@ -79,7 +79,7 @@ pub record IsAnalysisOf {W : Type 0} (reader : Option (List ℕ)) (contents : W 
 -- that a reader still has, if they are known.
 pub record IsFileAnalysis {R W : Type 0} (remaining : R → Option (List ℕ)) (contents : W → Option (List ℕ))
     (source_before : SourceState R) (sink_before : SinkState W) (group : Option (List ℕ)) (certificate : Bool)
-    (source_after : SourceState R) (sink_after : SinkState W) (result : Result Answered RunFault) : Type 0 where
+    (source_after : SourceState R) (sink_after : SinkState W) (result : Result ReportOrRefusal RunFault) : Type 0 where
   -- it is an analysis of the graph file of the source's reader
   pub analysis : IsAnalysisOf (remaining source_before.reader) contents sink_before group certificate sink_after result
   -- after Read the source counts one more fault, otherwise the same number as before

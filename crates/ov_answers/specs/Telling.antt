@@ -16,13 +16,13 @@ use Rattle.ov_graphfile.specs.NameLines.{AreNamesOf}
 use Rattle.ov_run_meaning.specs.Faults.{write_faults, IsAnalysisFault}
 use Rattle.ov_run_meaning.specs.Printed.{report_line, file_text, refused_line}
 use Rattle.ov_run_meaning.specs.Subjects.{members_of}
-use Rattle.ov_answers.specs.declared.report_or_refusal.Answered.{Answered}
-use Rattle.ov_answers.specs.declared.report_or_refusal.Answered.TheVariants.{Report, NoNodes, BadGroup}
+use Rattle.ov_answers.specs.declared.report_or_refusal.ReportOrRefusal.{ReportOrRefusal}
+use Rattle.ov_answers.specs.declared.report_or_refusal.ReportOrRefusal.TheVariants.{Report, NoNodes, BadGroup}
 use Rattle.ov_run_meaning.specs.declared.run_fault.RunFault.{RunFault}
 use Rattle.ov_run_meaning.specs.declared.run_fault.RunFault.TheVariants.{Write}
 use Rattle.ov_answers.specs.Fewer.{LosesNodes}
 use Rattle.ov_answers.specs.Lines.{AreNameLines}
-use Rattle.ov_answers.specs.declared.request.Told.{Told}
+use Rattle.ov_answers.specs.declared.request.ToldAnalysis.{ToldAnalysis}
 
 -- the lines between the line of an answer and its certificate file: those that name its nodes if names are asked for,
 -- and otherwise none
@@ -45,7 +45,7 @@ TellsReport g q names certificate named k text =
 
 -- what is told of an analysis, and its text. A graph without nodes is refused with 30, and ids that are no group of the
 -- nodes with 34
-abbrev pub TellsAnswer : LinkGraph → List ℕ → NamesState → Bool → Bool → Answered → List ℕ → Type 0
+abbrev pub TellsAnswer : LinkGraph → List ℕ → NamesState → Bool → Bool → ReportOrRefusal → List ℕ → Type 0
 TellsAnswer g q names certificate named (Report k) text = TellsReport g q names certificate named k text
 TellsAnswer g q names certificate named NoNodes text =
     (¬ HasNode g) × (text ≡ refused_line (even.number_of analysis.NoNodes))
@@ -54,7 +54,7 @@ TellsAnswer g q names certificate named BadGroup text =
 
 -- the bytes of a file say a graph and keep names of its nodes, and this is told of the analysis of what is left of it
 -- without the nodes that are gone, with this text
-pub record IsTelling (bytes gone : List ℕ) (group : Option (List ℕ)) (certificate named : Bool) (answered : Answered)
+pub record IsTelling (bytes gone : List ℕ) (group : Option (List ℕ)) (certificate named : Bool) (answered : ReportOrRefusal)
     (text : List ℕ) : Type 0 where
   pub graph : LinkGraph
   pub says : IsGraphFile bytes graph
@@ -70,13 +70,13 @@ pub record IsTelling (bytes gone : List ℕ) (group : Option (List ℕ)) (certif
 -- `named` for the lines with names.
 pub record IsToldOf {W : Type 0} (bytes : List ℕ) (contents : W → Option (List ℕ)) (sink_before : SinkState W)
     (gone : List ℕ) (group : Option (List ℕ)) (certificate named : Bool) (sink_after : SinkState W)
-    (result : Result Told RunFault) : Type 0 where
+    (result : Result ToldAnalysis RunFault) : Type 0 where
   -- without fault, the writer took the text of the analysis after what it held, and nothing else, and what was printed
   -- is returned
   pub tells : IfOk result (λ told. (text : List ℕ) × IsTelling bytes gone group certificate named told.answered text
       × Appends (contents sink_before.writer) (contents sink_after.writer) text)
   -- however it ends, the sink is as before, or the writer took a prefix of the text of the analysis
-  pub begun : (sink_after ≡ sink_before) ⊎ ((answered : Answered) × (text : List ℕ)
+  pub begun : (sink_after ≡ sink_before) ⊎ ((answered : ReportOrRefusal) × (text : List ℕ)
       × IsTelling bytes gone group certificate named answered text
       × AppendsPrefixOf text (contents sink_before.writer) (contents sink_after.writer))
   -- after Write the sink counts one more fault, otherwise the same number as before
@@ -87,6 +87,6 @@ pub record IsToldOf {W : Type 0} (bytes : List ℕ) (contents : W → Option (Li
   pub fault : IfErr result (IsAnalysisFault (Some bytes))
 
 -- what was printed, or the fault
-abbrev pub answered_of : Result Told RunFault → Result Answered RunFault
+abbrev pub answered_of : Result ToldAnalysis RunFault → Result ReportOrRefusal RunFault
 answered_of (Ok told) = Ok told.answered
 answered_of (Err fault) = Err fault

@@ -9,12 +9,12 @@ ghost use Rattle.ov_answers.specs.Telling.{TellsAnswer, AreLinesBetween};
 ghost use Rattle.ov_answers.specs.Code.Begun.{Gains};
 ghost use Rattle.ov_answers.specs.Code.GivenNames.{HasNames, given_names};
 ghost use Rattle.ov_answers.specs.Code.TextFaults.{IsTextFault};
-ghost use Rattle.ov_answers.specs.declared.report_or_refusal.Answered.TheVariants.{Report as report_of};
+ghost use Rattle.ov_answers.specs.declared.report_or_refusal.ReportOrRefusal.TheVariants.{Report as report_of};
 ghost use Rattle.ov_run_meaning.specs.Printed.{report_line, refused_line};
 
 use crate::name_lines::write_lines;
-use crate::report_or_refusal::Answered;
-use crate::request::{Request, Told};
+use crate::report_or_refusal::ReportOrRefusal;
+use crate::request::{Request, ToldAnalysis};
 use crate::sentences::explanation;
 use ov_cert::Cert;
 use ov_crew::{OpenGate, outline_group_watched};
@@ -32,7 +32,7 @@ pub(crate) const FILE_MOMENT: u32 = 0;
 /// What is told of an analysis, and the text of it but for a certificate file.
 #[derive(Drop)]
 pub(crate) struct Answer {
-    pub told: Told,
+    pub told: ToldAnalysis,
     pub text: Vec<u8>,
 }
 
@@ -90,8 +90,8 @@ pub(crate) fn begun_answer(
     let mut text = Vec::from_slice(alloc, line.as_bytes())?;
     write_between(alloc, &mut text, cert, graph, names, request)?;
     let explanation = asked_explanation(alloc, cert, graph, group, names, request)?;
-    let answered = Answered::Report { k: k_of(cert) };
-    let told = Told {
+    let answered = ReportOrRefusal::Report { k: k_of(cert) };
+    let told = ToldAnalysis {
         answered,
         explanation,
     };
@@ -162,19 +162,19 @@ pub(crate) fn refusal(
 {
     match fault {
         AnalyseFault::OutOfMemory => Err(OutOfMemory),
-        AnalyseFault::NoNodes => refused(alloc, Answered::NoNodes, fault.number()),
-        AnalyseFault::BadGroup => refused(alloc, Answered::BadGroup, fault.number()),
+        AnalyseFault::NoNodes => refused(alloc, ReportOrRefusal::NoNodes, fault.number()),
+        AnalyseFault::BadGroup => refused(alloc, ReportOrRefusal::BadGroup, fault.number()),
     }
 }
 
 /// A refusal, with the line of it.
-fn refused(alloc: Global, answered: Answered, number: u32) -> Result<Answer, OutOfMemory>
+fn refused(alloc: Global, answered: ReportOrRefusal, number: u32) -> Result<Answer, OutOfMemory>
     ensures answered { IfOk result (λ answer. answer.told.answered ≡ answered) }
     ensures text { IfOk result (λ answer. answer.text.items ≡ refused_line number) }
 {
     let text = Vec::from_slice(alloc, refused_line(number).as_bytes())?;
     let explanation = None;
-    let told = Told {
+    let told = ToldAnalysis {
         answered,
         explanation,
     };

@@ -12,8 +12,8 @@ ghost use Rattle.ov_answers.specs.Code.GivenNames.{HasNames, given_names};
 ghost use Rattle.ov_answers.specs.Code.ToldOfGraph.{IsToldOfGraph};
 
 use crate::answer_making::{Answer, FILE_MOMENT, answer_without_file, begun_answer, refusal};
-use crate::request::{Request, Told};
-use ov_certwriter::{PlacedAnswer, WritingFault, place_answer, write_certificate};
+use crate::request::{Request, ToldAnalysis};
+use ov_certwriter::{CertificateWriteFault, PlacedAnswer, place_answer, write_certificate};
 use ov_crew::{OpenGate, settle_group_watched};
 use ov_even::{Haul, Watcher};
 use ov_graph::Graph;
@@ -37,7 +37,7 @@ pub(crate) fn tell_graph<T: Threads + Sync, W: Write, P: Watcher>(
     request: &Request<'_>,
     watcher: &mut P,
     sink: &mut Sink<W>,
-) -> Result<Told, RunFault>
+) -> Result<ToldAnalysis, RunFault>
     requires names { HasNames request.now.names (option_map (λ n. n.now) names) }
     requires writes { sink.old.faults < most_faults }
     ensures { IsToldOfGraph graph.now group.now (given_names (option_map (λ n. n.now) names.entry))
@@ -61,7 +61,7 @@ fn tell_with_file<T: Threads + Sync, W: Write, P: Watcher>(
     request: &Request<'_>,
     watcher: &mut P,
     sink: &mut Sink<W>,
-) -> Result<Told, RunFault>
+) -> Result<ToldAnalysis, RunFault>
     requires names { HasNames request.now.names (option_map (λ n. n.now) names) }
     requires writes { sink.old.faults < most_faults }
     ensures { IsToldOfGraph graph.now group.now (given_names (option_map (λ n. n.now) names.entry))
@@ -90,7 +90,7 @@ fn tell_hauls<T: Threads + Sync, W: Write>(
     names: Option<&Names<'_>>,
     request: &Request<'_>,
     sink: &mut Sink<W>,
-) -> Result<Told, RunFault>
+) -> Result<ToldAnalysis, RunFault>
     requires names { HasNames request.now.names (option_map (λ n. n.now) names) }
     requires writes { sink.old.faults < most_faults }
     requires group { IsGroup graph.now group.now }
@@ -119,7 +119,7 @@ fn write_answer<T: Threads + Sync, W: Write>(
     answer: Answer,
     file: Option<&PlacedAnswer<'_>>,
     sink: &mut Sink<W>,
-) -> Result<Told, RunFault>
+) -> Result<ToldAnalysis, RunFault>
     requires writes { sink.old.faults < most_faults }
     ensures told { IfOk result (λ told. told ≡ answer.told) }
     ensures bytes { OnOk result (Appends (W.contents sink.old.writer) (W.contents sink.new.writer)
@@ -161,7 +161,7 @@ fn write_file<T: Threads + Sync, W: Write>(
 {
     match write_certificate(rt, alloc, workers, front, placed, FILE_MOMENT, sink) {
         Ok(()) => Ok(()),
-        Err(WritingFault::Write) => Err(RunFault::Write),
-        Err(WritingFault::OutOfMemory) => Err(RunFault::OutOfMemory),
+        Err(CertificateWriteFault::Write) => Err(RunFault::Write),
+        Err(CertificateWriteFault::OutOfMemory) => Err(RunFault::OutOfMemory),
     }
 }

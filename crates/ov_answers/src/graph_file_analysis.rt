@@ -4,7 +4,7 @@ ghost use Rattle.ov_answers.specs.Analysing.{IsAnalysisOf, IsFileAnalysis};
 
 use crate::answer_making::graph_of;
 use crate::answer_writing::tell_graph;
-use crate::report_or_refusal::Answered;
+use crate::report_or_refusal::ReportOrRefusal;
 use crate::request::Request;
 use ov_even::Watcher;
 use ov_ids::{NodeId, Workers};
@@ -34,7 +34,7 @@ pub fn analyse_file<T: Threads + Sync, R: Read, W: Write, P: Watcher>(
     workers: Workers,
     certificate: bool,
     watcher: &mut P,
-) -> Result<Answered, RunFault>
+) -> Result<ReportOrRefusal, RunFault>
     requires reads { source.old.faults < most_faults }
     requires writes { sink.old.faults < most_faults }
     ensures analysis { IsFileAnalysis R.remaining W.contents source.old sink.old
@@ -64,7 +64,7 @@ pub fn analyse_bytes<T: Threads + Sync, W: Write, P: Watcher>(
     workers: Workers,
     certificate: bool,
     watcher: &mut P,
-) -> Result<Answered, RunFault>
+) -> Result<ReportOrRefusal, RunFault>
     requires writes { sink.old.faults < most_faults }
     ensures analysis { IsAnalysisOf (Some bytes.now) W.contents sink.old (option_map (λ ids. ids.now) group.entry)
         certificate sink.new result }

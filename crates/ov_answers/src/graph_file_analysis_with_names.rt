@@ -5,7 +5,7 @@ ghost use Rattle.ov_answers.specs.Telling.{IsToldOf, answered_of};
 
 use crate::answer_writing::tell_graph;
 use crate::graph_without_nodes::graph_without;
-use crate::request::{Request, Told};
+use crate::request::{Request, ToldAnalysis};
 use ov_even::Watcher;
 use ov_graphfile::{Names, read_named_graph};
 use ov_io::Sink;
@@ -27,7 +27,7 @@ pub fn analyse_told<T: Threads + Sync, W: Write, P: Watcher>(
     sink: &mut Sink<W>,
     request: &Request<'_>,
     watcher: &mut P,
-) -> Result<Told, RunFault>
+) -> Result<ToldAnalysis, RunFault>
     requires writes { sink.old.faults < most_faults }
     ensures told { IsToldOf bytes.now W.contents sink.old request.now.gone.now
         (option_map (λ ids. ids.now) request.now.group) request.now.certificate request.now.names sink.new result }
@@ -47,7 +47,7 @@ fn tell<T: Threads + Sync, W: Write, P: Watcher>(
     sink: &mut Sink<W>,
     request: &Request<'_>,
     watcher: &mut P,
-) -> Result<Told, RunFault>
+) -> Result<ToldAnalysis, RunFault>
     requires writes { sink.old.faults < most_faults }
     ensures told { IsToldOf bytes.now W.contents sink.old request.now.gone.now
         (option_map (λ ids. ids.now) request.now.group) request.now.certificate request.now.names sink.new result }

@@ -18,6 +18,6 @@ pub use graph_file_analysis::{analyse_bytes, analyse_file};
 pub use graph_file_analysis_with_names::analyse_told;
 pub use graph_without_nodes::{graph_without, members_left};
 pub use ov_run_meaning::RunFault;
-pub use report_or_refusal::Answered;
-pub use request::{Request, Told};
+pub use report_or_refusal::ReportOrRefusal;
+pub use request::{Request, ToldAnalysis};
 pub use sentences::explanation;

@@ -1,4 +1,4 @@
-use crate::report_or_refusal::Answered;
+use crate::report_or_refusal::ReportOrRefusal;
 use ov_ids::{NodeId, Workers};
 
 /// What an analysis of a graph file is asked for.
@@ -20,8 +20,8 @@ pub struct Request<'a> {
 
 /// What an analysis of a graph file printed, and what is to be said of it.
 #[derive(Drop)]
-pub struct Told {
-    pub answered: Answered,
+pub struct ToldAnalysis {
+    pub answered: ReportOrRefusal,
     /// The answer in sentences, if that was asked for and there is one.
     pub explanation: Option<String>,
 }

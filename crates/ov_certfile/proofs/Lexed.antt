@@ -23,8 +23,8 @@ use Rattle.ov_certfile.specs.declared.file_keys.Key.{Key}
 use Rattle.ov_certfile.specs.declared.file_keys.Key.TheVariants as key
 use Rattle.ov_certfile.specs.declared.linked_or_split.Verdict.{Verdict}
 use Rattle.ov_certfile.specs.declared.linked_or_split.Verdict.TheVariants as verdict
-use Rattle.ov_certfile.specs.declared.token_cursor.Place.{Place}
-use Rattle.ov_certfile.specs.declared.token_cursor.Place.TheVariants.{Fresh, AfterValue, AfterComma}
+use Rattle.ov_certfile.specs.declared.token_cursor.CursorPlace.{CursorPlace}
+use Rattle.ov_certfile.specs.declared.token_cursor.CursorPlace.TheVariants.{Fresh, AfterValue, AfterComma}
 
 -- ---- lexemes
 
@@ -128,7 +128,7 @@ allowed : (b : Bool) (t : Token) (k : lexer.Place → List Token) (next : lexer.
     → if_allowed b t k next ≡ t ∷ k next
 allowed b t k next e = ap (λ x. if_allowed x t k next) e
 
-pub array_begun : (p : Place) (old new : List ℕ) → may_begin (place_in p) ≡ true
+pub array_begun : (p : CursorPlace) (old new : List ℕ) → may_begin (place_in p) ≡ true
     → lex between old ≡ token Token.begin_array ∷ lex between new
     → tokens_at p old ≡ Token.begin_array ∷ tokens_at Fresh new
 unfolding punctuate
@@ -136,7 +136,7 @@ array_begun p old new may e =
     ap (punctuate (place_in p)) e
     ∙ allowed (may_begin (place_in p)) Token.begin_array (λ n. punctuate n (lex between new)) fresh may
 
-pub object_begun : (p : Place) (old new : List ℕ) → may_begin (place_in p) ≡ true
+pub object_begun : (p : CursorPlace) (old new : List ℕ) → may_begin (place_in p) ≡ true
     → lex between old ≡ token Token.begin_object ∷ lex between new
     → tokens_at p old ≡ Token.begin_object ∷ tokens_at Fresh new
 unfolding punctuate
@@ -144,7 +144,7 @@ object_begun p old new may e =
     ap (punctuate (place_in p)) e
     ∙ allowed (may_begin (place_in p)) Token.begin_object (λ n. punctuate n (lex between new)) fresh may
 
-pub array_ended : (p : Place) (old new : List ℕ) → may_close (place_in p) ≡ true
+pub array_ended : (p : CursorPlace) (old new : List ℕ) → may_close (place_in p) ≡ true
     → lex between old ≡ token Token.end_array ∷ lex between new
     → tokens_at p old ≡ Token.end_array ∷ punctuate after_value (lex between new)
 unfolding punctuate
@@ -152,7 +152,7 @@ array_ended p old new may e =
     ap (punctuate (place_in p)) e
     ∙ allowed (may_close (place_in p)) Token.end_array (λ n. punctuate n (lex between new)) after_value may
 
-pub object_ended : (p : Place) (old new : List ℕ) → may_close (place_in p) ≡ true
+pub object_ended : (p : CursorPlace) (old new : List ℕ) → may_close (place_in p) ≡ true
     → lex between old ≡ token Token.end_object ∷ lex between new
     → tokens_at p old ≡ Token.end_object ∷ punctuate after_value (lex between new)
 unfolding punctuate
@@ -160,7 +160,7 @@ object_ended p old new may e =
     ap (punctuate (place_in p)) e
     ∙ allowed (may_close (place_in p)) Token.end_object (λ n. punctuate n (lex between new)) after_value may
 
-pub number_taken : (p : Place) (s old new : List ℕ) → may_begin (place_in p) ≡ true
+pub number_taken : (p : CursorPlace) (s old new : List ℕ) → may_begin (place_in p) ≡ true
     → lex between old ≡ token (Token.number s) ∷ lex between new
     → tokens_at p old ≡ Token.number s ∷ punctuate after_value (lex between new)
 unfolding punctuate
@@ -169,7 +169,7 @@ number_taken p s old new may e =
     ∙ allowed (may_begin (place_in p)) (Token.number s) (λ n. punctuate n (lex between new)) after_value may
 
 -- a text before a colon is a key
-pub key_taken : (p : Place) (s name old mid new : List ℕ) → may_begin (place_in p) ≡ true → s ≡ name
+pub key_taken : (p : CursorPlace) (s name old mid new : List ℕ) → may_begin (place_in p) ≡ true → s ≡ name
     → lex between old ≡ token (Token.string s) ∷ lex between mid → lex between mid ≡ colon ∷ lex between new
     → tokens_at p old ≡ Token.key name ∷ tokens_at Fresh new
 unfolding punctuate
@@ -179,7 +179,7 @@ key_taken p s name old mid new may is e f =
     ∙ ap (λ t. Token.key t ∷ tokens_at Fresh new) is
 
 -- a text before a comma is a value
-pub text_taken : (p : Place) (s said old mid new : List ℕ) → may_begin (place_in p) ≡ true → s ≡ said
+pub text_taken : (p : CursorPlace) (s said old mid new : List ℕ) → may_begin (place_in p) ≡ true → s ≡ said
     → lex between old ≡ token (Token.string s) ∷ lex between mid → lex between mid ≡ comma ∷ lex between new
     → tokens_at p old ≡ Token.string said ∷ tokens_at AfterComma new
 unfolding punctuate

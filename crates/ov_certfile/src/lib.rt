@@ -33,7 +33,7 @@ pub use linked_or_split::Verdict;
 pub use missing_and_unknown_keys::is_among;
 pub use no_json::NoJson;
 pub use one_line_certificate::CertText;
-pub use reading::{Filed, LAST_MOMENT, Refusal, filed_or_refusal, from_text};
+pub use reading::{Filed, LAST_MOMENT, RefusedFile, filed_or_refusal, from_text};
 pub use token_reading::in_form;
 pub use value_fault::{Misfit, Step, Steps, Wanted};
 pub use version::Version;

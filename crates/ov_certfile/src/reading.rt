@@ -69,7 +69,7 @@ pub fn from_text(alloc: Global, text: &str) -> Result<Filed, FileFault>
 
 /// Why a text is no certificate file.
 #[derive(Drop)]
-pub struct Refusal {
+pub struct RefusedFile {
     /// The first fault.
     pub fault: FileFault,
     /// The JSON value in the text, if there is one.
@@ -78,7 +78,7 @@ pub struct Refusal {
 
 /// Does what `from_text` does, and keeps the JSON value of a text that is refused. A text without a fault that is
 /// written as `to_text` writes it is read token by token, any other by its JSON value.
-pub fn filed_or_refusal(alloc: Global, text: &str) -> Result<Filed, Refusal>
+pub fn filed_or_refusal(alloc: Global, text: &str) -> Result<Filed, RefusedFile>
     ensures filed { IfOk result (λ filed. SaysText text.now (Ok filed)) }
     ensures fault { IfErr result (λ refusal. refusal.fault ≢ FileFault.OutOfMemory
         → SaysText text.now (Err refusal.fault)) }
@@ -88,7 +88,7 @@ pub fn filed_or_refusal(alloc: Global, text: &str) -> Result<Filed, Refusal>
     match in_form(alloc, text) {
         Ok(Some(filed)) => Ok(filed),
         Ok(None) => by_json(alloc, text),
-        Err(_) => Err(Refusal {
+        Err(_) => Err(RefusedFile {
             fault: FileFault::OutOfMemory,
             value: None,
         }),
@@ -96,7 +96,7 @@ pub fn filed_or_refusal(alloc: Global, text: &str) -> Result<Filed, Refusal>
 }
 
 /// Does what `filed_or_refusal` does, by the JSON value of the text.
-fn by_json(alloc: Global, text: &str) -> Result<Filed, Refusal>
+fn by_json(alloc: Global, text: &str) -> Result<Filed, RefusedFile>
     ensures filed { IfOk result (λ filed. SaysText text.now (Ok filed)) }
     ensures fault { IfErr result (λ refusal. refusal.fault ≢ FileFault.OutOfMemory
         → SaysText text.now (Err refusal.fault)) }
@@ -105,7 +105,7 @@ fn by_json(alloc: Global, text: &str) -> Result<Filed, Refusal>
 {
     match json_in(alloc, text) {
         Ok(value) => by_value(alloc, value),
-        Err(fault) => Err(Refusal { fault, value: None }),
+        Err(fault) => Err(RefusedFile { fault, value: None }),
     }
 }
 
@@ -122,7 +122,7 @@ fn json_in(alloc: Global, text: &str) -> Result<Value, FileFault>
 }
 
 /// Reads a file from its JSON value, which is kept if it is refused.
-fn by_value(alloc: Global, value: Value) -> Result<Filed, Refusal>
+fn by_value(alloc: Global, value: Value) -> Result<Filed, RefusedFile>
     ensures filed { IfOk result (λ filed. SaysFile (view value) (Ok filed)) }
     ensures fault { IfErr result (λ refusal. refusal.fault ≢ FileFault.OutOfMemory
         → SaysFile (view value) (Err refusal.fault)) }
@@ -130,7 +130,7 @@ fn by_value(alloc: Global, value: Value) -> Result<Filed, Refusal>
 {
     match from_value(alloc, &value) {
         Ok(filed) => Ok(filed),
-        Err(fault) => Err(Refusal {
+        Err(fault) => Err(RefusedFile {
             fault,
             value: Some(value),
         }),

@@ -42,7 +42,7 @@ impl<T: Drop> From<AllocFailed<T>> for Stop {
 
 /// Where a cursor stands.
 #[derive(Clone, Copy)]
-pub(crate) enum Place {
+pub(crate) enum CursorPlace {
     /// At the beginning, or behind an opening bracket or a colon.
     Fresh,
     /// Behind a value, where no comma follows.
@@ -51,13 +51,13 @@ pub(crate) enum Place {
     AfterComma,
 }
 
-impl Place {
+impl CursorPlace {
     /// Whether a value or a key may begin here.
     #[inline(always)]
     fn may_begin(self) -> bool
         ensures { result ≡ may_begin (place_in self) }
     {
-        matches!(self, Place::Fresh | Place::AfterComma)
+        matches!(self, CursorPlace::Fresh | CursorPlace::AfterComma)
     }
 
     /// Whether a closing bracket may stand here.
@@ -65,7 +65,7 @@ impl Place {
     fn may_close(self) -> bool
         ensures { result ≡ may_close (place_in self) }
     {
-        matches!(self, Place::Fresh | Place::AfterValue)
+        matches!(self, CursorPlace::Fresh | CursorPlace::AfterValue)
     }
 }
 
@@ -74,7 +74,7 @@ impl Place {
 pub(crate) struct TokenCursor<'a> {
     /// The bytes from the next token on.
     rest: &'a [u8],
-    place: Place,
+    place: CursorPlace,
 }
 
 impl<'a> Model for TokenCursor<'a> {
@@ -96,7 +96,7 @@ impl<'a> TokenCursor<'a> {
     {
         TokenCursor {
             rest: after_space(text.as_bytes()),
-            place: Place::Fresh,
+            place: CursorPlace::Fresh,
         }
     }
 
@@ -106,7 +106,7 @@ impl<'a> TokenCursor<'a> {
         ensures { IsTrue result → self.now ≡ [] }
     {
         match self.place {
-            Place::AfterValue => self.rest.is_empty(),
+            CursorPlace::AfterValue => self.rest.is_empty(),
             _ => false,
         }
     }
@@ -129,7 +129,7 @@ impl<'a> TokenCursor<'a> {
             return Err(Stop::OtherForm);
         }
         self.rest = rest;
-        self.place = Place::Fresh;
+        self.place = CursorPlace::Fresh;
         Ok(())
     }
 
@@ -145,7 +145,7 @@ impl<'a> TokenCursor<'a> {
             return Err(Stop::OtherForm);
         }
         self.rest = rest;
-        self.place = Place::Fresh;
+        self.place = CursorPlace::Fresh;
         Ok(())
     }
 
@@ -195,7 +195,7 @@ impl<'a> TokenCursor<'a> {
             return Err(Stop::OtherForm);
         }
         self.rest = rest;
-        self.place = Place::Fresh;
+        self.place = CursorPlace::Fresh;
         Ok(())
     }
 
@@ -214,7 +214,7 @@ impl<'a> TokenCursor<'a> {
             return Err(Stop::OtherForm);
         }
         self.rest = rest;
-        self.place = Place::AfterComma;
+        self.place = CursorPlace::AfterComma;
         Ok(())
     }
 
@@ -246,11 +246,11 @@ impl<'a> TokenCursor<'a> {
         match after_mark(rest, b',') {
             Some(more) => {
                 self.rest = more;
-                self.place = Place::AfterComma;
+                self.place = CursorPlace::AfterComma;
             }
             None => {
                 self.rest = rest;
-                self.place = Place::AfterValue;
+                self.place = CursorPlace::AfterValue;
             }
         }
     }

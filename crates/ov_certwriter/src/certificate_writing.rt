@@ -13,7 +13,7 @@ use crate::answer_by_places::{PlacedAnswer, PlacedEntries};
 use crate::entry_blocks::{BlockSets, write_entries};
 use crate::entry_rooms::largest_room;
 use crate::text_around_entries::Parts;
-use crate::writing_fault::WritingFault;
+use crate::writing_fault::CertificateWriteFault;
 use ov_cert::Cert;
 use ov_certfile::to_text_group;
 use ov_ids::{OutOfMemory, Workers};
@@ -42,7 +42,7 @@ pub fn write_certificate<R: Threads + Sync, W: Write>(
     answer: &PlacedAnswer<'_>,
     moment: u32,
     sink: &mut Sink<W>,
-) -> Result<(), WritingFault>
+) -> Result<(), CertificateWriteFault>
     requires moment { moment ≤ last_moment }
     requires faults { sink.old.faults < most_faults }
     ensures text { OnOk result (Appends (W.contents sink.old.writer) (W.contents sink.new.writer)
@@ -50,7 +50,7 @@ pub fn write_certificate<R: Threads + Sync, W: Write>(
     ensures prefix { AppendsPrefixOf
         (front.now ++ compact_text (data_of answer.now.cert answer.now.graph answer.now.members moment))
         (W.contents sink.old.writer) (W.contents sink.new.writer) }
-    ensures memory { IsErrOf result WritingFault.OutOfMemory → sink.new ≡ sink.old }
+    ensures memory { IsErrOf result CertificateWriteFault.OutOfMemory → sink.new ≡ sink.old }
     ensures faults { sink.new.faults ≡ sink.old.faults + write_faults writing_number result }
 {
     let (outline, graph, group) = (answer.outline(), answer.graph(), answer.members());

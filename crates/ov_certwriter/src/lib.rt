@@ -16,4 +16,4 @@ mod writing_fault;
 
 pub use answer_by_places::{PlacedAnswer, place_answer};
 pub use certificate_writing::write_certificate;
-pub use writing_fault::WritingFault;
+pub use writing_fault::CertificateWriteFault;

@@ -8,7 +8,7 @@ use thiserror::Error;
 
 /// Why a certificate file was not written.
 #[derive(Clone, Copy, Debug, PartialEq, Eq, Error)]
-pub enum WritingFault {
+pub enum CertificateWriteFault {
     /// The writer failed.
     #[error("the writer failed")]
     Write,
@@ -17,44 +17,44 @@ pub enum WritingFault {
     OutOfMemory,
 }
 
-impl WritingFault {
+impl CertificateWriteFault {
     /// The fault's number: 72 for `Write`, 99 for `OutOfMemory`.
     pub fn number(&self) -> u32
         ensures { result ≡ writing_number self.now }
     {
         match self {
-            WritingFault::Write => 72,
-            WritingFault::OutOfMemory => 99,
+            CertificateWriteFault::Write => 72,
+            CertificateWriteFault::OutOfMemory => 99,
         }
     }
 }
 
-impl From<WriteFault> for WritingFault {
-    ghost use Rattle.ov_certwriter.specs.declared.writing_fault.WritingFault.TheVariants.{Write};
+impl From<WriteFault> for CertificateWriteFault {
+    ghost use Rattle.ov_certwriter.specs.declared.writing_fault.CertificateWriteFault.TheVariants.{Write};
 
     ghost from_gives = { λ _ e. e ≡ Write };
 
-    fn from(_fault: WriteFault) -> WritingFault {
-        WritingFault::Write
+    fn from(_fault: WriteFault) -> CertificateWriteFault {
+        CertificateWriteFault::Write
     }
 }
 
-impl From<OutOfMemory> for WritingFault {
-    ghost use Rattle.ov_certwriter.specs.declared.writing_fault.WritingFault.TheVariants.{OutOfMemory};
+impl From<OutOfMemory> for CertificateWriteFault {
+    ghost use Rattle.ov_certwriter.specs.declared.writing_fault.CertificateWriteFault.TheVariants.{OutOfMemory};
 
     ghost from_gives = { λ _ e. e ≡ OutOfMemory };
 
-    fn from(_fault: OutOfMemory) -> WritingFault {
-        WritingFault::OutOfMemory
+    fn from(_fault: OutOfMemory) -> CertificateWriteFault {
+        CertificateWriteFault::OutOfMemory
     }
 }
 
-impl From<AllocError> for WritingFault {
-    ghost use Rattle.ov_certwriter.specs.declared.writing_fault.WritingFault.TheVariants.{OutOfMemory};
+impl From<AllocError> for CertificateWriteFault {
+    ghost use Rattle.ov_certwriter.specs.declared.writing_fault.CertificateWriteFault.TheVariants.{OutOfMemory};
 
     ghost from_gives = { λ _ e. e ≡ OutOfMemory };
 
-    fn from(_error: AllocError) -> WritingFault {
-        WritingFault::OutOfMemory
+    fn from(_error: AllocError) -> CertificateWriteFault {
+        CertificateWriteFault::OutOfMemory
     }
 }

@@ -10,7 +10,7 @@ use Rattle.ov_cert.specs.declared.fault.CheckFault.{CheckFault}
 use Rattle.ov_cert.specs.Verdict.{JudgedForGroup}
 use Rattle.ov_cert.proofs.Validity.Exact.{one_verdict}
 use Rattle.ov_certfile.specs.declared.reading.Filed.{Filed}
-use Rattle.ov_certfile.specs.declared.reading.Refusal.{Refusal}
+use Rattle.ov_certfile.specs.declared.reading.RefusedFile.{RefusedFile}
 use Rattle.ov_certfile.specs.declared.fault.FileFault.{FileFault}
 use Rattle.ov_certfile.specs.declared.fault.FileFault.TheVariants.{OutOfMemory}
 use Rattle.ov_certfile.specs.FaultKinds.{Kind, NotJson, kind_of, kind_in}
@@ -85,7 +85,7 @@ one_outcome bytes (Refused r) (Refused s) p q =
     says_one bytes (Err r.fault) (Err s.fault) p.says q.says in cc
 
 -- bytes that are refused have outcomes alike
-pub refused_alike : {E : Type 0} (bytes : List ℕ) (r : Refusal) (result : Result Outcome E)
+pub refused_alike : {E : Type 0} (bytes : List ℕ) (r : RefusedFile) (result : Result Outcome E)
     → (r.fault ≢ OutOfMemory → IsRefused bytes r)
     → IfOk result (λ o. (o ≡ Refused r) × (r.fault ≢ OutOfMemory))
     → IfOk result (λ o. (u : Outcome) → IsOutcome bytes u → AreAlike u o)
@@ -99,7 +99,7 @@ pub others_alike : {E : Type 0} (bytes : List ℕ) (result : Result Outcome E) �
 others_alike bytes (Err e) is = tt
 others_alike bytes (Ok o) is = λ u other. one_outcome bytes u o other is
 
-pub refused_outcome : {E : Type 0} (bytes : List ℕ) (r : Refusal) (result : Result Outcome E)
+pub refused_outcome : {E : Type 0} (bytes : List ℕ) (r : RefusedFile) (result : Result Outcome E)
     → (r.fault ≢ OutOfMemory → IsRefused bytes r)
     → IfOk result (λ o. (o ≡ Refused r) × (r.fault ≢ OutOfMemory))
     → IfOk result (λ o. IsOutcome bytes o)

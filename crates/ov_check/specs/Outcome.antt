@@ -6,7 +6,7 @@ use Rattle.ov_graph.specs.Joined.{FewestForGroup}
 use Rattle.ov_cert.specs.Valid.{IsValidForGroup, k_of}
 use Rattle.ov_cert.specs.Verdict.{JudgedForGroup}
 use Rattle.ov_certfile.specs.declared.reading.Filed.{Filed}
-use Rattle.ov_certfile.specs.declared.reading.Refusal.{Refusal}
+use Rattle.ov_certfile.specs.declared.reading.RefusedFile.{RefusedFile}
 use Rattle.ov_certfile.specs.declared.fault.FileFault.{FileFault}
 use Rattle.ov_certfile.specs.FaultKinds.{NotJson, kind_of, kind_in}
 use Rattle.ov_certfile.specs.Says.{SaysText}
@@ -23,7 +23,7 @@ abbrev pub HasNoJson : List ℕ → Type 0
 HasNoJson bytes = (¬ IsUtf8 bytes) ⊎ (read bytes ≡ None)
 
 -- the bytes are refused with their first fault. The JSON value in them is kept, if there is one
-pub record IsRefused (bytes : List ℕ) (r : Refusal) : Type 0 where
+pub record IsRefused (bytes : List ℕ) (r : RefusedFile) : Type 0 where
   pub says : BytesSay bytes (Err r.fault)
   pub value : MatchOption r.value (HasNoJson bytes) (λ value. read bytes ≡ Some (view value))
 

@@ -5,7 +5,7 @@ ghost use Rattle.ov_check.specs.Outcome.{BytesSay, IsRefused, IsOutcome, AreAlik
 use crate::check_or_memory_fault::ParallelFault;
 use crate::parallel::check_group_parallel;
 use ov_cert::{CheckFault, check_group};
-use ov_certfile::{FileFault, Filed, NoJson, Refusal, filed_or_refusal};
+use ov_certfile::{FileFault, Filed, NoJson, RefusedFile, filed_or_refusal};
 use ov_ids::OutOfMemory;
 use std::alloc::Global;
 use std::thread::Threads;
@@ -18,7 +18,7 @@ pub enum Outcome {
     /// The file, and the first fault of its certificate.
     Fails { filed: Filed, fault: CheckFault },
     /// Bytes that are not a certificate file.
-    Refused(Refusal),
+    Refused(RefusedFile),
 }
 
 /// The outcome of the bytes of a file. If the certificate holds, its number is exact for its group. Bytes that are not
@@ -54,7 +54,7 @@ pub(crate) fn outcome_parallel(
 
 /// The certificate file in these bytes. Whether its certificate holds is not asked. A refusal has the first fault:
 /// those of `from_text` of `ov_certfile`, and NotJson (60) for bytes that are no UTF-8.
-pub fn filed_in(alloc: Global, bytes: &[u8]) -> Result<Filed, Refusal>
+pub fn filed_in(alloc: Global, bytes: &[u8]) -> Result<Filed, RefusedFile>
     ensures { MatchResult result (λ filed. BytesSay bytes.now (Ok filed))
         (λ refusal. refusal.fault ≢ FileFault.OutOfMemory → IsRefused bytes.now refusal) }
 {
@@ -63,13 +63,13 @@ pub fn filed_in(alloc: Global, bytes: &[u8]) -> Result<Filed, Refusal>
         Err(error) => {
             let no_json = NoJson::no_text(error.valid_up_to());
             let fault = FileFault::NotJson(no_json);
-            Err(Refusal { fault, value: None })
+            Err(RefusedFile { fault, value: None })
         }
     }
 }
 
 /// The outcome of bytes that are refused so. OutOfMemory (99): that is the fault, and nothing is said of the bytes.
-fn of_refusal(refusal: Refusal) -> Result<Outcome, OutOfMemory>
+fn of_refusal(refusal: RefusedFile) -> Result<Outcome, OutOfMemory>
     ensures { IfOk result (λ o. (o ≡ Refused refusal) × (refusal.fault ≢ FileFault.OutOfMemory)) }
 {
     match refusal.fault {

@@ -3,7 +3,7 @@ use crate::found_values::{say_found, say_key};
 use crate::graph_words::tell_graph;
 use crate::near_keys::{guess_known, guess_written, key_at};
 use crate::sentence_parts::{Part, say};
-use ov_certfile::{FileFault, Key, NoJson, Refusal, Verdict, Version, is_among, keys_of};
+use ov_certfile::{FileFault, Key, NoJson, RefusedFile, Verdict, Version, is_among, keys_of};
 use ov_ids::OutOfMemory;
 use serde_json::Value;
 use std::alloc::Global;
@@ -12,7 +12,7 @@ use std::alloc::Global;
 pub(crate) fn tell_refusal(
     alloc: Global,
     text: &mut String,
-    refusal: &Refusal,
+    refusal: &RefusedFile,
 ) -> Result<(), OutOfMemory> {
     match refusal.fault {
         FileFault::NotJson(why) => return tell_no_json(text, why),

@@ -7,8 +7,8 @@ use Rattle.ov_ids.specs.Sets.{without_all}
 use Rattle.ov_io.specs.Device.{SinkState}
 use Rattle.ov_answers.specs.Analysing.{IsAnalysis, PrintsAnswer}
 use Rattle.ov_answers.specs.Telling.{IsTelling, TellsAnswer}
-use Rattle.ov_answers.specs.declared.report_or_refusal.Answered.{Answered}
-use Rattle.ov_answers.specs.declared.report_or_refusal.Answered.TheVariants.{Report, NoNodes, BadGroup}
+use Rattle.ov_answers.specs.declared.report_or_refusal.ReportOrRefusal.{ReportOrRefusal}
+use Rattle.ov_answers.specs.declared.report_or_refusal.ReportOrRefusal.TheVariants.{Report, NoNodes, BadGroup}
 use Rattle.ov_answers.proofs.Fewer.{loses_nobody}
 use Rattle.ov_arguments.specs.declared.arguments.AnalysisRequest.{AnalysisRequest}
 use Rattle.ov_commands.specs.Alarms.{IsAnswered, IsAnsweredOf, IsAskedBy, IsStatusFor, IsStatusOfReader}
@@ -16,17 +16,17 @@ use Rattle.ov_commands.specs.Naming.{AnalysisAsked, AreGone, AreListed, IsGoneGi
 use Rattle.ov_commands.specs.Naming.{WasAnalysed, WasPrintedAlone, WasTold, asked_of, picked}
 use Rattle.ov_commands.specs.Statuses.{alarm_status}
 use Rattle.ov_commands.specs.declared.command_fault.CommandFault.{CommandFault}
-use Rattle.ov_commands.specs.declared.node_lists.NodeLists.{NodeLists}
+use Rattle.ov_commands.specs.declared.node_list_texts.NodeLists.{NodeLists}
 
 -- what was printed is what was answered
-printed : (g : LinkGraph) (q : List ℕ) (certificate : Bool) (answered : Answered) (text : List ℕ)
+printed : (g : LinkGraph) (q : List ℕ) (certificate : Bool) (answered : ReportOrRefusal) (text : List ℕ)
     → PrintsAnswer g q certificate answered text → IsAnswered g q answered
 printed g q certificate (Report k) text is = (is.0, is.1, is.2, is.3)
 printed g q certificate NoNodes text is = is.0
 printed g q certificate BadGroup text is = (is.0, is.1)
 
 -- and so is what was told
-told : (g : LinkGraph) (q : List ℕ) (names : NamesState) (certificate named : Bool) (answered : Answered)
+told : (g : LinkGraph) (q : List ℕ) (names : NamesState) (certificate named : Bool) (answered : ReportOrRefusal)
     (text : List ℕ) → TellsAnswer g q names certificate named answered text → IsAnswered g q answered
 told g q names certificate named (Report k) text is = (is.0, is.2, is.3, is.4)
 told g q names certificate named NoNodes text is = is.0
@@ -38,7 +38,7 @@ all_left None = refl
 all_left (Some members) = refl
 
 -- an analysis without lists answers as is asked
-plain : (bytes text : List ℕ) (asked : AnalysisAsked) (certificate : Bool) (answered : Answered)
+plain : (bytes text : List ℕ) (asked : AnalysisAsked) (certificate : Bool) (answered : ReportOrRefusal)
     → asked.gone ≡ None → asked.group ≡ None → IsAnalysis bytes asked.ids certificate answered text
     → IsAnsweredOf bytes asked answered
 plain bytes text asked certificate answered no_gone no_group is = record {
@@ -54,7 +54,7 @@ plain bytes text asked certificate answered no_gone no_group is = record {
 }
 
 -- one that tells more does
-more : (bytes text : List ℕ) (asked : AnalysisAsked) (gone : List ℕ) (group : Option (List ℕ)) (answered : Answered)
+more : (bytes text : List ℕ) (asked : AnalysisAsked) (gone : List ℕ) (group : Option (List ℕ)) (answered : ReportOrRefusal)
     → AreGone bytes asked gone → IsGroupLeft bytes asked gone group
     → IsTelling bytes gone group asked.certificate asked.named answered text
     → IsAnsweredOf bytes asked answered

@@ -14,11 +14,11 @@ use Rattle.ov_drawing.specs.declared.fault.PictureFault.TheVariants as drawing
 use Rattle.ov_commands.specs.Printing.{IsGraphTextOf, WasGraphPrinted}
 use Rattle.ov_commands.specs.Pictures.{EndsAsAsked, IsDrawable, WasPicturePrinted}
 use Rattle.ov_commands.specs.Code.Endings.{IsNotNamed, WasWritten}
-use Rattle.ov_commands.specs.declared.conversion_fault.FileCommandFault.{FileCommandFault}
-use Rattle.ov_commands.specs.declared.conversion_fault.FileCommandFault.TheVariants.{Refused, Write, OutOfMemory}
+use Rattle.ov_commands.specs.declared.conversion_fault.ConversionFault.{ConversionFault}
+use Rattle.ov_commands.specs.declared.conversion_fault.ConversionFault.TheVariants.{Refused, Write, OutOfMemory}
 
 pub graph_written : {W : Type 0} (bytes text : List ℕ) (contents : W → Option (List ℕ)) (old new : W)
-    (result : Result (Unit {0}) FileCommandFault) → IsGraphTextOf bytes text → WasWritten text contents old new result
+    (result : Result (Unit {0}) ConversionFault) → IsGraphTextOf bytes text → WasWritten text contents old new result
     → WasGraphPrinted bytes contents old new result
 graph_written bytes text contents old new (Ok done) is it = (text, is, it)
 graph_written bytes text contents old new (Err Write) is it = (text, is, it)
@@ -27,7 +27,7 @@ graph_written bytes text contents old new (Err OutOfMemory) is it = absurd it
 
 pub picture_written : {W : Type 0} (bytes : List ℕ) (names : Option (List ℕ)) (entry : Option ChosenEntry)
     (dot : Bool) (text : List ℕ) (contents : W → Option (List ℕ)) (old new : W)
-    (result : Result (Unit {0}) FileCommandFault)
+    (result : Result (Unit {0}) ConversionFault)
     → IsDrawable bytes names entry → EndsAsAsked dot text → WasWritten text contents old new result
     → WasPicturePrinted bytes names entry dot contents old new result
 picture_written bytes names entry dot text contents old new (Ok done) is ends it = (is, (text, ends, it))
@@ -61,7 +61,7 @@ lacks_entry cert entry judged = elim judged [
 -- ---- the refusals
 
 pub undrawn : {W : Type 0} (bytes : List ℕ) (names : Option (List ℕ)) (entry : Option ChosenEntry) (dot : Bool)
-    (contents : W → Option (List ℕ)) (old : W) (f : Filed) (fault : PictureFault) (result : FileCommandFault)
+    (contents : W → Option (List ℕ)) (old : W) (f : Filed) (fault : PictureFault) (result : ConversionFault)
     → IsOutcome bytes (Holds f) → IsRefusedBy drawing.OutOfMemory (PictureJudged f.cert entry) fault
     → (fault ≡ drawing.OutOfMemory → result ≡ OutOfMemory) → (fault ≡ drawing.NoSuchEntry → result ≡ Refused 86)
     → WasPicturePrinted bytes names entry dot contents old old (Err result)
@@ -72,7 +72,7 @@ undrawn bytes names entry dot contents old f drawing.NoSuchEntry result holds ju
     (inr (f, holds, inl (lacks_entry f.cert entry judged, refl)), refl)
 
 pub unnamed : {W : Type 0} (bytes : List ℕ) (names : Option (List ℕ)) (entry : Option ChosenEntry) (dot : Bool)
-    (contents : W → Option (List ℕ)) (old : W) (f : Filed) (fault : FileCommandFault)
+    (contents : W → Option (List ℕ)) (old : W) (f : Filed) (fault : ConversionFault)
     → IsOutcome bytes (Holds f) → shown_paths f.cert entry ≢ None → IsNotNamed names f.graph fault
     → WasPicturePrinted bytes names entry dot contents old old (Err fault)
 unnamed bytes names entry dot contents old f (Refused number) holds has it = (inr (f, holds, inr (has, it)), refl)

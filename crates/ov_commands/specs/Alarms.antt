@@ -7,8 +7,8 @@ use Rattle.ov_cert.specs.declared.cert.Cert.{Cert}
 use Rattle.ov_even.specs.Answer.{IsAnswer}
 use Rattle.ov_run_meaning.specs.Subjects.{members_of}
 use Rattle.ov_answers.specs.Fewer.{LosesNodes}
-use Rattle.ov_answers.specs.declared.report_or_refusal.Answered.{Answered}
-use Rattle.ov_answers.specs.declared.report_or_refusal.Answered.TheVariants.{Report, NoNodes, BadGroup}
+use Rattle.ov_answers.specs.declared.report_or_refusal.ReportOrRefusal.{ReportOrRefusal}
+use Rattle.ov_answers.specs.declared.report_or_refusal.ReportOrRefusal.TheVariants.{Report, NoNodes, BadGroup}
 use Rattle.ov_arguments.specs.declared.arguments.AnalysisRequest.{AnalysisRequest}
 use Rattle.ov_commands.specs.Naming.{AnalysisAsked, AreGone, IsGoneGiven, IsGroupLeft, IsListGiven}
 use Rattle.ov_commands.specs.Statuses.{alarm_status}
@@ -24,14 +24,14 @@ pub record IsAskedBy (analysis : AnalysisRequest) (asked : AnalysisAsked) : Type
 
 -- what an analysis answers of a graph and a group: the number k of a certificate that is valid for them; or there is no
 -- answer, since the graph has no node, or since the ids are no group of its nodes
-abbrev pub IsAnswered : LinkGraph → List ℕ → Answered → Type 0
+abbrev pub IsAnswered : LinkGraph → List ℕ → ReportOrRefusal → Type 0
 IsAnswered g q (Report k) = (c : Cert) × IsAnswer g q c × IsValidForGroup g q c × (k ≡ k_of c)
 IsAnswered g q NoNodes = ¬ HasNode g
 IsAnswered g q BadGroup = HasNode g × (¬ IsGroup g q)
 
 -- this is answered of the graph file of these bytes, as is asked: of its graph without the nodes that are gone, and of
 -- the members of the group that are left
-pub record IsAnsweredOf (bytes : List ℕ) (asked : AnalysisAsked) (answered : Answered) : Type 0 where
+pub record IsAnsweredOf (bytes : List ℕ) (asked : AnalysisAsked) (answered : ReportOrRefusal) : Type 0 where
   pub graph : LinkGraph
   pub says : IsGraphFile bytes graph
   pub gone : List ℕ
@@ -45,7 +45,7 @@ pub record IsAnsweredOf (bytes : List ℕ) (asked : AnalysisAsked) (answered : A
 -- the status of what is answered of the graph file of these bytes
 abbrev pub IsStatusFor : List ℕ → AnalysisAsked → ℕ → Type 0
 IsStatusFor bytes asked status =
-    (answered : Answered) × IsAnsweredOf bytes asked answered × (status ≡ alarm_status asked.least answered)
+    (answered : ReportOrRefusal) × IsAnsweredOf bytes asked answered × (status ≡ alarm_status asked.least answered)
 
 -- the status of what is answered of the graph file of a reader that had these bytes, if they are known
 abbrev pub IsStatusOfReader : Option (List ℕ) → AnalysisAsked → ℕ → Type 0

@@ -13,7 +13,7 @@ use Rattle.ov_dump.specs.declared.graph_making_fault.DumpFault.TheVariants as du
 use Rattle.ov_dump.specs.Edges.{SaysEdges, IsEdgesFault}
 use Rattle.ov_dump.specs.FaultNumbers as reading
 use Rattle.ov_dump.specs.Views.{SaysViews, IsViewsFault}
-use Rattle.ov_dump.specs.declared.reading_fault.ReadingFault.TheVariants as reading_fault
+use Rattle.ov_dump.specs.declared.reading_fault.DumpReadFault.TheVariants as reading_fault
 use Rattle.ov_lines.specs.FileKinds.{kind_of}
 use Rattle.ov_lines.specs.declared.file_kinds.FileKind.{FileKind}
 use Rattle.ov_lines.specs.declared.file_kinds.FileKind.TheVariants as kind
@@ -22,8 +22,8 @@ use Rattle.ov_dump.specs.declared.refusal_or_write_fault.ImportFault.{ImportFaul
 use Rattle.ov_dump.specs.declared.refusal_or_write_fault.ImportFault.TheVariants as import
 use Rattle.ov_commands.specs.declared.import_command.UnreadDump.{UnreadDump}
 use Rattle.ov_commands.specs.declared.import_command.UnreadDump.TheVariants as unread
-use Rattle.ov_commands.specs.declared.conversion_fault.FileCommandFault.{FileCommandFault}
-use Rattle.ov_commands.specs.declared.conversion_fault.FileCommandFault.TheVariants.{Refused, Write, OutOfMemory}
+use Rattle.ov_commands.specs.declared.conversion_fault.ConversionFault.{ConversionFault}
+use Rattle.ov_commands.specs.declared.conversion_fault.ConversionFault.TheVariants.{Refused, Write, OutOfMemory}
 
 -- ---- the dump
 
@@ -63,14 +63,14 @@ choice_of request = record { either = request.either; entries_only = request.ent
 -- ---- the faults
 
 -- the fault of the command for bytes that are no dump
-abbrev pub number_of_unread : UnreadDump → FileCommandFault
+abbrev pub number_of_unread : UnreadDump → ConversionFault
 number_of_unread (unread.Reading reading_fault.OutOfMemory) = OutOfMemory
 number_of_unread (unread.Reading fault) = Refused (reading.number_of fault)
 number_of_unread (unread.Dot dot_fault.OutOfMemory) = OutOfMemory
 number_of_unread (unread.Dot fault) = Refused (dot.number_of fault)
 
 -- the fault of the command for a dump from which no graph follows, or whose graph can't be written
-abbrev pub command_fault : ImportFault → FileCommandFault
+abbrev pub command_fault : ImportFault → ConversionFault
 command_fault (import.Refused dump_fault.OutOfMemory) = OutOfMemory
 command_fault (import.Refused fault) = Refused (dump.number_of fault)
 command_fault import.Write = Write
@@ -85,7 +85,7 @@ WasDumpImported form request bytes contents old new result =
 -- what a writer took of the graph that follows from a dump that is read in this form, by `WasImported`; and nothing, if
 -- the bytes are no dump of this form
 abbrev pub WasReadAndPrinted : {W : Type 0} → DumpFormat → ImportRequest → List ℕ → (W → Option (List ℕ)) → W → W
-    → Result (Unit {0}) FileCommandFault → Type 0
+    → Result (Unit {0}) ConversionFault → Type 0
 WasReadAndPrinted form request bytes contents old new (Ok done) =
     WasDumpImported form request bytes contents old new (Ok done)
 WasReadAndPrinted form request bytes contents old new (Err ended) =
@@ -96,7 +96,7 @@ WasReadAndPrinted form request bytes contents old new (Err ended) =
 -- what the command does: it reads and prints the dump in its form; if it has none, since the bytes look like another
 -- file than a dump and no form is asked for, nothing is written, and 88 is the fault
 abbrev pub WasDumpPrinted : {W : Type 0} → ImportRequest → List ℕ → (W → Option (List ℕ)) → W → W
-    → Result (Unit {0}) FileCommandFault → Type 0
+    → Result (Unit {0}) ConversionFault → Type 0
 WasDumpPrinted request bytes contents old new result =
     ((form : DumpFormat) × IsForm request.format bytes (Some form)
     × WasReadAndPrinted form request bytes contents old new result)

@@ -5,12 +5,12 @@ use Rattle.ov_io.specs.Refusal.{refusal_text}
 use Rattle.ov_run_meaning.specs.Faults.{run_fault_text}
 use Rattle.ov_commands.specs.declared.command_fault.CommandFault.{CommandFault}
 use Rattle.ov_commands.specs.declared.command_fault.CommandFault.TheVariants.{Group, OfFile, Run}
-use Rattle.ov_commands.specs.declared.conversion_fault.FileCommandFault.{FileCommandFault}
-use Rattle.ov_commands.specs.declared.conversion_fault.FileCommandFault.TheVariants.{Refused, Write, OutOfMemory}
+use Rattle.ov_commands.specs.declared.conversion_fault.ConversionFault.{ConversionFault}
+use Rattle.ov_commands.specs.declared.conversion_fault.ConversionFault.TheVariants.{Refused, Write, OutOfMemory}
 
 -- the number of a fault of a command that turns one file into another: that of what was refused, or one of those that
 -- are chosen for all programs
-abbrev pub command_number : FileCommandFault → ℕ
+abbrev pub command_number : ConversionFault → ℕ
 command_number (Refused number) = number
 command_number Write = 72
 command_number OutOfMemory = 99

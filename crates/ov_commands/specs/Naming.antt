@@ -15,13 +15,13 @@ use Rattle.ov_io.specs.Device.{SinkState}
 use Rattle.ov_lines.specs.Lines.{kept_lines}
 use Rattle.ov_answers.specs.Analysing.{IsAnalysisOf}
 use Rattle.ov_answers.specs.Telling.{IsToldOf}
-use Rattle.ov_answers.specs.declared.request.Told.{Told}
+use Rattle.ov_answers.specs.declared.request.ToldAnalysis.{ToldAnalysis}
 use Rattle.ov_arguments.specs.declared.arguments.AnalysisRequest.{AnalysisRequest}
 use Rattle.ov_run_meaning.specs.declared.run_fault.RunFault.TheVariants as run
 use Rattle.ov_commands.specs.Statuses.{HasAnalysed, alarm_status}
 use Rattle.ov_commands.specs.declared.command_fault.CommandFault.{CommandFault}
 use Rattle.ov_commands.specs.declared.command_fault.CommandFault.TheVariants.{Group, Run}
-use Rattle.ov_commands.specs.declared.node_lists.NodeLists.{NodeLists}
+use Rattle.ov_commands.specs.declared.node_list_texts.NodeLists.{NodeLists}
 
 -- ---- lists of nodes
 
@@ -134,7 +134,7 @@ IsGroupLeft bytes asked gone group =
 abbrev pub WasTold : {W : Type 0} → List ℕ → AnalysisAsked → (W → Option (List ℕ)) → SinkState W → SinkState W
     → Result ℕ CommandFault → Type 0
 WasTold bytes asked contents old new (Ok status) =
-    (gone : List ℕ) × (group : Option (List ℕ)) × (told : Told) × AreGone bytes asked gone
+    (gone : List ℕ) × (group : Option (List ℕ)) × (told : ToldAnalysis) × AreGone bytes asked gone
     × IsGroupLeft bytes asked gone group
     × IsToldOf bytes contents old gone group asked.certificate asked.named new (Ok told)
     × (status ≡ alarm_status asked.least told.answered)

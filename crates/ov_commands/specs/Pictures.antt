@@ -19,8 +19,8 @@ use Rattle.ov_io.specs.Device.{AppendsPrefixOf}
 use Rattle.ov_drawing.specs.Chosen.{shown_paths}
 use Rattle.ov_drawing.specs.declared.chosen_entry.ChosenEntry.{ChosenEntry}
 use Rattle.ov_drawing.specs.declared.chosen_entry.ChosenEntry.TheVariants.{Pair, Fan}
-use Rattle.ov_commands.specs.declared.conversion_fault.FileCommandFault.{FileCommandFault}
-use Rattle.ov_commands.specs.declared.conversion_fault.FileCommandFault.TheVariants.{Refused, Write, OutOfMemory}
+use Rattle.ov_commands.specs.declared.conversion_fault.ConversionFault.{ConversionFault}
+use Rattle.ov_commands.specs.declared.conversion_fault.ConversionFault.TheVariants.{Refused, Write, OutOfMemory}
 
 -- the entry of a certificate that is asked for
 abbrev pub chosen_entry : Option AskedEntry → Option ChosenEntry
@@ -80,7 +80,7 @@ pub record IsDrawable (bytes : List ℕ) (names : Option (List ℕ)) (entry : Op
 -- what a writer took of a picture: a text in the format that is asked for, or a prefix of one if writing failed; and
 -- nothing, if the picture is refused or memory ran out
 abbrev pub WasPicturePrinted : {W : Type 0} → List ℕ → Option (List ℕ) → Option ChosenEntry → Bool
-    → (W → Option (List ℕ)) → W → W → Result (Unit {0}) FileCommandFault → Type 0
+    → (W → Option (List ℕ)) → W → W → Result (Unit {0}) ConversionFault → Type 0
 WasPicturePrinted bytes names entry dot contents old new (Ok done) =
     IsDrawable bytes names entry
     × ((text : List ℕ) × EndsAsAsked dot text × Appends (contents old) (contents new) text)

@@ -7,8 +7,8 @@ use Rattle.ov_certfile.specs.declared.reading.Filed.{Filed}
 use Rattle.ov_check.specs.Outcome.{BytesSay}
 use Rattle.ov_graphfile.specs.GraphTexts.{graph_text}
 use Rattle.ov_io.specs.Device.{AppendsPrefixOf}
-use Rattle.ov_commands.specs.declared.conversion_fault.FileCommandFault.{FileCommandFault}
-use Rattle.ov_commands.specs.declared.conversion_fault.FileCommandFault.TheVariants.{Refused, Write, OutOfMemory}
+use Rattle.ov_commands.specs.declared.conversion_fault.ConversionFault.{ConversionFault}
+use Rattle.ov_commands.specs.declared.conversion_fault.ConversionFault.TheVariants.{Refused, Write, OutOfMemory}
 
 -- these bytes are a certificate file, and this is the text of its graph as a graph file
 abbrev pub IsGraphTextOf : List ℕ → List ℕ → Type 0
@@ -17,7 +17,7 @@ IsGraphTextOf bytes text = (f : Filed) × BytesSay bytes (Ok f) × (text ≡ gra
 -- what a writer took of the graph of a certificate file: all of its text; a prefix of it, if writing failed; and
 -- nothing, if the bytes are no certificate file, with the number of their first fault, or if memory ran out
 abbrev pub WasGraphPrinted :
-    {W : Type 0} → List ℕ → (W → Option (List ℕ)) → W → W → Result (Unit {0}) FileCommandFault → Type 0
+    {W : Type 0} → List ℕ → (W → Option (List ℕ)) → W → W → Result (Unit {0}) ConversionFault → Type 0
 WasGraphPrinted bytes contents old new (Ok done) =
     (text : List ℕ) × IsGraphTextOf bytes text × Appends (contents old) (contents new) text
 WasGraphPrinted bytes contents old new (Err Write) =

@@ -9,8 +9,8 @@ use crate::analyse_in_names_or_words::analyse_in_words;
 use crate::analysis_progress::PieceProgress;
 use crate::command_fault::CommandFault;
 use crate::least_number_alarm::alarm_status;
-use crate::node_lists::{NodeLists, lists_of};
-use ov_answers::{Answered, analyse_bytes};
+use crate::node_list_texts::{NodeLists, lists_of};
+use ov_answers::{ReportOrRefusal, analyse_bytes};
 use ov_arguments::AnalysisRequest;
 use ov_ids::NodeId;
 use ov_io::Sink;
@@ -94,7 +94,7 @@ pub fn analyse_from<T: Threads + Sync, R: Read + Drop, W: Write>(
 fn status_of_analysis(
     rt: &HostRuntime,
     least: Option<u32>,
-    answer: Result<Answered, RunFault>,
+    answer: Result<ReportOrRefusal, RunFault>,
 ) -> Result<u8, CommandFault>
     ensures returned { result ≡ analysis_status least answer }
     ensures status { IfOk result (IsAlarmStatus least) }
@@ -114,7 +114,7 @@ fn analyse_told<T: Threads + Sync, W: Write>(
     sink: &mut Sink<W>,
     file: Option<&str>,
     analysis: &AnalysisRequest,
-) -> Result<Answered, RunFault>
+) -> Result<ReportOrRefusal, RunFault>
     requires { sink.old.faults < most_faults }
     ensures analysis { IsAnalysisOf (Some bytes.now) W.contents sink.old
         (option_map (λ ids. ids.items) analysis.now.group) analysis.now.certificate sink.new result }
@@ -131,8 +131,8 @@ fn analyse_told<T: Threads + Sync, W: Write>(
         &mut progress,
     );
     match &answer {
-        Ok(Answered::Report { .. }) => {}
-        Ok(Answered::NoNodes | Answered::BadGroup) => {
+        Ok(ReportOrRefusal::Report { .. }) => {}
+        Ok(ReportOrRefusal::NoNodes | ReportOrRefusal::BadGroup) => {
             print_refusal(rt, bytes, analysis.group.as_deref());
         }
         Err(fault) => {

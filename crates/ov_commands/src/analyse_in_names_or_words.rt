@@ -10,9 +10,9 @@ use crate::analyse_command::print_refusal;
 use crate::analysis_progress::PieceProgress;
 use crate::command_fault::CommandFault;
 use crate::least_number_alarm::alarm_status;
-use crate::listed_nodes::{ListedNodes, listed_nodes};
-use crate::node_lists::NodeLists;
-use ov_answers::{Answered, Request, Told, analyse_told, members_left};
+use crate::listed_ids::{ListedNodes, listed_nodes};
+use crate::node_list_texts::NodeLists;
+use ov_answers::{ReportOrRefusal, Request, ToldAnalysis, analyse_told, members_left};
 use ov_arguments::AnalysisRequest;
 use ov_ids::{NodeId, OutOfMemory};
 use ov_io::Sink;
@@ -132,16 +132,20 @@ fn ids_of(list: &Option<Vec<NodeId>>) -> &[NodeId]
 }
 
 /// Says an answer in words, if that is asked for, or why there is none.
-fn explain(rt: &HostRuntime, bytes: &[u8], request: &Request<'_>, told: &Told) {
+fn explain(rt: &HostRuntime, bytes: &[u8], request: &Request<'_>, told: &ToldAnalysis) {
     match told.answered {
-        Answered::Report { .. } => {
+        ReportOrRefusal::Report { .. } => {
             if let Some(text) = &told.explanation {
                 let _ = eprint!(rt; "{text}");
             }
         }
-        Answered::NoNodes if !request.gone.is_empty() => {
+        ReportOrRefusal::NoNodes if !request.gone.is_empty() => {
             let _ = eprintln!(rt; "--without: no node is left");
         }
-        Answered::NoNodes | Answered::BadGroup => print_refusal(rt, bytes, request.group),
+        ReportOrRefusal::NoNodes | ReportOrRefusal::BadGroup => print_refusal(
+            rt,
+            bytes,
+            request.group,
+        ),
     }
 }

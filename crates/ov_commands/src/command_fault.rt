@@ -1,7 +1,7 @@
 ghost use Rattle.std.specs.Prelude.{◌≡◌};
 ghost use Rattle.ov_commands.specs.declared.command_fault.CommandFault.TheVariants.{Group, OfFile, Run};
 
-use crate::conversion_fault::FileCommandFault;
+use crate::conversion_fault::ConversionFault;
 use ov_graphfile::GroupFault;
 use ov_run_meaning::RunFault;
 use std::fmt::{Display, Formatter, Result as Printed, Write};
@@ -14,7 +14,7 @@ pub enum CommandFault {
     /// A text names no group of the nodes of a graph file.
     Group(GroupFault),
     /// `overlay import`, `overlay picture` or `overlay graph` ended before its end.
-    OfFile(FileCommandFault),
+    OfFile(ConversionFault),
 }
 
 impl From<RunFault> for CommandFault {
@@ -33,10 +33,10 @@ impl From<GroupFault> for CommandFault {
     }
 }
 
-impl From<FileCommandFault> for CommandFault {
+impl From<ConversionFault> for CommandFault {
     ghost from_gives = { λ fault e. e ≡ OfFile fault };
 
-    fn from(fault: FileCommandFault) -> CommandFault {
+    fn from(fault: ConversionFault) -> CommandFault {
         CommandFault::OfFile(fault)
     }
 }

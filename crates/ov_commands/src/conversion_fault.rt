@@ -1,7 +1,7 @@
 ghost use Rattle.std.specs.Prelude.{◌≡◌};
 ghost use Rattle.ov_commands.specs.Faults.{command_number};
-ghost use Rattle.ov_commands.specs.declared.conversion_fault.FileCommandFault.TheVariants.{OutOfMemory as no_room};
-ghost use Rattle.ov_commands.specs.declared.conversion_fault.FileCommandFault.TheVariants.{Write as write_failed};
+ghost use Rattle.ov_commands.specs.declared.conversion_fault.ConversionFault.TheVariants.{OutOfMemory as no_room};
+ghost use Rattle.ov_commands.specs.declared.conversion_fault.ConversionFault.TheVariants.{Write as write_failed};
 
 use ov_ids::OutOfMemory;
 use ov_io::WriteFault;
@@ -11,7 +11,7 @@ use std::fmt::{Display, Formatter, Result as Printed, Write};
 /// Why a command that turns one file into another ended before its end. It is shown as the line that is printed on
 /// standard error. (The numbers are chosen here.)
 #[derive(Clone, Copy, Debug, PartialEq, Eq)]
-pub enum FileCommandFault {
+pub enum ConversionFault {
     /// What the file says is refused, with this number.
     Refused { number: u32 },
     /// The result can't be written (72).
@@ -20,20 +20,20 @@ pub enum FileCommandFault {
     OutOfMemory,
 }
 
-impl FileCommandFault {
+impl ConversionFault {
     /// The fault's number.
     pub fn number(&self) -> u32
         ensures { result ≡ command_number self.now }
     {
         match self {
-            FileCommandFault::Refused { number } => *number,
-            FileCommandFault::Write => 72,
-            FileCommandFault::OutOfMemory => 99,
+            ConversionFault::Refused { number } => *number,
+            ConversionFault::Write => 72,
+            ConversionFault::OutOfMemory => 99,
         }
     }
 }
 
-impl Display for FileCommandFault {
+impl Display for ConversionFault {
     ghost use Rattle.std.specs.Prelude.{Some};
     ghost use Rattle.ov_io.specs.Refusal.{refusal_text};
 
@@ -45,34 +45,34 @@ impl Display for FileCommandFault {
     }
 }
 
-impl From<WriteFault> for FileCommandFault {
+impl From<WriteFault> for ConversionFault {
     ghost from_gives = { λ _ e. e ≡ write_failed };
 
-    fn from(_fault: WriteFault) -> FileCommandFault {
-        FileCommandFault::Write
+    fn from(_fault: WriteFault) -> ConversionFault {
+        ConversionFault::Write
     }
 }
 
-impl From<OutOfMemory> for FileCommandFault {
+impl From<OutOfMemory> for ConversionFault {
     ghost from_gives = { λ _ e. e ≡ no_room };
 
-    fn from(_fault: OutOfMemory) -> FileCommandFault {
-        FileCommandFault::OutOfMemory
+    fn from(_fault: OutOfMemory) -> ConversionFault {
+        ConversionFault::OutOfMemory
     }
 }
 
-impl From<AllocError> for FileCommandFault {
+impl From<AllocError> for ConversionFault {
     ghost from_gives = { λ _ e. e ≡ no_room };
 
-    fn from(_error: AllocError) -> FileCommandFault {
-        FileCommandFault::OutOfMemory
+    fn from(_error: AllocError) -> ConversionFault {
+        ConversionFault::OutOfMemory
     }
 }
 
-impl<T: Drop> From<AllocFailed<T>> for FileCommandFault {
+impl<T: Drop> From<AllocFailed<T>> for ConversionFault {
     ghost from_gives = { λ _ e. e ≡ no_room };
 
-    fn from(_error: AllocFailed<T>) -> FileCommandFault {
-        FileCommandFault::OutOfMemory
+    fn from(_error: AllocFailed<T>) -> ConversionFault {
+        ConversionFault::OutOfMemory
     }
 }

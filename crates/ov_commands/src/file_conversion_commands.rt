@@ -8,7 +8,7 @@ ghost use Rattle.ov_io.specs.Device.{most_faults};
 ghost use Rattle.ov_commands.specs.Statuses.{HasDone, HasRead, command_status};
 
 use crate::command_fault::CommandFault;
-use crate::conversion_fault::FileCommandFault;
+use crate::conversion_fault::ConversionFault;
 use crate::graph_file_out_of_certificate_file::print_graph;
 use crate::import_command::print_dump;
 use crate::picture_printing::print_picture;
@@ -158,7 +158,7 @@ fn graph_from<R: Read + Drop, W: Write>(
 }
 
 /// What the program returns after a command that did so: status 0, or the fault of the command.
-pub(crate) fn status_of(done: Result<(), FileCommandFault>) -> Result<u8, CommandFault>
+pub(crate) fn status_of(done: Result<(), ConversionFault>) -> Result<u8, CommandFault>
     ensures returned { result ≡ command_status done }
     ensures status { IfOk result (λ status. status ≡ 0) }
 {
@@ -175,11 +175,11 @@ fn with_tip(
     bytes: &[u8],
     file: Option<&str>,
     wanted: FileKind,
-    printed: Result<(), FileCommandFault>,
-) -> Result<(), FileCommandFault>
+    printed: Result<(), ConversionFault>,
+) -> Result<(), ConversionFault>
     ensures { result ≡ printed }
 {
-    if let Err(FileCommandFault::Refused { .. }) = &printed {
+    if let Err(ConversionFault::Refused { .. }) = &printed {
         print_file_tip(rt, bytes, file, wanted);
     }
     printed

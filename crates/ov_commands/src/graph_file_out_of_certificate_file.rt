@@ -4,11 +4,11 @@ ghost use Rattle.ov_certfile.specs.declared.fault.FileFault.TheVariants.{OutOfMe
 ghost use Rattle.ov_io.specs.Device.{most_faults};
 ghost use Rattle.ov_commands.specs.Printing.{WasGraphPrinted};
 ghost use Rattle.ov_commands.specs.Code.Endings.{WasWritten};
-ghost use Rattle.ov_commands.specs.declared.conversion_fault.FileCommandFault.TheVariants.{OutOfMemory as no_room};
-ghost use Rattle.ov_commands.specs.declared.conversion_fault.FileCommandFault.TheVariants.{Refused};
+ghost use Rattle.ov_commands.specs.declared.conversion_fault.ConversionFault.TheVariants.{OutOfMemory as no_room};
+ghost use Rattle.ov_commands.specs.declared.conversion_fault.ConversionFault.TheVariants.{Refused};
 
-use crate::conversion_fault::FileCommandFault;
-use ov_certfile::{FileFault, Refusal};
+use crate::conversion_fault::ConversionFault;
+use ov_certfile::{FileFault, RefusedFile};
 use ov_check::{Outcome, filed_in};
 use ov_check_reasons::reasons;
 use ov_graphfile::graph_text;
@@ -25,14 +25,14 @@ pub fn print_graph<W: Write>(
     rt: &HostRuntime,
     bytes: &[u8],
     sink: &mut Sink<W>,
-) -> Result<(), FileCommandFault>
+) -> Result<(), ConversionFault>
     requires { sink.old.faults < most_faults }
     ensures printed { WasGraphPrinted bytes.now W.contents sink.old.writer sink.new.writer result }
 {
     match filed_in(rt.alloc(), bytes) {
         Ok(filed) => match graph_text(rt.alloc(), &filed.graph) {
             Ok(text) => written(rt, &text, sink),
-            Err(_) => Err(told(rt, FileCommandFault::OutOfMemory)),
+            Err(_) => Err(told(rt, ConversionFault::OutOfMemory)),
         },
         Err(refusal) => Err(no_certificate_file(rt, refusal)),
     }
@@ -43,26 +43,26 @@ pub(crate) fn written<W: Write>(
     rt: &HostRuntime,
     text: &[u8],
     sink: &mut Sink<W>,
-) -> Result<(), FileCommandFault>
+) -> Result<(), ConversionFault>
     requires { sink.old.faults < most_faults }
     ensures { WasWritten text.now W.contents sink.old.writer sink.new.writer result }
 {
     match sink.write_all(text) {
         Ok(()) => Ok(()),
-        Err(_) => Err(told(rt, FileCommandFault::Write)),
+        Err(_) => Err(told(rt, ConversionFault::Write)),
     }
 }
 
 /// Ends since bytes are no certificate file. Prints why.
-fn no_certificate_file(rt: &HostRuntime, refusal: Refusal) -> FileCommandFault
+fn no_certificate_file(rt: &HostRuntime, refusal: RefusedFile) -> ConversionFault
     ensures memory { refusal.fault ≡ no_memory → result ≡ no_room }
     ensures number { refusal.fault ≢ no_memory → result ≡ Refused (number_of refusal.fault) }
 {
     let number = refusal.fault.number();
     match refusal.fault {
-        FileFault::OutOfMemory => told(rt, FileCommandFault::OutOfMemory),
+        FileFault::OutOfMemory => told(rt, ConversionFault::OutOfMemory),
         _ => {
-            let ended = FileCommandFault::Refused { number };
+            let ended = ConversionFault::Refused { number };
             let _ = eprintln!(rt; "{ended}");
             print_reason(rt, refusal);
             ended
@@ -71,7 +71,7 @@ fn no_certificate_file(rt: &HostRuntime, refusal: Refusal) -> FileCommandFault
 }
 
 /// Prints why bytes are no certificate file, in words. Prints nothing if an allocation for it is refused.
-fn print_reason(rt: &HostRuntime, refusal: Refusal) {
+fn print_reason(rt: &HostRuntime, refusal: RefusedFile) {
     let outcome = Outcome::Refused(refusal);
     if let Ok(reason) = reasons(rt.alloc(), &outcome) {
         let _ = eprintln!(rt; "{reason}");
@@ -93,13 +93,13 @@ pub(crate) fn tell_no_json(rt: &HostRuntime, bytes: &[u8]) -> bool {
 }
 
 /// Prints the line of a fault, and what it means.
-pub(crate) fn told(rt: &HostRuntime, fault: FileCommandFault) -> FileCommandFault
+pub(crate) fn told(rt: &HostRuntime, fault: ConversionFault) -> ConversionFault
     ensures { result ≡ fault }
 {
     let meaning = match fault {
-        FileCommandFault::Refused { .. } => "the file is refused\n",
-        FileCommandFault::Write => WRITING_FAILED,
-        FileCommandFault::OutOfMemory => "out of memory\n",
+        ConversionFault::Refused { .. } => "the file is refused\n",
+        ConversionFault::Write => WRITING_FAILED,
+        ConversionFault::OutOfMemory => "out of memory\n",
     };
     let _ = eprint!(rt; "{fault}\n{meaning}");
     fault

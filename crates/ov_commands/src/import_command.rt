@@ -2,14 +2,14 @@ ghost use Rattle.std.specs.Prelude.{◌≡◌, ◌<◌, Err, IfOk, IfErr};
 ghost use Rattle.ov_io.specs.Device.{most_faults};
 ghost use Rattle.ov_commands.specs.Dumps.{IsForm, IsUnreadDump, SaysDump, WasDumpPrinted, WasReadAndPrinted};
 ghost use Rattle.ov_commands.specs.Dumps.{command_fault, form_of_kind, number_of_unread};
-ghost use Rattle.ov_commands.specs.declared.conversion_fault.FileCommandFault.TheVariants.{Refused};
+ghost use Rattle.ov_commands.specs.declared.conversion_fault.ConversionFault.TheVariants.{Refused};
 
-use crate::conversion_fault::FileCommandFault;
+use crate::conversion_fault::ConversionFault;
 use crate::graph_file_out_of_certificate_file::{tell_no_json, told};
 use ov_arguments::{DumpFormat, ImportRequest};
 use ov_dot::{DotFault, read_dot};
 use ov_dump::{
-    Choice, Dump, DumpFault, ImportFault, ReadingFault, import_dump, import_notes, line_notes,
+    Choice, Dump, DumpFault, DumpReadFault, ImportFault, import_dump, import_notes, line_notes,
     read_edges, read_views,
 };
 use ov_io::Sink;
@@ -21,7 +21,7 @@ use std::io::Write;
 #[derive(Drop)]
 pub(crate) enum UnreadDump {
     /// They are no views or no edges.
-    Reading(ReadingFault),
+    Reading(DumpReadFault),
     /// They are no DOT.
     Dot(DotFault),
 }
@@ -46,7 +46,7 @@ pub fn print_dump<W: Write>(
     bytes: &[u8],
     request: ImportRequest,
     sink: &mut Sink<W>,
-) -> Result<(), FileCommandFault>
+) -> Result<(), ConversionFault>
     requires { sink.old.faults < most_faults }
     ensures printed { WasDumpPrinted request bytes.now W.contents sink.old.writer sink.new.writer result }
 {
@@ -66,7 +66,7 @@ fn read_and_print<W: Write>(
     format: DumpFormat,
     request: ImportRequest,
     sink: &mut Sink<W>,
-) -> Result<(), FileCommandFault>
+) -> Result<(), ConversionFault>
     requires { sink.old.faults < most_faults }
     ensures { WasReadAndPrinted format request bytes.now W.contents sink.old.writer sink.new.writer result }
 {
@@ -111,10 +111,10 @@ fn form_of_kind(kind: FileKind) -> Option<DumpFormat>
 }
 
 /// Ends since bytes look like another file than a dump. Prints what they look like, and how they are read all the same.
-fn no_dump(rt: &HostRuntime, bytes: &[u8]) -> FileCommandFault
+fn no_dump(rt: &HostRuntime, bytes: &[u8]) -> ConversionFault
     ensures { result ≡ Refused 88 }
 {
-    let ended = FileCommandFault::Refused { number: NO_DUMP };
+    let ended = ConversionFault::Refused { number: NO_DUMP };
     let kind = looks_like(bytes);
     let what = kind.words();
     let otherwise = match kind {
@@ -132,11 +132,11 @@ fn with_guess(
     rt: &HostRuntime,
     asked: Option<DumpFormat>,
     format: DumpFormat,
-    printed: Result<(), FileCommandFault>,
-) -> Result<(), FileCommandFault>
+    printed: Result<(), ConversionFault>,
+) -> Result<(), ConversionFault>
     ensures { result ≡ printed }
 {
-    if let Err(FileCommandFault::Refused { number }) = &printed {
+    if let Err(ConversionFault::Refused { number }) = &printed {
         if asked.is_none() {
             let words = guess_words(format);
             let more = more_forms(*number);
@@ -189,23 +189,22 @@ fn read_dump(alloc: Global, bytes: &[u8], format: DumpFormat) -> Result<Dump, Un
 }
 
 /// Ends since bytes are no dump. Prints why.
-fn unread(rt: &HostRuntime, bytes: &[u8], fault: &UnreadDump) -> FileCommandFault
+fn unread(rt: &HostRuntime, bytes: &[u8], fault: &UnreadDump) -> ConversionFault
     ensures { result ≡ number_of_unread fault.now }
 {
     match fault {
-        UnreadDump::Reading(ReadingFault::OutOfMemory) | UnreadDump::Dot(DotFault::OutOfMemory) => {
-            told(rt, FileCommandFault::OutOfMemory)
-        }
+        UnreadDump::Reading(DumpReadFault::OutOfMemory) | UnreadDump::Dot(DotFault::OutOfMemory) =>
+            { told(rt, ConversionFault::OutOfMemory) }
         UnreadDump::Reading(reading) => {
             let number = reading.number();
-            let ended = FileCommandFault::Refused { number };
+            let ended = ConversionFault::Refused { number };
             let _ = eprintln!(rt; "{ended}");
             tell_unread(rt, bytes, reading);
             ended
         }
         UnreadDump::Dot(dot) => {
             let number = dot.number();
-            let ended = FileCommandFault::Refused { number };
+            let ended = ConversionFault::Refused { number };
             let _ = eprintln!(rt; "{ended}\n{dot}");
             ended
         }
@@ -213,24 +212,24 @@ fn unread(rt: &HostRuntime, bytes: &[u8], fault: &UnreadDump) -> FileCommandFaul
 }
 
 /// Prints why bytes are no views or no edges. If they are no JSON, prints where.
-fn tell_unread(rt: &HostRuntime, bytes: &[u8], fault: &ReadingFault) {
-    if !matches!(fault, ReadingFault::NotJson) || !tell_no_json(rt, bytes) {
+fn tell_unread(rt: &HostRuntime, bytes: &[u8], fault: &DumpReadFault) {
+    if !matches!(fault, DumpReadFault::NotJson) || !tell_no_json(rt, bytes) {
         let _ = eprintln!(rt; "{fault}");
     }
 }
 
 /// Ends since nothing, or not all, was imported. Prints why.
-fn not_imported(rt: &HostRuntime, fault: &ImportFault, format: DumpFormat) -> FileCommandFault
+fn not_imported(rt: &HostRuntime, fault: &ImportFault, format: DumpFormat) -> ConversionFault
     ensures { result ≡ command_fault fault.now }
 {
     match fault {
         ImportFault::Refused(DumpFault::OutOfMemory) | ImportFault::OutOfMemory => {
-            told(rt, FileCommandFault::OutOfMemory)
+            told(rt, ConversionFault::OutOfMemory)
         }
-        ImportFault::Write => told(rt, FileCommandFault::Write),
+        ImportFault::Write => told(rt, ConversionFault::Write),
         ImportFault::Refused(refusal) => {
             let number = refusal.number();
-            let ended = FileCommandFault::Refused { number };
+            let ended = ConversionFault::Refused { number };
             let _ = eprintln!(rt; "{ended}");
             tell_refusal(rt, refusal, place_word(format));
             ended

@@ -2,13 +2,13 @@
 ghost use Rattle.std.specs.Prelude.{◌≡◌, ◌⊎◌, nat_lt, if◌then◌else◌};
 ghost use Rattle.ov_commands.specs.Statuses.{IsAlarmStatus, alarm_status};
 
-use ov_answers::Answered;
+use ov_answers::ReportOrRefusal;
 
 /// The status of the alarm. (Chosen here.)
 const ALARM: u8 = 3;
 
 /// The status of an analysis that was answered so, if this least number is asked for. Prints why there is an alarm.
-pub(crate) fn alarm_status(rt: &HostRuntime, least: Option<u32>, answered: Answered) -> u8
+pub(crate) fn alarm_status(rt: &HostRuntime, least: Option<u32>, answered: ReportOrRefusal) -> u8
     ensures status { result ≡ alarm_status least answered }
     ensures few { IsAlarmStatus least result }
 {
@@ -16,8 +16,8 @@ pub(crate) fn alarm_status(rt: &HostRuntime, least: Option<u32>, answered: Answe
         return 0;
     };
     match answered {
-        Answered::Report { k } => status_of_number(rt, k, asked),
-        Answered::NoNodes | Answered::BadGroup => {
+        ReportOrRefusal::Report { k } => status_of_number(rt, k, asked),
+        ReportOrRefusal::NoNodes | ReportOrRefusal::BadGroup => {
             let _ = eprintln!(rt; "there is no k, and --at-least asks for {asked}");
             ALARM
         }

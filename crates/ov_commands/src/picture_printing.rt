@@ -6,11 +6,11 @@ ghost use Rattle.ov_io.specs.Device.{most_faults};
 ghost use Rattle.ov_commands.specs.Pictures.{WasPicturePrinted, EndsAsAsked, NamesGraph, chosen_entry};
 ghost use Rattle.ov_commands.specs.Pictures.{outcome_number};
 ghost use Rattle.ov_commands.specs.Code.Endings.{IsNotHeld, IsNotNamed};
-ghost use Rattle.ov_commands.specs.declared.conversion_fault.FileCommandFault.TheVariants as ended;
+ghost use Rattle.ov_commands.specs.declared.conversion_fault.ConversionFault.TheVariants as ended;
 
-use crate::conversion_fault::FileCommandFault;
-use crate::existing_entries_tip::entries_of;
+use crate::conversion_fault::ConversionFault;
 use crate::graph_file_out_of_certificate_file::{told, written};
+use crate::pairs_and_fans_tip::entries_of;
 use ov_arguments::{AskedEntry, PictureRequest};
 use ov_cert::Cert;
 use ov_certfile::Filed;
@@ -44,7 +44,7 @@ pub fn print_picture<W: Write>(
     names: Option<&[u8]>,
     request: &PictureRequest,
     sink: &mut Sink<W>,
-) -> Result<(), FileCommandFault>
+) -> Result<(), ConversionFault>
     requires { sink.old.faults < most_faults }
     ensures holds { OnOk result (SaysExactNumber bytes.now) }
     ensures printed { WasPicturePrinted bytes.now (option_map (λ file. file.now) names.entry)
@@ -68,19 +68,19 @@ pub fn print_picture<W: Write>(
 }
 
 /// The certificate file in these bytes, if its certificate holds. Else prints why not.
-fn held(rt: &HostRuntime, bytes: &[u8]) -> Result<Filed, FileCommandFault>
+fn held(rt: &HostRuntime, bytes: &[u8]) -> Result<Filed, ConversionFault>
     ensures held { MatchResult result (λ filed. IsOutcome bytes.now (Holds filed)) (IsNotHeld bytes.now) }
     ensures exact { OnOk result (SaysExactNumber bytes.now) }
 {
     match outcome_of(rt.alloc(), bytes) {
         Ok(Outcome::Holds(filed)) => Ok(filed),
         Ok(outcome) => Err(not_held(rt, &outcome)),
-        Err(_) => Err(told(rt, FileCommandFault::OutOfMemory)),
+        Err(_) => Err(told(rt, ConversionFault::OutOfMemory)),
     }
 }
 
 /// Ends since no certificate holds. Prints the line of the outcome, as `overlay-check` does, and why.
-fn not_held(rt: &HostRuntime, outcome: &Outcome) -> FileCommandFault
+fn not_held(rt: &HostRuntime, outcome: &Outcome) -> ConversionFault
     ensures { result ≡ ended.Refused (outcome_number outcome.now) }
 {
     let number = match outcome {
@@ -92,7 +92,7 @@ fn not_held(rt: &HostRuntime, outcome: &Outcome) -> FileCommandFault
     if let Ok(reason) = reasons(rt.alloc(), outcome) {
         let _ = eprintln!(rt; "{reason}");
     }
-    FileCommandFault::Refused { number }
+    ConversionFault::Refused { number }
 }
 
 /// The entry whose paths are drawn.
@@ -107,12 +107,12 @@ fn chosen(entry: &Option<AskedEntry>) -> Option<ChosenEntry>
 }
 
 /// Ends since nothing is drawn of this certificate. Prints why, and which entries it has.
-fn not_drawn(rt: &HostRuntime, cert: &Cert, fault: PictureFault) -> FileCommandFault
+fn not_drawn(rt: &HostRuntime, cert: &Cert, fault: PictureFault) -> ConversionFault
     ensures memory { fault ≡ PictureFault.OutOfMemory → result ≡ ended.OutOfMemory }
     ensures entry { fault ≡ PictureFault.NoSuchEntry → result ≡ ended.Refused 86 }
 {
     match fault {
-        PictureFault::OutOfMemory => told(rt, FileCommandFault::OutOfMemory),
+        PictureFault::OutOfMemory => told(rt, ConversionFault::OutOfMemory),
         PictureFault::NoSuchEntry => {
             let ended = refused(rt, fault.number(), "the certificate has no such entry");
             if let Ok(entries) = entries_of(rt.alloc(), cert) {
@@ -124,10 +124,10 @@ fn not_drawn(rt: &HostRuntime, cert: &Cert, fault: PictureFault) -> FileCommandF
 }
 
 /// Ends with this number. Prints it, and why.
-fn refused(rt: &HostRuntime, number: u32, why: &str) -> FileCommandFault
+fn refused(rt: &HostRuntime, number: u32, why: &str) -> ConversionFault
     ensures { result ≡ ended.Refused number }
 {
-    let ended = FileCommandFault::Refused { number };
+    let ended = ConversionFault::Refused { number };
     let _ = eprintln!(rt; "{ended}\n{why}");
     ended
 }
@@ -139,7 +139,7 @@ fn picture_text(
     drawing: &Drawing,
     names: Option<&[u8]>,
     request: &PictureRequest,
-) -> Result<String, FileCommandFault>
+) -> Result<String, ConversionFault>
     ensures named { MatchResult result (λ text. NamesGraph (option_map (λ file. file.now) names.entry) graph.now)
         (IsNotNamed (option_map (λ file. file.now) names.entry) graph.now) }
     ensures format { IfOk result (λ text. EndsAsAsked request.now.dot (string_bytes text)) }
@@ -153,7 +153,7 @@ fn picture_text(
     };
     match text {
         Ok(text) => Ok(text),
-        Err(_) => Err(told(rt, FileCommandFault::OutOfMemory)),
+        Err(_) => Err(told(rt, ConversionFault::OutOfMemory)),
     }
 }
 
@@ -164,7 +164,7 @@ fn names_of<'a>(
     graph: &'a Graph,
     file: &'a [u8],
     path: Option<&str>,
-) -> Result<Names<'a>, FileCommandFault>
+) -> Result<Names<'a>, ConversionFault>
     ensures { MatchResult result (λ _. NamesGraph (Some file.now) graph.now) (IsNotNamed (Some file.now) graph.now) }
 {
     match read_named_graph(rt.alloc(), file) {
@@ -175,7 +175,7 @@ fn names_of<'a>(
             let why = "the graph file with the names says another graph than the certificate";
             Err(refused(rt, OTHER_GRAPH, why))
         }
-        Err(GraphFileFault::OutOfMemory) => Err(told(rt, FileCommandFault::OutOfMemory)),
+        Err(GraphFileFault::OutOfMemory) => Err(told(rt, ConversionFault::OutOfMemory)),
         Err(fault) => Err(no_graph_file(rt, file, path, &fault)),
     }
 }
@@ -187,11 +187,11 @@ fn no_graph_file(
     bytes: &[u8],
     path: Option<&str>,
     fault: &GraphFileFault,
-) -> FileCommandFault
+) -> ConversionFault
     ensures { result ≡ ended.Refused (graph_file_number fault.now) }
 {
     let number = fault.number();
-    let ended = FileCommandFault::Refused { number };
+    let ended = ConversionFault::Refused { number };
     let _ = match line_at_fault(fault) {
         Some(line) => eprintln!(rt; "{ended}\nline {line} of the file with the names is at fault"),
         None => eprintln!(rt; "{ended}"),

@@ -5,12 +5,12 @@ use Rattle.std.specs.Prelude.{if◌then◌else◌}
 use Rattle.std.specs.List.{list_all}
 use Rattle.std.specs.Bool.{then_some}
 use Rattle.std.specs.Char.{is_ascii_digit}
-use Rattle.ov_dot.specs.declared.lexeme_scanning.Place.{Place}
-use Rattle.ov_dot.specs.declared.lexeme_scanning.Place.TheVariants.{Start, LineFeed, Slash, LineComment}
-use Rattle.ov_dot.specs.declared.lexeme_scanning.Place.TheVariants.{BlockComment}
-use Rattle.ov_dot.specs.declared.lexeme_scanning.Place.TheVariants.{BlockStar, Word, Minus, Point, Digits}
-use Rattle.ov_dot.specs.declared.lexeme_scanning.Place.TheVariants.{Fraction}
-use Rattle.ov_dot.specs.declared.lexeme_scanning.Place.TheVariants.{Text, Escaped, Angle, End}
+use Rattle.ov_dot.specs.declared.lexeme_scanning.ScanPlace.{ScanPlace}
+use Rattle.ov_dot.specs.declared.lexeme_scanning.ScanPlace.TheVariants.{Start, LineFeed, Slash, LineComment}
+use Rattle.ov_dot.specs.declared.lexeme_scanning.ScanPlace.TheVariants.{BlockComment}
+use Rattle.ov_dot.specs.declared.lexeme_scanning.ScanPlace.TheVariants.{BlockStar, Word, Minus, Point, Digits}
+use Rattle.ov_dot.specs.declared.lexeme_scanning.ScanPlace.TheVariants.{Fraction}
+use Rattle.ov_dot.specs.declared.lexeme_scanning.ScanPlace.TheVariants.{Text, Escaped, Angle, End}
 use Rattle.ov_dot.specs.Parts.{is_blank, is_mark, is_letter, is_word_byte, is_in_line, line_feed, is_empty}
 use Rattle.ov_dot.specs.Parts.{ends_comment, is_comment_rest, is_feed_rest, ends_quoted, ends_html, is_digits}
 use Rattle.ov_dot.specs.Parts.{is_decimal_rest, is_decimal, is_dash_rest, is_part}
@@ -18,21 +18,21 @@ use Rattle.ov_dot.specs.Code.Scanning.{accepts, decimal_place}
 
 -- in both cases of a test
 by_test :
-    (bs : List ℕ) (v : Bool) (x y : Option Place) (p q : Bool) → accepts x bs ≡ p → accepts y bs ≡ q
+    (bs : List ℕ) (v : Bool) (x y : Option ScanPlace) (p q : Bool) → accepts x bs ≡ p → accepts y bs ≡ q
     → accepts (if v then x else y) bs ≡ (if v then p else q)
 by_test bs true x y p q first other = first
 by_test bs false x y p q first other = other
 
 -- the same of a place
 by_place :
-    (bs : List ℕ) (v : Bool) (x y : Place) (p q : Bool) → accepts (Some x) bs ≡ p → accepts (Some y) bs ≡ q
+    (bs : List ℕ) (v : Bool) (x y : ScanPlace) (p q : Bool) → accepts (Some x) bs ≡ p → accepts (Some y) bs ≡ q
     → accepts (Some (if v then x else y)) bs ≡ (if v then p else q)
 by_place bs true x y p q first other = first
 by_place bs false x y p q first other = other
 
 -- if the test passes
 by_some :
-    (bs : List ℕ) (v : Bool) (x : Place) (p : Bool) → accepts (Some x) bs ≡ p → accepts (then_some v x) bs ≡ (v && p)
+    (bs : List ℕ) (v : Bool) (x : ScanPlace) (p : Bool) → accepts (Some x) bs ≡ p → accepts (then_some v x) bs ≡ (v && p)
 by_some bs true x p first = first
 by_some bs false x p first = refl
 

@@ -10,14 +10,14 @@ use Rattle.ov_dot.specs.declared.token.Kind.TheVariants.{Strict, Graph, Digraph,
 use Rattle.ov_dot.specs.declared.token.Kind.TheVariants.{Quoted, Html, OpenBrace, CloseBrace, OpenBracket}
 use Rattle.ov_dot.specs.declared.token.Kind.TheVariants.{CloseBracket, Semicolon, Comma, Equals, Colon, Line}
 use Rattle.ov_dot.specs.declared.token.Kind.TheVariants.{Arrow}
-use Rattle.ov_dot.specs.declared.grammar_state.Place.{Place}
-use Rattle.ov_dot.specs.declared.grammar_state.Place.TheVariants.{Beginning, BehindStrict, BehindKind, BehindTitle}
-use Rattle.ov_dot.specs.declared.grammar_state.Place.TheVariants.{Body, Named}
-use Rattle.ov_dot.specs.declared.grammar_state.Place.TheVariants.{Member, PortNext, Ported, CompassNext, Directed}
-use Rattle.ov_dot.specs.declared.grammar_state.Place.TheVariants.{EndNext}
-use Rattle.ov_dot.specs.declared.grammar_state.Place.TheVariants.{ListNext, InList, Attribute, ValueNext, Valued}
-use Rattle.ov_dot.specs.declared.grammar_state.Place.TheVariants.{Listed}
-use Rattle.ov_dot.specs.declared.grammar_state.Place.TheVariants.{AssignedNext, SubgraphNext, SubgraphTitled, Over}
+use Rattle.ov_dot.specs.declared.grammar_state.GrammarPlace.{GrammarPlace}
+use Rattle.ov_dot.specs.declared.grammar_state.GrammarPlace.TheVariants.{Beginning, BehindStrict, BehindKind, BehindTitle}
+use Rattle.ov_dot.specs.declared.grammar_state.GrammarPlace.TheVariants.{Body, Named}
+use Rattle.ov_dot.specs.declared.grammar_state.GrammarPlace.TheVariants.{Member, PortNext, Ported, CompassNext, Directed}
+use Rattle.ov_dot.specs.declared.grammar_state.GrammarPlace.TheVariants.{EndNext}
+use Rattle.ov_dot.specs.declared.grammar_state.GrammarPlace.TheVariants.{ListNext, InList, Attribute, ValueNext, Valued}
+use Rattle.ov_dot.specs.declared.grammar_state.GrammarPlace.TheVariants.{Listed}
+use Rattle.ov_dot.specs.declared.grammar_state.GrammarPlace.TheVariants.{AssignedNext, SubgraphNext, SubgraphTitled, Over}
 use Rattle.ov_dot.specs.declared.fault.DotFault.{DotFault}
 use Rattle.ov_dot.specs.declared.fault.DotFault.TheVariants.{UnreadLine}
 use Rattle.ov_dot.specs.declared.fault.Why.TheVariants.{WrongEdge}
@@ -141,7 +141,7 @@ abbrev HeadingLeft : Bool → ℕ → List Lexeme → Type 0
 HeadingLeft d n ts = d ≡ false → (directed : Bool) × TokenThen (graph_kind directed) (TitleLeft directed n) ts
 
 -- what is left of a file at a place
-abbrev Left : Bool → ℕ → Place → List Lexeme → Type 0
+abbrev Left : Bool → ℕ → GrammarPlace → List Lexeme → Type 0
 Left d n Beginning ts = Then spell_strictness (HeadingLeft d n) ts
 Left d n BehindStrict ts = HeadingLeft d n ts
 Left d n BehindKind ts = TitleLeft d n ts
@@ -166,7 +166,7 @@ Left d n SubgraphTitled ts = BraceLeft d n ts
 Left d n Over ts = ts ≡ []
 
 -- what is left behind a token of a kind, where the diagram leads to a place, or nowhere
-abbrev Goes : Bool → ℕ → Kind → List Lexeme → Option Place → Type 0
+abbrev Goes : Bool → ℕ → Kind → List Lexeme → Option GrammarPlace → Type 0
 Goes d n kind ts None = ⊥
 Goes d n kind ts (Some place) =
     (is_wrong_edge d kind ≡ false) × Left (directed_behind d kind) (depth_behind n kind) (place_behind n kind place) ts
@@ -174,14 +174,14 @@ Goes d n kind ts (Some place) =
 -- ---- one token more, in front
 
 by_name :
-    (kind : Kind) (s : Spot) (d : Bool) (n : ℕ) (ts : List Lexeme) (place : Place)
+    (kind : Kind) (s : Spot) (d : Bool) (n : ℕ) (ts : List Lexeme) (place : GrammarPlace)
     → Goes d n kind ts (name_to place kind) → NameThen (Left d n place) (token kind s ∷ ts)
 by_name Bare s d n ts place goes = (Word s, ts, goes.1, refl)
 by_name Quoted s d n ts place goes = (Text s, ts, goes.1, refl)
 by_name kind s d n ts place goes = absurd goes
 
 by_text :
-    (kind : Kind) (s : Spot) (d : Bool) (n : ℕ) (ts : List Lexeme) (place : Place)
+    (kind : Kind) (s : Spot) (d : Bool) (n : ℕ) (ts : List Lexeme) (place : GrammarPlace)
     → Goes d n kind ts (value_to place kind) → ValueThen (Left d n place) (token kind s ∷ ts)
 by_text Html s d n ts place goes = (HtmlValue s, ts, goes.1, refl)
 by_text Bare s d n ts place goes = (NameValue (Word s), ts, goes.1, refl)
@@ -388,7 +388,7 @@ by_brace OpenBrace s d n ts goes = (s, ts, goes.1, refl)
 by_brace kind s d n ts goes = absurd goes
 
 by_title :
-    (kind : Kind) (s : Spot) (d : Bool) (n : ℕ) (ts : List Lexeme) (place : Place)
+    (kind : Kind) (s : Spot) (d : Bool) (n : ℕ) (ts : List Lexeme) (place : GrammarPlace)
     → (Left d n place ts → BraceLeft d n ts) → Goes d n kind ts (title_to place kind)
     → TitleLeft d n (token kind s ∷ ts)
 by_title OpenBrace s d n ts place brace goes = (Unnamed, token OpenBrace s ∷ ts, (s, ts, goes.1, refl), refl)
@@ -410,7 +410,7 @@ by_strict Strict s d n ts goes = (IsStrict s, ts, goes.1, refl)
 by_strict kind s d n ts goes = (Lax, token kind s ∷ ts, by_heading kind s d n ts goes, refl)
 
 by_place :
-    (place : Place) (kind : Kind) (s : Spot) (d : Bool) (n : ℕ) (ts : List Lexeme)
+    (place : GrammarPlace) (kind : Kind) (s : Spot) (d : Bool) (n : ℕ) (ts : List Lexeme)
     → Goes d n kind ts (follows place kind) → Left d n place (token kind s ∷ ts)
 by_place Beginning kind s d n ts goes = by_strict kind s d n ts goes
 by_place BehindStrict kind s d n ts goes = by_heading kind s d n ts goes
@@ -446,13 +446,13 @@ not_ok {X} fault x is = subst (λ (r : Result X DotFault). Fails r) is tt
 
 -- the end of the text
 none_left :
-    (place : Place) (r : Reading) (d : Bool) (n : ℕ) (said now : Said) → ended r place said ≡ Ok now → Left d n place []
+    (place : GrammarPlace) (r : Reading) (d : Bool) (n : ℕ) (said now : Said) → ended r place said ≡ Ok now → Left d n place []
 none_left Over r d n said now is = refl
 none_left place r d n said now is = absurd (not_ok _ now is)
 
 -- the next token, if all that are left are read
 edge_fits :
-    (wrong : Bool) (r : Reading) (t : Lexeme) (place : Place) (said now : Said) (ts : List Lexeme)
+    (wrong : Bool) (r : Reading) (t : Lexeme) (place : GrammarPlace) (said now : Said) (ts : List Lexeme)
     → ((next : Reading) → read_on (Ok next) said ts ≡ Ok now → Left next.directed next.depth next.place ts)
     → is_wrong_edge r.directed t.kind ≡ wrong
     → read_on (cond wrong (Err (UnreadLine t.line WrongEdge)) (Ok (moved r t place))) said ts ≡ Ok now
@@ -462,7 +462,7 @@ edge_fits true r t place said now ts later is reads = absurd (not_ok _ now reads
 edge_fits false r t place said now ts later is reads = (is, later (moved r t place) reads)
 
 goes_on :
-    (place : Option Place) (r : Reading) (t : Lexeme) (said now : Said) (ts : List Lexeme)
+    (place : Option GrammarPlace) (r : Reading) (t : Lexeme) (said now : Said) (ts : List Lexeme)
     → ((next : Reading) → read_on (Ok next) said ts ≡ Ok now → Left next.directed next.depth next.place ts)
     → read_on (step_to r t place) said ts ≡ Ok now → Goes r.directed r.depth t.kind ts place
 unfolding read_on

@@ -12,13 +12,13 @@ use Rattle.ov_dot.specs.Names.{text_of}
 use Rattle.std.specs.List.{list_any}
 use Rattle.std.specs.BTreeMap.{is_at}
 use Rattle.std.specs.Cmp.Lexicographic.{pointwise, texts_ties, nat_list_eq_equiv}
-use Rattle.ov_dump.specs.declared.dump_and_graph_types.Entry.{Entry}
+use Rattle.ov_dump.specs.declared.dump_and_graph_types.HostEntry.{HostEntry}
 use Rattle.ov_dump.specs.FirstEntries.{AreFirsts}
 use Rattle.ov_ids.specs.Members.{Has}
 use Rattle.ov_dot.specs.Dumps.{entry_of}
 use Rattle.ov_dot.specs.Code.Entered.{entries_with, has_entry}
 
-any_more : (p : Entry → Bool) (es : List Entry) (e : Entry) → list_any p (es ++ e ∷ []) ≡ (list_any p es || p e)
+any_more : (p : HostEntry → Bool) (es : List HostEntry) (e : HostEntry) → list_any p (es ++ e ∷ []) ≡ (list_any p es || p e)
 any_more p [] e = elim (p e) as (λ v. (v || false) ≡ v) [ true ↦ refl | false ↦ refl ]
 any_more p (x ∷ xs) e =
     elim (p x) as (λ v. (v || list_any p (xs ++ e ∷ [])) ≡
@@ -36,7 +36,7 @@ is_same q k =
 
 -- one name more
 pub seen_more :
-    (has now_has : String Global → Bool) (k : String Global) (entries : List Entry) (e : Entry)
+    (has now_has : String Global → Bool) (k : String Global) (entries : List HostEntry) (e : HostEntry)
     → ((q : String Global) → has q ≡ has_entry (string_bytes q) entries)
     → ((q : String Global) → now_has q ≡ cond (is_at (string_cmp k) q) true (has q))
     → string_bytes k ≡ e.name
@@ -49,7 +49,7 @@ seen_more has now_has k entries e seen now name q =
 
 -- one name more of those that are left
 pub entry_step :
-    (names : List Token) (i : ℕ) (d : Token) (entries now all : List Entry) (name : List ℕ) → i < length names
+    (names : List Token) (i : ℕ) (d : Token) (entries now all : List HostEntry) (name : List ℕ) → i < length names
     → entries_with entries (lexemes (drop i names)) ≡ all → name ≡ text_of (lexeme (get_or names i d))
     → now ≡ (if has_entry name entries then entries else entries ++ record {
       at =
@@ -70,7 +70,7 @@ entry_step names i d entries now all name within left is made =
 -- ---- from what the code appends to what the dump is to have
 
 -- these names were seen: those of the entries
-abbrev AreSeen : List (List ℕ) → List Entry → Type 0
+abbrev AreSeen : List (List ℕ) → List HostEntry → Type 0
 AreSeen seen entries = (n : List ℕ) → Has seen n ↔ (has_entry n entries ≡ true)
 
 pub or_either : (a b : Bool) → (a || b) ≡ true → (a ≡ true) ⊎ (b ≡ true)
@@ -85,7 +85,7 @@ or_second true b is = refl
 or_second false b is = is
 
 one_seen :
-    (seen : List (List ℕ)) (entries : List Entry) (e : Entry) → AreSeen seen entries
+    (seen : List (List ℕ)) (entries : List HostEntry) (e : HostEntry) → AreSeen seen entries
     → AreSeen (e.name ∷ seen) (entries ++ e ∷ [])
 one_seen seen entries e are n =
     let more = any_more (λ entry. pointwise nat_eq n entry.name) entries e in
@@ -102,15 +102,15 @@ one_seen seen entries e are n =
     )
 
 -- behind these entries come the first of those names that have none yet
-abbrev Appends : List Entry → List (List ℕ) → List Lexeme → Type 0
+abbrev Appends : List HostEntry → List (List ℕ) → List Lexeme → Type 0
 Appends entries seen ts =
-    (rest : List Entry) × (entries_with entries ts ≡ entries ++ rest) × AreFirsts seen (map entry_of ts) rest
+    (rest : List HostEntry) × (entries_with entries ts ≡ entries ++ rest) × AreFirsts seen (map entry_of ts) rest
 
 appends_next :
-    (v : Bool) (t : Lexeme) (ts : List Lexeme) (entries : List Entry) (seen : List (List ℕ)) → AreSeen seen entries
+    (v : Bool) (t : Lexeme) (ts : List Lexeme) (entries : List HostEntry) (seen : List (List ℕ)) → AreSeen seen entries
     → has_entry (text_of t) entries ≡ v
-    → ((es : List Entry) (names : List (List ℕ)) → AreSeen names es → Appends es names ts)
-    → (rest : List Entry)
+    → ((es : List HostEntry) (names : List (List ℕ)) → AreSeen names es → Appends es names ts)
+    → (rest : List HostEntry)
     × (entries_with (if v then entries else entries ++ entry_of t ∷ []) ts ≡ entries ++ rest)
     × AreFirsts seen (map entry_of (t ∷ ts)) rest
 appends_next true t ts entries seen are is later =
@@ -123,7 +123,7 @@ appends_next false t ts entries seen are is later =
     )
 
 appends :
-    (ts : List Lexeme) (entries : List Entry) (seen : List (List ℕ)) → AreSeen seen entries → Appends entries seen ts
+    (ts : List Lexeme) (entries : List HostEntry) (seen : List (List ℕ)) → AreSeen seen entries → Appends entries seen ts
 unfolding entries_with
 appends [] entries seen are = ([], sym (append-nil entries), refl)
 appends (t ∷ ts) entries seen are =
@@ -131,15 +131,15 @@ appends (t ∷ ts) entries seen are =
     (λ es names are_names. appends ts es names are_names)
 
 are_firsts :
-    (ts : List Lexeme) (entries : List Entry) → entries ≡ entries_with [] ts
+    (ts : List Lexeme) (entries : List HostEntry) → entries ≡ entries_with [] ts
     → AreFirsts [] (map entry_of ts) entries
 are_firsts ts entries is =
     let r = appends ts [] [] (λ n. ((λ has. absurd has), (λ no. absurd (true≢false (sym no))))) in
-    subst (λ (es : List Entry). AreFirsts [] (map entry_of ts) es) (sym (is ∙ r.1)) r.2
+    subst (λ (es : List HostEntry). AreFirsts [] (map entry_of ts) es) (sym (is ∙ r.1)) r.2
 
 -- no name is left
 pub entries_end :
-    (names : List Token) (i : ℕ) (entries : List Entry) → length names ≤ i
+    (names : List Token) (i : ℕ) (entries : List HostEntry) → length names ≤ i
     → entries_with entries (lexemes (drop i names)) ≡ entries_with [] (lexemes names)
     → AreFirsts [] (map entry_of (lexemes names)) entries
 unfolding entries_with

@@ -8,10 +8,10 @@ use Rattle.ov_dot.specs.declared.token.Kind.{Kind}
 use Rattle.ov_dot.specs.declared.token.Kind.TheVariants.{Graph, Node, Edge, Subgraph, Bare}
 use Rattle.ov_dot.specs.declared.token.Kind.TheVariants.{Quoted, OpenBrace}
 use Rattle.ov_dot.specs.declared.token.Kind.TheVariants.{CloseBrace, CloseBracket, Semicolon}
-use Rattle.ov_dot.specs.declared.grammar_state.Place.{Place}
-use Rattle.ov_dot.specs.declared.grammar_state.Place.TheVariants.{Body, Named, Member, Ported, Directed}
-use Rattle.ov_dot.specs.declared.grammar_state.Place.TheVariants.{InList}
-use Rattle.ov_dot.specs.declared.grammar_state.Place.TheVariants.{Attribute, Valued, Listed, Over}
+use Rattle.ov_dot.specs.declared.grammar_state.GrammarPlace.{GrammarPlace}
+use Rattle.ov_dot.specs.declared.grammar_state.GrammarPlace.TheVariants.{Body, Named, Member, Ported, Directed}
+use Rattle.ov_dot.specs.declared.grammar_state.GrammarPlace.TheVariants.{InList}
+use Rattle.ov_dot.specs.declared.grammar_state.GrammarPlace.TheVariants.{Attribute, Valued, Listed, Over}
 use Rattle.ov_dot.specs.Sayings.{Said, nothing_said, with_edge}
 use Rattle.ov_dot.specs.Code.Statements.{Reading, at_beginning, read_on, statements_of}
 use Rattle.ov_dot.specs.Grammar.{Spot, token, NodeName, Word, Text, named, Value, NameValue, HtmlValue}
@@ -27,7 +27,7 @@ use Rattle.ov_dot.specs.Grammar.{GraphName, Unnamed, IsNamed, File, spell_strict
 use Rattle.ov_dot.specs.Grammar.{spell_file, said_by}
 
 -- where a reading stands
-abbrev pub here : Bool → ℕ → Place → Lexeme → ℕ → Reading
+abbrev pub here : Bool → ℕ → GrammarPlace → Lexeme → ℕ → Reading
 here d n p o l = record { directed = d; depth = n; place = p; name = o; line = l }
 
 -- ---- attributes
@@ -37,13 +37,13 @@ data Inside : Type 0 where
   BehindName : Inside
   BehindValue : Inside
 
-abbrev inside_place : Inside → Place
+abbrev inside_place : Inside → GrammarPlace
 inside_place AtStart = InList
 inside_place BehindName = Attribute
 inside_place BehindValue = Valued
 
 -- these tokens lead from a place to a place in a list
-abbrev LeadsInside : Bool → ℕ → Lexeme → Place → ℕ → List Lexeme → Type 0
+abbrev LeadsInside : Bool → ℕ → Lexeme → GrammarPlace → ℕ → List Lexeme → Type 0
 LeadsInside d n o p l tokens =
     (j : Inside) × (m : ℕ)
     × ((said : Said) (rest : List Lexeme) →
@@ -147,7 +147,7 @@ data Stop : Type 0 where
   AtPorted : Stop
   AtDirected : Stop
 
-abbrev stop_place : Stop → Place
+abbrev stop_place : Stop → GrammarPlace
 stop_place AtNamed = Named
 stop_place AtMember = Member
 stop_place AtPorted = Ported

@@ -6,14 +6,14 @@ use Rattle.ov_dot.specs.Tokens.{Lexeme}
 use Rattle.ov_dot.specs.declared.token.Kind.{Kind}
 use Rattle.ov_dot.specs.declared.token.Kind.TheVariants.{Strict, Graph, Subgraph, Bare, Html, OpenBrace}
 use Rattle.ov_dot.specs.declared.token.Kind.TheVariants.{CloseBrace, OpenBracket, CloseBracket, Line, Arrow}
-use Rattle.ov_dot.specs.declared.grammar_state.Place.{Place}
-use Rattle.ov_dot.specs.declared.grammar_state.Place.TheVariants.{Beginning, BehindStrict, BehindKind, BehindTitle}
-use Rattle.ov_dot.specs.declared.grammar_state.Place.TheVariants.{Body, Named}
-use Rattle.ov_dot.specs.declared.grammar_state.Place.TheVariants.{Member, PortNext, Ported, CompassNext, Directed}
-use Rattle.ov_dot.specs.declared.grammar_state.Place.TheVariants.{EndNext}
-use Rattle.ov_dot.specs.declared.grammar_state.Place.TheVariants.{ListNext, InList, Attribute, ValueNext, Valued}
-use Rattle.ov_dot.specs.declared.grammar_state.Place.TheVariants.{Listed}
-use Rattle.ov_dot.specs.declared.grammar_state.Place.TheVariants.{AssignedNext, SubgraphNext, SubgraphTitled, Over}
+use Rattle.ov_dot.specs.declared.grammar_state.GrammarPlace.{GrammarPlace}
+use Rattle.ov_dot.specs.declared.grammar_state.GrammarPlace.TheVariants.{Beginning, BehindStrict, BehindKind, BehindTitle}
+use Rattle.ov_dot.specs.declared.grammar_state.GrammarPlace.TheVariants.{Body, Named}
+use Rattle.ov_dot.specs.declared.grammar_state.GrammarPlace.TheVariants.{Member, PortNext, Ported, CompassNext, Directed}
+use Rattle.ov_dot.specs.declared.grammar_state.GrammarPlace.TheVariants.{EndNext}
+use Rattle.ov_dot.specs.declared.grammar_state.GrammarPlace.TheVariants.{ListNext, InList, Attribute, ValueNext, Valued}
+use Rattle.ov_dot.specs.declared.grammar_state.GrammarPlace.TheVariants.{Listed}
+use Rattle.ov_dot.specs.declared.grammar_state.GrammarPlace.TheVariants.{AssignedNext, SubgraphNext, SubgraphTitled, Over}
 use Rattle.ov_dot.specs.declared.fault.DotFault.{DotFault}
 use Rattle.ov_dot.specs.declared.fault.DotFault.TheVariants.{UnreadLine}
 use Rattle.ov_dot.specs.declared.fault.Why.{Why}
@@ -42,7 +42,7 @@ is_false false is = refl
 
 -- ---- what may come at a place
 
-abbrev leads : Option Place → Bool
+abbrev leads : Option GrammarPlace → Bool
 leads None = false
 leads (Some place) = true
 
@@ -51,26 +51,26 @@ abbrev allows : Reading → Kind → Bool
 allows r kind = leads (follows r.place kind) && not (is_wrong_edge r.directed kind)
 
 allowed_edge :
-    (wrong : Bool) (r : Reading) (t : Lexeme) (place : Place) → not wrong ≡ true
+    (wrong : Bool) (r : Reading) (t : Lexeme) (place : GrammarPlace) → not wrong ≡ true
     → (next : Reading) × (cond wrong (Err (UnreadLine t.line WrongEdge)) (Ok (moved r t place)) ≡ Ok next)
 allowed_edge true r t place is = absurd (true≢false (sym is))
 allowed_edge false r t place is = (moved r t place, refl)
 
 allowed :
-    (place : Option Place) (r : Reading) (t : Lexeme)
+    (place : Option GrammarPlace) (r : Reading) (t : Lexeme)
     → (leads place && not (is_wrong_edge r.directed t.kind)) ≡ true
     → (next : Reading) × (step_to r t place ≡ Ok next)
 allowed None r t is = absurd (true≢false (sym is))
 allowed (Some place) r t is = allowed_edge (is_wrong_edge r.directed t.kind) r t place is
 
 denied_edge :
-    (wrong : Bool) (r : Reading) (t : Lexeme) (place : Place) → not wrong ≡ false
+    (wrong : Bool) (r : Reading) (t : Lexeme) (place : GrammarPlace) → not wrong ≡ false
     → (fault : DotFault) × (cond wrong (Err (UnreadLine t.line WrongEdge)) (Ok (moved r t place)) ≡ Err fault)
 denied_edge true r t place is = (UnreadLine t.line WrongEdge, refl)
 denied_edge false r t place is = absurd (true≢false is)
 
 denied :
-    (place : Option Place) (r : Reading) (t : Lexeme)
+    (place : Option GrammarPlace) (r : Reading) (t : Lexeme)
     → (leads place && not (is_wrong_edge r.directed t.kind)) ≡ false
     → (fault : DotFault) × (step_to r t place ≡ Err fault)
 denied None r t is = (UnreadLine t.line (why_not r.place t.kind), refl)
@@ -78,7 +78,7 @@ denied (Some place) r t is = denied_edge (is_wrong_edge r.directed t.kind) r t p
 
 -- ---- what is known of the tokens that were read up to a place
 
-abbrev is_over : Place → Bool
+abbrev is_over : GrammarPlace → Bool
 is_over Over = true
 is_over place = false
 
@@ -90,11 +90,11 @@ record Behind (before : List Lexeme) (r : Reading) : Type 0 where
   edge : is_end r.place ≡ true → EndInEdge before
   only_edge : EndInEdge before → is_end r.place ≡ true
 
-over_ended : (place : Place) (r : Reading) (said : Said) → is_over place ≡ true → ended r place said ≡ Ok said
+over_ended : (place : GrammarPlace) (r : Reading) (said : Said) → is_over place ≡ true → ended r place said ≡ Ok said
 over_ended Over r said is = refl
 over_ended place r said is = absurd (true≢false (sym is))
 
-ended_over : (place : Place) (r : Reading) (said now : Said) → ended r place said ≡ Ok now → is_over place ≡ true
+ended_over : (place : GrammarPlace) (r : Reading) (said now : Said) → ended r place said ≡ Ok now → is_over place ≡ true
 ended_over Over r said now is = refl
 ended_over place r said now is = absurd (not_ok _ now is)
 
@@ -171,7 +171,7 @@ behind o before r so_far reads last =
 
 -- ---- edges
 
-same_edge : (place : Place) → follows place Arrow ≡ follows place Line
+same_edge : (place : GrammarPlace) → follows place Arrow ≡ follows place Line
 same_edge Beginning = refl
 same_edge place = refl
 
@@ -214,19 +214,19 @@ opens_of OpenBrace is = inr refl
 opens_of kind is = absurd (true≢false (sym is))
 
 -- an edge, where one may come
-abbrev other_edge : Place → Kind → Bool
+abbrev other_edge : GrammarPlace → Kind → Bool
 other_edge place kind = is_edge kind && leads (follows place Line)
 
 -- a subgraph behind an edge
-abbrev behind_edge : Place → Kind → Bool
+abbrev behind_edge : GrammarPlace → Kind → Bool
 behind_edge place kind = opens kind && is_end place
 
 -- where a statement may begin, and no list of attributes
-abbrev in_statements : Place → Bool
+abbrev in_statements : GrammarPlace → Bool
 in_statements place = leads (follows place CloseBrace) && not (leads (follows place OpenBracket))
 
 -- an edge behind a subgraph
-abbrev behind_subgraph : Place → Kind → Bool
+abbrev behind_subgraph : GrammarPlace → Kind → Bool
 behind_subgraph place kind = is_edge kind && in_statements place
 
 abbrev own_by : Bool → Bool → Bool → Bool → Option Why
@@ -240,19 +240,19 @@ abbrev or_lacking : Why → Option Why → Why
 or_lacking why None = why
 or_lacking why (Some own) = own
 
-abbrev reason_at : Place → Kind → Why
+abbrev reason_at : GrammarPlace → Kind → Why
 reason_at place kind =
     or_lacking (lacking place)
     (own_by (is_over place) (is_html kind) (other_edge place kind)
     (behind_edge place kind || behind_subgraph place kind))
 
-abbrev unless : Option Place → Why → Why
+abbrev unless : Option GrammarPlace → Why → Why
 unless None why = why
 unless (Some place) why = NoToken
 
 -- where the diagram leads nowhere, this is its reason
 reason_is :
-    (place : Place) (kind : Kind)
+    (place : GrammarPlace) (kind : Kind)
     → unless (follows place kind) (reason_at place kind) ≡ unless (follows place kind) (why_not place kind)
 reason_is Beginning Strict = refl
 reason_is Beginning kind = refl
@@ -338,7 +338,7 @@ none_own before r kind other b over html wrong sub has = has
 
 -- what is lacking at a place
 lacks :
-    (place : Place) (d : Bool) (n : ℕ) (o : Lexeme) (l : ℕ) (before : List Lexeme)
+    (place : GrammarPlace) (d : Bool) (n : ℕ) (o : Lexeme) (l : ℕ) (before : List Lexeme)
     → Behind before (here d n place o l) → is_over place ≡ false → Lack before (lacking place)
 lacks Beginning d n o l before b unended = (b.may Graph refl, b.never CloseBrace refl)
 lacks BehindStrict d n o l before b unended = (b.may Graph refl, b.never CloseBrace refl)
@@ -407,14 +407,14 @@ wrong_is_edge Arrow directed is = refl
 wrong_is_edge kind directed is = is
 
 edge_leads :
-    (kind : Kind) (place next : Place) → is_edge kind ≡ true → follows place kind ≡ Some next
+    (kind : Kind) (place next : GrammarPlace) → is_edge kind ≡ true → follows place kind ≡ Some next
     → leads (follows place Line) ≡ true
 edge_leads Line place next is leads_on = ap leads leads_on
 edge_leads Arrow place next is leads_on = ap leads (sym (same_edge place) ∙ leads_on)
 edge_leads kind place next is leads_on = absurd (true≢false (sym is))
 
 edge_reason :
-    (wrong : Bool) (before : List Lexeme) (r : Reading) (t : Lexeme) (place : Place) (line : ℕ) (why : Why)
+    (wrong : Bool) (before : List Lexeme) (r : Reading) (t : Lexeme) (place : GrammarPlace) (line : ℕ) (why : Why)
     → Behind before r → follows r.place t.kind ≡ Some place → is_wrong_edge r.directed t.kind ≡ wrong
     → cond wrong (Err (UnreadLine t.line WrongEdge)) (Ok (moved r t place)) ≡ Err (UnreadLine line why)
     → IsReason before t.kind why
@@ -426,7 +426,7 @@ edge_reason true before r t place line why b leads_on wrong is =
 edge_reason false before r t place line why b leads_on wrong is = absurd (not_ok _ (moved r t place) (sym is))
 
 step_reason :
-    (place : Option Place) (before : List Lexeme) (r : Reading) (t : Lexeme) (line : ℕ) (why : Why)
+    (place : Option GrammarPlace) (before : List Lexeme) (r : Reading) (t : Lexeme) (line : ℕ) (why : Why)
     → Behind before r → follows r.place t.kind ≡ place → step_to r t place ≡ Err (UnreadLine line why)
     → IsReason before t.kind why
 step_reason None before r t line why b leads_on is =
@@ -441,7 +441,7 @@ step_reason (Some place) before r t line why b leads_on is =
     edge_reason (is_wrong_edge r.directed t.kind) before r t place line why b leads_on refl is
 
 end_reason :
-    (place : Place) (r : Reading) (said : Said) (line : ℕ) (why : Why)
+    (place : GrammarPlace) (r : Reading) (said : Said) (line : ℕ) (why : Why)
     → ended r place said ≡ Err (UnreadLine line why) → why ≡ Unclosed
 end_reason Over r said line why is = absurd (not_ok _ said (sym is))
 end_reason place r said line why is = let e : Unclosed ≡ why = cc in sym e

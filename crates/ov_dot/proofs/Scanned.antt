@@ -3,14 +3,14 @@ use Rattle.std.proofs.Common.{◌≡◌, ◌∙◌, ◌+◌, ◌<◌, ◌≤◌,
 use Rattle.std.proofs.Common.{None, ◌⊎◌}
 use Rattle.std.proofs.Common.{length, take, inl, inr, refl, sym, ap, subst, arith, add-zero}
 use Rattle.std.specs.Prelude.{if◌then◌else◌, MatchOption, unwrap_or}
-use Rattle.ov_dot.specs.declared.lexeme_scanning.Place.{Place}
-use Rattle.ov_dot.specs.declared.lexeme_scanning.Place.TheVariants.{Start, LineFeed}
+use Rattle.ov_dot.specs.declared.lexeme_scanning.ScanPlace.{ScanPlace}
+use Rattle.ov_dot.specs.declared.lexeme_scanning.ScanPlace.TheVariants.{Start, LineFeed}
 use Rattle.ov_dot.specs.Parts.{HasNoPrefix, IsLongest, is_part, is_feed_rest}
 use Rattle.ov_dot.specs.Code.Scanning.{accepts, after, is_whole, marked, longest_from}
 use Rattle.ov_dot.proofs.Accepted.{in_part, behind_feed}
 
 -- what a scan from a place answers, where it had this one before
-abbrev Found : ℕ → Option Place → List ℕ → Option ℕ → Option ℕ → Type 0
+abbrev Found : ℕ → Option ScanPlace → List ℕ → Option ℕ → Option ℕ → Type 0
 Found n place bs so_far answer =
     (HasNoPrefix (accepts place) bs × (answer ≡ so_far))
     ⊎ ((m : ℕ) × IsLongest (accepts place) m bs × (answer ≡ Some (n + m)))
@@ -22,28 +22,28 @@ none_empty test fails (suc k) within = absurd (omega arith)
 
 -- no prefix passes from a place at which no part ends
 none_more :
-    (place : Place) (b : ℕ) (bs : List ℕ) → is_whole place ≡ false → HasNoPrefix (accepts (after place b)) bs
+    (place : ScanPlace) (b : ℕ) (bs : List ℕ) → is_whole place ≡ false → HasNoPrefix (accepts (after place b)) bs
     → HasNoPrefix (accepts (Some place)) (b ∷ bs)
 none_more place b bs unended none zero within = unended
 none_more place b bs unended none (suc k) within = none k (omega arith)
 
 -- only the empty prefix passes
 only_empty :
-    (place : Place) (b : ℕ) (bs : List ℕ) → HasNoPrefix (accepts (after place b)) bs
+    (place : ScanPlace) (b : ℕ) (bs : List ℕ) → HasNoPrefix (accepts (after place b)) bs
     → (k : ℕ) → 0 < k → k ≤ length (b ∷ bs) → accepts (Some place) (take k (b ∷ bs)) ≡ false
 only_empty place b bs none zero more within = absurd (omega arith)
 only_empty place b bs none (suc k) more within = none k (omega arith)
 
 -- a prefix with one byte more before it
 longer :
-    (place : Place) (b : ℕ) (bs : List ℕ) (m : ℕ) → IsLongest (accepts (after place b)) m bs
+    (place : ScanPlace) (b : ℕ) (bs : List ℕ) (m : ℕ) → IsLongest (accepts (after place b)) m bs
     → (k : ℕ) → suc m < k → k ≤ length (b ∷ bs) → accepts (Some place) (take k (b ∷ bs)) ≡ false
 longer place b bs m it zero more within = absurd (omega arith)
 longer place b bs m it (suc k) more within = it.longer_fail k (omega arith) (omega arith)
 
 -- at the end of the text
 ended :
-    (n : ℕ) (place : Place) (so_far : Option ℕ) (v : Bool) → is_whole place ≡ v
+    (n : ℕ) (place : ScanPlace) (so_far : Option ℕ) (v : Bool) → is_whole place ≡ v
     → Found n (Some place) [] so_far (if v then Some n else so_far)
 ended n place so_far true whole =
     inr (
@@ -60,7 +60,7 @@ ended n place so_far false whole = inl (none_empty (accepts (Some place)) whole,
 
 -- one byte more
 gone_on :
-    (n : ℕ) (place : Place) (b : ℕ) (bs : List ℕ) (so_far answer : Option ℕ) (v : Bool) → is_whole place ≡ v
+    (n : ℕ) (place : ScanPlace) (b : ℕ) (bs : List ℕ) (so_far answer : Option ℕ) (v : Bool) → is_whole place ≡ v
     → Found (n + 1) (after place b) bs (if v then Some n else so_far) answer
     → Found n (Some place) (b ∷ bs) so_far answer
 gone_on n place b bs so_far answer true whole (inl (none, is)) =
@@ -82,7 +82,7 @@ gone_on n place b bs so_far answer v whole (inr (m, it, is)) =
     )
 
 found :
-    (n : ℕ) (place : Option Place) (bs : List ℕ) (so_far : Option ℕ)
+    (n : ℕ) (place : Option ScanPlace) (bs : List ℕ) (so_far : Option ℕ)
     → Found n place bs so_far (longest_from n place bs so_far)
 unfolding longest_from
 found n None bs so_far = inl ((λ k within. refl), refl)
@@ -105,7 +105,7 @@ longest_alike p q n text alike it = record {
 }
 
 from_found :
-    (p : List ℕ → Bool) (place : Option Place) (text : List ℕ) (answer : Option ℕ) → ((bs : List ℕ)
+    (p : List ℕ → Bool) (place : Option ScanPlace) (text : List ℕ) (answer : Option ℕ) → ((bs : List ℕ)
     → accepts place bs ≡ p bs)
     → Found 0 place text None answer → MatchOption answer (HasNoPrefix p text) (λ n. IsLongest p n text)
 from_found p place text None alike (inl (none, is)) = none_alike (accepts place) p text alike none

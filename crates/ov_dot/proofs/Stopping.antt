@@ -7,14 +7,14 @@ use Rattle.ov_dot.specs.Tokens.{Lexeme}
 use Rattle.ov_dot.specs.declared.token.Kind.{Kind}
 use Rattle.ov_dot.specs.declared.token.Kind.TheVariants.{Strict, Graph, Bare, OpenBrace, CloseBrace}
 use Rattle.ov_dot.specs.declared.token.Kind.TheVariants.{OpenBracket, CloseBracket, Semicolon, Line, Arrow}
-use Rattle.ov_dot.specs.declared.grammar_state.Place.{Place}
-use Rattle.ov_dot.specs.declared.grammar_state.Place.TheVariants.{Beginning, BehindStrict, BehindKind, BehindTitle}
-use Rattle.ov_dot.specs.declared.grammar_state.Place.TheVariants.{Body, Named}
-use Rattle.ov_dot.specs.declared.grammar_state.Place.TheVariants.{Member, PortNext, Ported, CompassNext, Directed}
-use Rattle.ov_dot.specs.declared.grammar_state.Place.TheVariants.{EndNext}
-use Rattle.ov_dot.specs.declared.grammar_state.Place.TheVariants.{ListNext, InList, Attribute, ValueNext, Valued}
-use Rattle.ov_dot.specs.declared.grammar_state.Place.TheVariants.{Listed}
-use Rattle.ov_dot.specs.declared.grammar_state.Place.TheVariants.{AssignedNext, SubgraphNext, SubgraphTitled, Over}
+use Rattle.ov_dot.specs.declared.grammar_state.GrammarPlace.{GrammarPlace}
+use Rattle.ov_dot.specs.declared.grammar_state.GrammarPlace.TheVariants.{Beginning, BehindStrict, BehindKind, BehindTitle}
+use Rattle.ov_dot.specs.declared.grammar_state.GrammarPlace.TheVariants.{Body, Named}
+use Rattle.ov_dot.specs.declared.grammar_state.GrammarPlace.TheVariants.{Member, PortNext, Ported, CompassNext, Directed}
+use Rattle.ov_dot.specs.declared.grammar_state.GrammarPlace.TheVariants.{EndNext}
+use Rattle.ov_dot.specs.declared.grammar_state.GrammarPlace.TheVariants.{ListNext, InList, Attribute, ValueNext, Valued}
+use Rattle.ov_dot.specs.declared.grammar_state.GrammarPlace.TheVariants.{Listed}
+use Rattle.ov_dot.specs.declared.grammar_state.GrammarPlace.TheVariants.{AssignedNext, SubgraphNext, SubgraphTitled, Over}
 use Rattle.ov_dot.specs.declared.fault.DotFault.{DotFault}
 use Rattle.ov_dot.specs.declared.fault.DotFault.TheVariants.{UnreadLine}
 use Rattle.ov_dot.specs.declared.fault.Why.{Why}
@@ -94,7 +94,7 @@ abbrev semicolon : Lexeme
 semicolon = token Semicolon spot
 
 completed :
-    (place : Place) (d : Bool) (n : ℕ) (o : Lexeme) (l : ℕ) (said : Said) → Completed (here d n place o l) said
+    (place : GrammarPlace) (d : Bool) (n : ℕ) (o : Lexeme) (l : ℕ) (said : Said) → Completed (here d n place o l) said
 unfolding read_on
 completed Beginning d n o l said =
     via (here d n Beginning o l) said (graph ∷ opening ∷ []) d (n + 1) o 1 said (λ rest. refl)
@@ -142,7 +142,7 @@ completed Over d n o l said = ([], said, refl)
 -- ---- behind an edge
 
 -- the place behind an edge
-abbrev pub is_end : Place → Bool
+abbrev pub is_end : GrammarPlace → Bool
 is_end EndNext = true
 is_end place = false
 
@@ -157,12 +157,12 @@ abbrev pub ends_in_edge : Bool → List Lexeme → Bool
 ends_in_edge edge [] = edge
 ends_in_edge edge (t ∷ ts) = ends_in_edge (is_edge t.kind) ts
 
-abbrev leads_to_end : Bool → Option Place → Bool
+abbrev leads_to_end : Bool → Option GrammarPlace → Bool
 leads_to_end edge None = edge
 leads_to_end edge (Some place) = is_end place
 
 -- a token leads behind an edge exactly if it is one
-leads_by_edge : (place : Place) (kind : Kind) → leads_to_end (is_edge kind) (follows place kind) ≡ is_edge kind
+leads_by_edge : (place : GrammarPlace) (kind : Kind) → leads_to_end (is_edge kind) (follows place kind) ≡ is_edge kind
 leads_by_edge Beginning Strict = refl
 leads_by_edge Beginning kind = refl
 leads_by_edge BehindStrict Strict = refl
@@ -209,14 +209,14 @@ leads_by_edge Over Strict = refl
 leads_by_edge Over kind = refl
 
 place_end :
-    (kind : Kind) (n : ℕ) (place : Place) → is_end place ≡ is_edge kind
+    (kind : Kind) (n : ℕ) (place : GrammarPlace) → is_end place ≡ is_edge kind
     → is_end (place_behind n kind place) ≡ is_edge kind
 place_end CloseBrace n place is =
     elim (nat_le n 1) as (λ v. is_end (cond v Over place) ≡ false) [ true ↦ refl | false ↦ is ]
 place_end kind n place is = is
 
 edge_end :
-    (wrong : Bool) (r next : Reading) (t : Lexeme) (place : Place) → is_end place ≡ is_edge t.kind
+    (wrong : Bool) (r next : Reading) (t : Lexeme) (place : GrammarPlace) → is_end place ≡ is_edge t.kind
     → cond wrong (Err (UnreadLine t.line WrongEdge)) (Ok (moved r t place)) ≡ Ok next
     → is_end next.place ≡ is_edge t.kind
 edge_end true r next t place ends is = absurd (not_ok _ next is)
@@ -225,7 +225,7 @@ edge_end false r next t place ends is =
     ap (λ (n : Reading). is_end n.place) (sym e) ∙ place_end t.kind r.depth place ends
 
 step_end :
-    (place : Option Place) (r next : Reading) (t : Lexeme) → leads_to_end (is_edge t.kind) place ≡ is_edge t.kind
+    (place : Option GrammarPlace) (r next : Reading) (t : Lexeme) → leads_to_end (is_edge t.kind) place ≡ is_edge t.kind
     → step_to r t place ≡ Ok next → is_end next.place ≡ is_edge t.kind
 step_end None r next t leads is = absurd (not_ok _ next is)
 step_end (Some place) r next t leads is = edge_end (is_wrong_edge r.directed t.kind) r next t place leads is
@@ -257,31 +257,31 @@ Stops r said ts fault = StopsAt r said ts fault ⊎ StopsBehind r said ts fault
 
 -- the line behind one token more, and the line of one that is refused
 edge_line :
-    (wrong : Bool) (r next : Reading) (t : Lexeme) (place : Place)
+    (wrong : Bool) (r next : Reading) (t : Lexeme) (place : GrammarPlace)
     → cond wrong (Err (UnreadLine t.line WrongEdge)) (Ok (moved r t place)) ≡ Ok next → next.line ≡ t.line
 edge_line true r next t place is = absurd (not_ok _ next is)
 edge_line false r next t place is =
     let e : moved r t place ≡ next = cc in ap (λ (n : Reading). n.line) (sym e)
 
-step_line : (place : Option Place) (r next : Reading) (t : Lexeme) → step_to r t place ≡ Ok next → next.line ≡ t.line
+step_line : (place : Option GrammarPlace) (r next : Reading) (t : Lexeme) → step_to r t place ≡ Ok next → next.line ≡ t.line
 step_line None r next t is = absurd (not_ok _ next is)
 step_line (Some place) r next t is = edge_line (is_wrong_edge r.directed t.kind) r next t place is
 
 edge_fault :
-    (wrong : Bool) (r : Reading) (t : Lexeme) (place : Place) (line : ℕ) (why : Why)
+    (wrong : Bool) (r : Reading) (t : Lexeme) (place : GrammarPlace) (line : ℕ) (why : Why)
     → cond wrong (Err (UnreadLine t.line WrongEdge)) (Ok (moved r t place)) ≡ Err (UnreadLine line why)
     → line ≡ t.line
 edge_fault true r t place line why is = let e : t.line ≡ line = cc in sym e
 edge_fault false r t place line why is = absurd (not_ok _ (moved r t place) (sym is))
 
 pub step_fault :
-    (place : Option Place) (r : Reading) (t : Lexeme) (line : ℕ) (why : Why)
+    (place : Option GrammarPlace) (r : Reading) (t : Lexeme) (line : ℕ) (why : Why)
     → step_to r t place ≡ Err (UnreadLine line why) → line ≡ t.line
 step_fault None r t line why is = let e : t.line ≡ line = cc in sym e
 step_fault (Some place) r t line why is = edge_fault (is_wrong_edge r.directed t.kind) r t place line why is
 
 pub end_fault :
-    (place : Place) (r : Reading) (said : Said) (line : ℕ) (why : Why)
+    (place : GrammarPlace) (r : Reading) (said : Said) (line : ℕ) (why : Why)
     → ended r place said ≡ Err (UnreadLine line why) → line ≡ r.line
 end_fault Over r said line why is = absurd (not_ok _ said (sym is))
 end_fault place r said line why is = let e : r.line ≡ line = cc in sym e

@@ -5,14 +5,14 @@ use Rattle.std.specs.Str.{IsUtf8}
 use Rattle.ov_ids.specs.Members.{Has}
 use Rattle.ov_dump.specs.FirstEntries.{AreFirsts}
 use Rattle.ov_dump.specs.declared.dump_and_graph_types.Dump.{Dump}
-use Rattle.ov_dump.specs.declared.dump_and_graph_types.Entry.{Entry}
+use Rattle.ov_dump.specs.declared.dump_and_graph_types.HostEntry.{HostEntry}
 use Rattle.ov_dump.specs.declared.dump_and_graph_types.Listing.{Listing}
 use Rattle.ov_dot.specs.Tokens.{Lexeme}
 use Rattle.ov_dot.specs.Names.{text_of}
 use Rattle.ov_dot.specs.Sayings.{Said}
 
 -- a name has an entry, in the line where it stands
-abbrev pub entry_of : Lexeme → Entry
+abbrev pub entry_of : Lexeme → HostEntry
 entry_of t = record { at = t.line; name = text_of t }
 
 -- a name lists another, in the line where it stands

@@ -12,7 +12,7 @@ use crate::Token;
 use crate::fault::DotFault;
 use crate::name_reading::read_name;
 use crate::statement_reading::{Link, Statements};
-use ov_dump::{Dump, Entry, Listing};
+use ov_dump::{Dump, HostEntry, Listing};
 use ov_ids::Seq;
 use std::alloc::Global;
 use std::collections::BTreeSet;
@@ -33,7 +33,7 @@ pub(crate) fn make_dump(alloc: Global, said: &Statements<'_>) -> Result<Dump, Do
 }
 
 /// One entry for each name.
-fn make_entries(alloc: Global, names: &[Token<'_>]) -> Result<Vec<Entry>, DotFault>
+fn make_entries(alloc: Global, names: &[Token<'_>]) -> Result<Vec<HostEntry>, DotFault>
     ensures entries { IfOk result (λ entries. AreFirsts [] (map entry_of (lexemes names.now)) entries.items) }
     ensures fault { IfErr result (λ fault. AreBadNames (lexemes names.now) fault) }
 {
@@ -43,7 +43,7 @@ fn make_entries(alloc: Global, names: &[Token<'_>]) -> Result<Vec<Entry>, DotFau
         let name = read_name(alloc, token)?;
         let text = name.copy(alloc)?.into_string();
         let at = token.line;
-        add_entry(&mut seen, &mut entries, text, Entry { at, name })?;
+        add_entry(&mut seen, &mut entries, text, HostEntry { at, name })?;
     }
     Ok(entries)
 }
@@ -51,9 +51,9 @@ fn make_entries(alloc: Global, names: &[Token<'_>]) -> Result<Vec<Entry>, DotFau
 /// Appends an entry of this name, if there is none yet.
 fn add_entry(
     seen: &mut BTreeSet<String>,
-    entries: &mut Vec<Entry>,
+    entries: &mut Vec<HostEntry>,
     text: String,
-    entry: Entry,
+    entry: HostEntry,
 ) -> Result<(), DotFault>
     requires name { string_bytes text ≡ entry.name }
     requires seen { (q : String Global) →

@@ -9,7 +9,7 @@ use crate::fault::Why;
 
 /// A place in the grammar of DOT: what was read last, and so what may come next.
 #[derive(Clone, Copy, PartialEq, Eq)]
-pub(crate) enum Place {
+pub(crate) enum GrammarPlace {
     /// The beginning of the text.
     Beginning,
     /// Behind `strict`.
@@ -57,36 +57,36 @@ pub(crate) enum Place {
 }
 
 /// The place behind one token more. None is returned if no token of this kind may stand there.
-pub(crate) fn follows(place: Place, kind: Kind) -> Option<Place>
+pub(crate) fn follows(place: GrammarPlace, kind: Kind) -> Option<GrammarPlace>
     ensures { result ≡ follows place kind }
 {
     match place {
-        Place::Beginning => beginning(kind),
-        Place::BehindStrict => heading(kind),
-        Place::BehindKind => title_to(Place::BehindTitle, kind),
-        Place::SubgraphNext => title_to(Place::SubgraphTitled, kind),
-        Place::BehindTitle | Place::SubgraphTitled => opening(kind),
-        Place::Body => statement(kind),
-        Place::Named => behind_first(kind),
-        Place::Member => behind_name(kind),
-        Place::Ported => behind_port(kind),
-        Place::Directed => behind_node(kind),
-        Place::PortNext => name_to(Place::Ported, kind),
-        Place::CompassNext => name_to(Place::Directed, kind),
-        Place::EndNext => name_to(Place::Member, kind),
-        Place::AssignedNext => value_to(Place::Body, kind),
-        Place::ListNext => list_opening(kind),
-        Place::InList => attribute(kind),
-        Place::Attribute => behind_attribute(kind),
-        Place::ValueNext => value_to(Place::Valued, kind),
-        Place::Valued => behind_value(kind),
-        Place::Listed => behind_list(kind),
-        Place::Over => None,
+        GrammarPlace::Beginning => beginning(kind),
+        GrammarPlace::BehindStrict => heading(kind),
+        GrammarPlace::BehindKind => title_to(GrammarPlace::BehindTitle, kind),
+        GrammarPlace::SubgraphNext => title_to(GrammarPlace::SubgraphTitled, kind),
+        GrammarPlace::BehindTitle | GrammarPlace::SubgraphTitled => opening(kind),
+        GrammarPlace::Body => statement(kind),
+        GrammarPlace::Named => behind_first(kind),
+        GrammarPlace::Member => behind_name(kind),
+        GrammarPlace::Ported => behind_port(kind),
+        GrammarPlace::Directed => behind_node(kind),
+        GrammarPlace::PortNext => name_to(GrammarPlace::Ported, kind),
+        GrammarPlace::CompassNext => name_to(GrammarPlace::Directed, kind),
+        GrammarPlace::EndNext => name_to(GrammarPlace::Member, kind),
+        GrammarPlace::AssignedNext => value_to(GrammarPlace::Body, kind),
+        GrammarPlace::ListNext => list_opening(kind),
+        GrammarPlace::InList => attribute(kind),
+        GrammarPlace::Attribute => behind_attribute(kind),
+        GrammarPlace::ValueNext => value_to(GrammarPlace::Valued, kind),
+        GrammarPlace::Valued => behind_value(kind),
+        GrammarPlace::Listed => behind_list(kind),
+        GrammarPlace::Over => None,
     }
 }
 
 /// The place to which a name leads.
-fn name_to(place: Place, kind: Kind) -> Option<Place>
+fn name_to(place: GrammarPlace, kind: Kind) -> Option<GrammarPlace>
     ensures { result ≡ name_to place kind }
 {
     match kind {
@@ -96,149 +96,149 @@ fn name_to(place: Place, kind: Kind) -> Option<Place>
 }
 
 /// Where a file begins.
-fn beginning(kind: Kind) -> Option<Place>
+fn beginning(kind: Kind) -> Option<GrammarPlace>
     ensures { result ≡ beginning kind }
 {
     match kind {
-        Kind::Strict => Some(Place::BehindStrict),
+        Kind::Strict => Some(GrammarPlace::BehindStrict),
         _ => heading(kind),
     }
 }
 
 /// Where a file begins, behind `strict` or without it.
-fn heading(kind: Kind) -> Option<Place>
+fn heading(kind: Kind) -> Option<GrammarPlace>
     ensures { result ≡ heading kind }
 {
     match kind {
-        Kind::Graph | Kind::Digraph => Some(Place::BehindKind),
+        Kind::Graph | Kind::Digraph => Some(GrammarPlace::BehindKind),
         _ => None,
     }
 }
 
 /// Where statements are to begin.
-fn opening(kind: Kind) -> Option<Place>
+fn opening(kind: Kind) -> Option<GrammarPlace>
     ensures { result ≡ opening kind }
 {
     match kind {
-        Kind::OpenBrace => Some(Place::Body),
+        Kind::OpenBrace => Some(GrammarPlace::Body),
         _ => None,
     }
 }
 
 /// Where statements are to begin, or a name before them, which leads to this place.
-fn title_to(place: Place, kind: Kind) -> Option<Place>
+fn title_to(place: GrammarPlace, kind: Kind) -> Option<GrammarPlace>
     ensures { result ≡ title_to place kind }
 {
     match kind {
-        Kind::OpenBrace => Some(Place::Body),
+        Kind::OpenBrace => Some(GrammarPlace::Body),
         _ => name_to(place, kind),
     }
 }
 
 /// Where a statement may begin.
-fn statement(kind: Kind) -> Option<Place>
+fn statement(kind: Kind) -> Option<GrammarPlace>
     ensures { result ≡ statement kind }
 {
     match kind {
-        Kind::Graph | Kind::Node | Kind::Edge => Some(Place::ListNext),
-        Kind::Subgraph => Some(Place::SubgraphNext),
-        Kind::OpenBrace | Kind::CloseBrace | Kind::Semicolon => Some(Place::Body),
-        _ => name_to(Place::Named, kind),
+        Kind::Graph | Kind::Node | Kind::Edge => Some(GrammarPlace::ListNext),
+        Kind::Subgraph => Some(GrammarPlace::SubgraphNext),
+        Kind::OpenBrace | Kind::CloseBrace | Kind::Semicolon => Some(GrammarPlace::Body),
+        _ => name_to(GrammarPlace::Named, kind),
     }
 }
 
 /// Where a list of attributes is to begin.
-fn list_opening(kind: Kind) -> Option<Place>
+fn list_opening(kind: Kind) -> Option<GrammarPlace>
     ensures { result ≡ list_opening kind }
 {
     match kind {
-        Kind::OpenBracket => Some(Place::InList),
+        Kind::OpenBracket => Some(GrammarPlace::InList),
         _ => None,
     }
 }
 
 /// Behind a list of attributes.
-fn behind_list(kind: Kind) -> Option<Place>
+fn behind_list(kind: Kind) -> Option<GrammarPlace>
     ensures { result ≡ behind_list kind }
 {
     match kind {
-        Kind::OpenBracket => Some(Place::InList),
+        Kind::OpenBracket => Some(GrammarPlace::InList),
         _ => statement(kind),
     }
 }
 
 /// Behind a node.
-fn behind_node(kind: Kind) -> Option<Place>
+fn behind_node(kind: Kind) -> Option<GrammarPlace>
     ensures { result ≡ behind_node kind }
 {
     match kind {
-        Kind::Line | Kind::Arrow => Some(Place::EndNext),
+        Kind::Line | Kind::Arrow => Some(GrammarPlace::EndNext),
         _ => behind_list(kind),
     }
 }
 
 /// Behind a node without a port.
-fn behind_name(kind: Kind) -> Option<Place>
+fn behind_name(kind: Kind) -> Option<GrammarPlace>
     ensures { result ≡ behind_name kind }
 {
     match kind {
-        Kind::Colon => Some(Place::PortNext),
+        Kind::Colon => Some(GrammarPlace::PortNext),
         _ => behind_node(kind),
     }
 }
 
 /// Behind the name with which a statement begins.
-fn behind_first(kind: Kind) -> Option<Place>
+fn behind_first(kind: Kind) -> Option<GrammarPlace>
     ensures { result ≡ behind_first kind }
 {
     match kind {
-        Kind::Equals => Some(Place::AssignedNext),
+        Kind::Equals => Some(GrammarPlace::AssignedNext),
         _ => behind_name(kind),
     }
 }
 
 /// Behind a node and its port.
-fn behind_port(kind: Kind) -> Option<Place>
+fn behind_port(kind: Kind) -> Option<GrammarPlace>
     ensures { result ≡ behind_port kind }
 {
     match kind {
-        Kind::Colon => Some(Place::CompassNext),
+        Kind::Colon => Some(GrammarPlace::CompassNext),
         _ => behind_node(kind),
     }
 }
 
 /// Where an attribute may begin.
-fn attribute(kind: Kind) -> Option<Place>
+fn attribute(kind: Kind) -> Option<GrammarPlace>
     ensures { result ≡ attribute kind }
 {
     match kind {
-        Kind::CloseBracket => Some(Place::Listed),
-        _ => name_to(Place::Attribute, kind),
+        Kind::CloseBracket => Some(GrammarPlace::Listed),
+        _ => name_to(GrammarPlace::Attribute, kind),
     }
 }
 
 /// Behind an attribute.
-fn behind_value(kind: Kind) -> Option<Place>
+fn behind_value(kind: Kind) -> Option<GrammarPlace>
     ensures { result ≡ behind_value kind }
 {
     match kind {
-        Kind::Comma | Kind::Semicolon => Some(Place::InList),
+        Kind::Comma | Kind::Semicolon => Some(GrammarPlace::InList),
         _ => attribute(kind),
     }
 }
 
 /// Behind the name of an attribute.
-fn behind_attribute(kind: Kind) -> Option<Place>
+fn behind_attribute(kind: Kind) -> Option<GrammarPlace>
     ensures { result ≡ behind_attribute kind }
 {
     match kind {
-        Kind::Equals => Some(Place::ValueNext),
+        Kind::Equals => Some(GrammarPlace::ValueNext),
         _ => behind_value(kind),
     }
 }
 
 /// The place to which the value of an attribute leads.
-fn value_to(place: Place, kind: Kind) -> Option<Place>
+fn value_to(place: GrammarPlace, kind: Kind) -> Option<GrammarPlace>
     ensures { result ≡ value_to place kind }
 {
     match kind {
@@ -248,13 +248,13 @@ fn value_to(place: Place, kind: Kind) -> Option<Place>
 }
 
 /// Why a token of this kind can't stand at a place.
-pub(crate) fn why_not(place: Place, kind: Kind) -> Why
+pub(crate) fn why_not(place: GrammarPlace, kind: Kind) -> Why
     ensures { result ≡ why_not place kind }
 {
     match place {
-        Place::EndNext => no_end(kind),
-        Place::Body => no_statement(kind),
-        Place::Over => Why::BehindGraph,
+        GrammarPlace::EndNext => no_end(kind),
+        GrammarPlace::Body => no_statement(kind),
+        GrammarPlace::Over => Why::BehindGraph,
         _ => not_wanted(lacking(place), kind),
     }
 }
@@ -292,19 +292,24 @@ fn not_wanted(why: Why, kind: Kind) -> Why
 }
 
 /// What is lacking if a token can't stand at a place.
-fn lacking(place: Place) -> Why
+fn lacking(place: GrammarPlace) -> Why
     ensures { result ≡ lacking place }
 {
     match place {
-        Place::Beginning | Place::BehindStrict => Why::NoGraph,
-        Place::BehindKind | Place::BehindTitle | Place::SubgraphNext | Place::SubgraphTitled =>
-            Why::NoBrace,
-        Place::PortNext | Place::CompassNext | Place::EndNext => Why::NoName,
-        Place::ListNext | Place::InList | Place::Attribute | Place::ValueNext | Place::Valued =>
-            Why::BadAttributes,
-        Place::AssignedNext => Why::BadAttributes,
-        Place::Body | Place::Named | Place::Member => Why::NoStatement,
-        Place::Ported | Place::Directed | Place::Listed => Why::NoStatement,
-        Place::Over => Why::BehindGraph,
+        GrammarPlace::Beginning | GrammarPlace::BehindStrict => Why::NoGraph,
+        GrammarPlace::BehindKind
+        | GrammarPlace::BehindTitle
+        | GrammarPlace::SubgraphNext
+        | GrammarPlace::SubgraphTitled => Why::NoBrace,
+        GrammarPlace::PortNext | GrammarPlace::CompassNext | GrammarPlace::EndNext => Why::NoName,
+        GrammarPlace::ListNext
+        | GrammarPlace::InList
+        | GrammarPlace::Attribute
+        | GrammarPlace::ValueNext
+        | GrammarPlace::Valued => Why::BadAttributes,
+        GrammarPlace::AssignedNext => Why::BadAttributes,
+        GrammarPlace::Body | GrammarPlace::Named | GrammarPlace::Member => Why::NoStatement,
+        GrammarPlace::Ported | GrammarPlace::Directed | GrammarPlace::Listed => Why::NoStatement,
+        GrammarPlace::Over => Why::BehindGraph,
     }
 }

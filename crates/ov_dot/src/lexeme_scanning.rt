@@ -9,7 +9,7 @@ const FIRST_ABOVE_ASCII: u8 = 128;
 
 /// A place in a part: what has been read of it.
 #[derive(Clone, Copy)]
-pub(crate) enum Place {
+pub(crate) enum ScanPlace {
     /// Nothing.
     Start,
     /// A line feed.
@@ -40,130 +40,132 @@ pub(crate) enum Place {
     End,
 }
 
-impl Place {
+impl ScanPlace {
     /// The place behind one byte more. None is returned if the part can't go on by it.
-    fn after(self, byte: u8) -> Option<Place>
+    fn after(self, byte: u8) -> Option<ScanPlace>
         requires { open_at self < 2 ^ 64 - 1 }
         ensures { result ≡ after self byte }
     {
         match self {
-            Place::Start => Place::first(byte),
-            Place::LineFeed => (byte == b'#').then_some(Place::LineComment),
-            Place::Slash => Place::behind_slash(byte),
-            Place::LineComment => (byte != b'\n').then_some(Place::LineComment),
-            Place::BlockComment => Some(Place::in_comment(byte)),
-            Place::BlockStar => Some(Place::behind_star(byte)),
-            Place::Word => is_word_byte(byte).then_some(Place::Word),
-            Place::Minus => Place::behind_minus(byte),
-            Place::Digits => Place::behind_digit(byte),
-            Place::Point | Place::Fraction => byte.is_ascii_digit().then_some(Place::Fraction),
-            Place::Text => Some(Place::in_text(byte)),
-            Place::Escaped => Some(Place::Text),
-            Place::Angle(depth) => Some(Place::in_html(depth, byte)),
-            Place::End => None,
+            ScanPlace::Start => ScanPlace::first(byte),
+            ScanPlace::LineFeed => (byte == b'#').then_some(ScanPlace::LineComment),
+            ScanPlace::Slash => ScanPlace::behind_slash(byte),
+            ScanPlace::LineComment => (byte != b'\n').then_some(ScanPlace::LineComment),
+            ScanPlace::BlockComment => Some(ScanPlace::in_comment(byte)),
+            ScanPlace::BlockStar => Some(ScanPlace::behind_star(byte)),
+            ScanPlace::Word => is_word_byte(byte).then_some(ScanPlace::Word),
+            ScanPlace::Minus => ScanPlace::behind_minus(byte),
+            ScanPlace::Digits => ScanPlace::behind_digit(byte),
+            ScanPlace::Point | ScanPlace::Fraction => byte
+                .is_ascii_digit()
+                .then_some(ScanPlace::Fraction),
+            ScanPlace::Text => Some(ScanPlace::in_text(byte)),
+            ScanPlace::Escaped => Some(ScanPlace::Text),
+            ScanPlace::Angle(depth) => Some(ScanPlace::in_html(depth, byte)),
+            ScanPlace::End => None,
         }
     }
 
     /// The place behind the first byte of a part.
-    fn first(byte: u8) -> Option<Place>
+    fn first(byte: u8) -> Option<ScanPlace>
         ensures { result ≡ first_place byte }
     {
         match byte {
-            b'\t' | b'\r' | b' ' => Some(Place::End),
-            b'{' | b'}' | b'[' | b']' | b';' | b',' | b'=' | b':' => Some(Place::End),
-            b'\n' => Some(Place::LineFeed),
-            b'/' => Some(Place::Slash),
-            b'"' => Some(Place::Text),
-            b'<' => Some(Place::Angle(0)),
-            b'-' => Some(Place::Minus),
-            _ if is_letter(byte) => Some(Place::Word),
-            _ => Place::decimal(byte),
+            b'\t' | b'\r' | b' ' => Some(ScanPlace::End),
+            b'{' | b'}' | b'[' | b']' | b';' | b',' | b'=' | b':' => Some(ScanPlace::End),
+            b'\n' => Some(ScanPlace::LineFeed),
+            b'/' => Some(ScanPlace::Slash),
+            b'"' => Some(ScanPlace::Text),
+            b'<' => Some(ScanPlace::Angle(0)),
+            b'-' => Some(ScanPlace::Minus),
+            _ if is_letter(byte) => Some(ScanPlace::Word),
+            _ => ScanPlace::decimal(byte),
         }
     }
 
     /// The place behind the first byte of a numeral.
-    fn decimal(byte: u8) -> Option<Place>
+    fn decimal(byte: u8) -> Option<ScanPlace>
         ensures { result ≡ decimal_place byte }
     {
         if byte.is_ascii_digit() {
-            return Some(Place::Digits);
+            return Some(ScanPlace::Digits);
         }
-        (byte == b'.').then_some(Place::Point)
+        (byte == b'.').then_some(ScanPlace::Point)
     }
 
     /// The place behind one byte more of a comment that a slash begins.
-    fn behind_slash(byte: u8) -> Option<Place>
-        ensures { result ≡ after Place.Slash byte }
+    fn behind_slash(byte: u8) -> Option<ScanPlace>
+        ensures { result ≡ after ScanPlace.Slash byte }
     {
         match byte {
-            b'/' => Some(Place::LineComment),
-            b'*' => Some(Place::BlockComment),
+            b'/' => Some(ScanPlace::LineComment),
+            b'*' => Some(ScanPlace::BlockComment),
             _ => None,
         }
     }
 
     /// The place behind one byte more of a comment.
-    fn in_comment(byte: u8) -> Place
-        ensures { Some result ≡ after Place.BlockComment byte }
+    fn in_comment(byte: u8) -> ScanPlace
+        ensures { Some result ≡ after ScanPlace.BlockComment byte }
     {
         match byte {
-            b'*' => Place::BlockStar,
-            _ => Place::BlockComment,
+            b'*' => ScanPlace::BlockStar,
+            _ => ScanPlace::BlockComment,
         }
     }
 
     /// The place behind one byte more of a comment, behind a `*`.
-    fn behind_star(byte: u8) -> Place
-        ensures { Some result ≡ after Place.BlockStar byte }
+    fn behind_star(byte: u8) -> ScanPlace
+        ensures { Some result ≡ after ScanPlace.BlockStar byte }
     {
         match byte {
-            b'/' => Place::End,
-            b'*' => Place::BlockStar,
-            _ => Place::BlockComment,
+            b'/' => ScanPlace::End,
+            b'*' => ScanPlace::BlockStar,
+            _ => ScanPlace::BlockComment,
         }
     }
 
     /// The place behind a minus and one byte more.
-    fn behind_minus(byte: u8) -> Option<Place>
-        ensures { result ≡ after Place.Minus byte }
+    fn behind_minus(byte: u8) -> Option<ScanPlace>
+        ensures { result ≡ after ScanPlace.Minus byte }
     {
         match byte {
-            b'-' | b'>' => Some(Place::End),
-            _ => Place::decimal(byte),
+            b'-' | b'>' => Some(ScanPlace::End),
+            _ => ScanPlace::decimal(byte),
         }
     }
 
     /// The place behind digits and one byte more.
-    fn behind_digit(byte: u8) -> Option<Place>
-        ensures { result ≡ after Place.Digits byte }
+    fn behind_digit(byte: u8) -> Option<ScanPlace>
+        ensures { result ≡ after ScanPlace.Digits byte }
     {
         if byte.is_ascii_digit() {
-            return Some(Place::Digits);
+            return Some(ScanPlace::Digits);
         }
-        (byte == b'.').then_some(Place::Fraction)
+        (byte == b'.').then_some(ScanPlace::Fraction)
     }
 
     /// The place behind one byte more of a quoted text.
-    fn in_text(byte: u8) -> Place
-        ensures { Some result ≡ after Place.Text byte }
+    fn in_text(byte: u8) -> ScanPlace
+        ensures { Some result ≡ after ScanPlace.Text byte }
     {
         match byte {
-            b'"' => Place::End,
-            b'\\' => Place::Escaped,
-            _ => Place::Text,
+            b'"' => ScanPlace::End,
+            b'\\' => ScanPlace::Escaped,
+            _ => ScanPlace::Text,
         }
     }
 
     /// The place behind one byte more of an HTML text, where this many further brackets are open.
-    fn in_html(depth: usize, byte: u8) -> Place
+    fn in_html(depth: usize, byte: u8) -> ScanPlace
         requires { depth < 2 ^ 64 - 1 }
-        ensures { Some result ≡ after (Place.Angle depth) byte }
+        ensures { Some result ≡ after (ScanPlace.Angle depth) byte }
     {
         match byte {
-            b'<' => Place::Angle(depth + 1),
-            b'>' if depth == 0 => Place::End,
-            b'>' => Place::Angle(depth - 1),
-            _ => Place::Angle(depth),
+            b'<' => ScanPlace::Angle(depth + 1),
+            b'>' if depth == 0 => ScanPlace::End,
+            b'>' => ScanPlace::Angle(depth - 1),
+            _ => ScanPlace::Angle(depth),
         }
     }
 
@@ -179,10 +181,15 @@ impl Place {
         ensures { result ≡ is_whole self }
     {
         match self {
-            Place::LineFeed | Place::LineComment | Place::Word => true,
-            Place::Digits | Place::Fraction | Place::End => true,
-            Place::Start | Place::Slash | Place::BlockComment | Place::BlockStar => false,
-            Place::Minus | Place::Point | Place::Text | Place::Escaped | Place::Angle(_) => false,
+            ScanPlace::LineFeed | ScanPlace::LineComment | ScanPlace::Word => true,
+            ScanPlace::Digits | ScanPlace::Fraction | ScanPlace::End => true,
+            ScanPlace::Start | ScanPlace::Slash | ScanPlace::BlockComment | ScanPlace::BlockStar =>
+                false,
+            ScanPlace::Minus
+            | ScanPlace::Point
+            | ScanPlace::Text
+            | ScanPlace::Escaped
+            | ScanPlace::Angle(_) => false,
         }
     }
 }
@@ -206,7 +213,7 @@ fn is_word_byte(byte: u8) -> bool
 pub(crate) fn part_len(text: &[u8]) -> Option<usize>
     ensures { MatchOption result (HasNoPrefix is_part text.now) (λ n. IsLongest is_part n text.now) }
 {
-    longest_from(Place::Start, text)
+    longest_from(ScanPlace::Start, text)
 }
 
 /// How many bytes of a text belong to the line feed that stands before it: those of a comment that begins with `#`.
@@ -214,12 +221,12 @@ pub(crate) fn part_len(text: &[u8]) -> Option<usize>
 pub(crate) fn comment_len(text: &[u8]) -> usize
     ensures { IsLongest is_feed_rest result text.now }
 {
-    longest_from(Place::LineFeed, text).unwrap_or(0)
+    longest_from(ScanPlace::LineFeed, text).unwrap_or(0)
 }
 
 /// The length of the longest prefix of a text by which a part goes on from a place, and may end.
 #[tactic(auto, unfolding(crate::specs::Code::Scanning::longest_from))]
-fn longest_from(start: Place, text: &[u8]) -> Option<usize>
+fn longest_from(start: ScanPlace, text: &[u8]) -> Option<usize>
     requires { open_at start ≡ 0 }
     ensures { result ≡ longest_from 0 (Some start) text.now None }
 {

@@ -6,7 +6,7 @@ ghost use Rattle.ov_dot.specs.Sayings.{nothing_said, with_edge, Said};
 ghost use Rattle.ov_dot.specs.Code.Seen.{reading, said_in, Gives};
 
 use crate::fault::{DotFault, Why};
-use crate::grammar_state::{Place, follows, why_not};
+use crate::grammar_state::{GrammarPlace, follows, why_not};
 use crate::{Kind, Token};
 use std::alloc::Global;
 
@@ -30,7 +30,7 @@ pub(crate) struct Reader<'a> {
     directed: bool,
     /// How many braces are open.
     depth: usize,
-    place: Place,
+    place: GrammarPlace,
     /// The last name of a node. Before the first one, the first token.
     name: Token<'a>,
     /// The line of the last token.
@@ -83,7 +83,7 @@ impl<'a> Reader<'a> {
         Reader {
             directed: false,
             depth: 0,
-            place: Place::Beginning,
+            place: GrammarPlace::Beginning,
             name: first,
             line: 1,
         }
@@ -121,8 +121,8 @@ impl<'a> Reader<'a> {
     {
         let from = self.name;
         match self.place {
-            Place::Named => tell_first(from, token.kind, said),
-            Place::EndNext => tell_edge(self.directed, Link { from, to: token }, said),
+            GrammarPlace::Named => tell_first(from, token.kind, said),
+            GrammarPlace::EndNext => tell_edge(self.directed, Link { from, to: token }, said),
             _ => Ok(()),
         }
     }
@@ -132,7 +132,7 @@ impl<'a> Reader<'a> {
         ensures { (said : Said) → Gives (λ _. said) result (ended (reading self.entry) self.entry.place said) }
     {
         match self.place {
-            Place::Over => Ok(()),
+            GrammarPlace::Over => Ok(()),
             _ => Err(DotFault::UnreadLine {
                 line: self.line,
                 why: Why::Unclosed,
@@ -193,21 +193,21 @@ fn depth_behind(depth: usize, kind: Kind) -> usize
 }
 
 /// The place behind one token more, where the grammar leads to this place.
-fn place_behind(depth: usize, kind: Kind, place: Place) -> Place
+fn place_behind(depth: usize, kind: Kind, place: GrammarPlace) -> GrammarPlace
     ensures { result ≡ place_behind depth kind place }
 {
     match kind {
-        Kind::CloseBrace if depth <= 1 => Place::Over,
+        Kind::CloseBrace if depth <= 1 => GrammarPlace::Over,
         _ => place,
     }
 }
 
 /// The last name of a node, behind one token more at this place.
-fn name_behind<'a>(place: Place, name: Token<'a>, token: Token<'a>) -> Token<'a>
+fn name_behind<'a>(place: GrammarPlace, name: Token<'a>, token: Token<'a>) -> Token<'a>
     ensures { lexeme result ≡ name_behind place (lexeme name.entry) (lexeme token.entry) }
 {
     match place {
-        Place::Named | Place::Member => token,
+        GrammarPlace::Named | GrammarPlace::Member => token,
         _ => name,
     }
 }

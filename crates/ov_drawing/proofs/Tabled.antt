@@ -4,7 +4,7 @@ use Rattle.std.specs.List.{AllZip}
 use Rattle.std.specs.BTreeMap.{BTreeMap, get}
 use Rattle.ov_ids.specs.Members.{Has}
 use Rattle.ov_cert.specs.declared.cert.Cert.{Cert}
-use Rattle.ov_drawing.specs.declared.node_classes.Classes.{Classes}
+use Rattle.ov_drawing.specs.declared.classes_by_certificate.Classes.{Classes}
 use Rattle.ov_drawing.specs.Classes.{band_of, link_class}
 use Rattle.ov_drawing.specs.Drawn.{DrawsLink, IsPathOn}
 use Rattle.ov_drawing.specs.Code.PathTests.{link_cmp, path_from}

@@ -9,9 +9,9 @@ ghost use Rattle.ov_drawing.specs.Code.Tables.{node_by, link_by};
 ghost use Rattle.ov_drawing.specs.declared.fault.PictureFault.TheVariants.{OutOfMemory as out_of_memory};
 
 use crate::chosen_entry::{ChosenEntry, entry_paths};
+use crate::classes_by_certificate::Classes;
 use crate::fault::PictureFault;
 use crate::node_and_link_classes::{LinkClass, NodeClass, link_class};
-use crate::node_classes::Classes;
 use crate::path_numbers::{PathNumbers, path_numbers};
 use ov_cert::Cert;
 use ov_components::{Components, components_without};

@@ -2,10 +2,10 @@
 #![tactic(auto)]
 
 mod chosen_entry;
+mod classes_by_certificate;
 mod drawing;
 mod fault;
 mod node_and_link_classes;
-mod node_classes;
 mod path_numbers;
 
 pub use chosen_entry::ChosenEntry;

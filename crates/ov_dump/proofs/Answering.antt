@@ -9,7 +9,7 @@ use Rattle.ov_dump.specs.Dumps.{ends_of, names_of}
 use Rattle.ov_dump.specs.Code.Listed.{AreUnanswered, AreWithoutEntry, IsUnanswered, ListThemselves, Missing}
 use Rattle.ov_dump.specs.Names.{ComesBefore}
 use Rattle.ov_dump.specs.declared.dump_and_graph_types.Dump.{Dump}
-use Rattle.ov_dump.specs.declared.dump_and_graph_types.Entry.{Entry}
+use Rattle.ov_dump.specs.declared.dump_and_graph_types.HostEntry.{HostEntry}
 use Rattle.ov_dump.specs.declared.dump_and_graph_types.Listing.{Listing}
 use Rattle.ov_dump.proofs.Places.{ordered_more, within}
 use Rattle.ov_dump.proofs.Sounding.{names_more}
@@ -45,7 +45,7 @@ pairs_more before l said later own more p = (
 )
 
 -- the names of entries and one more
-pub entry_more : (before : List Entry) (e : Entry) (names later : List (List ℕ))
+pub entry_more : (before : List HostEntry) (e : HostEntry) (names later : List (List ℕ))
     → ((n : List ℕ) → Has names n ↔ Has (names_of before) n)
     → ((n : List ℕ) → Has later n ↔ ((e.name ≡ n) ⊎ Has names n))
     → (n : List ℕ) → Has later n ↔ Has (names_of (before ++ e ∷ [])) n

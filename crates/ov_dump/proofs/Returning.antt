@@ -25,7 +25,7 @@ use Rattle.ov_dump.specs.Dumps as dumps
 use Rattle.ov_dump.specs.Faults.{AreSoundListings, IsSound}
 use Rattle.ov_dump.specs.declared.dump_and_graph_types.Choice.{Choice}
 use Rattle.ov_dump.specs.declared.dump_and_graph_types.Dump.{Dump}
-use Rattle.ov_dump.specs.declared.dump_and_graph_types.Entry.{Entry}
+use Rattle.ov_dump.specs.declared.dump_and_graph_types.HostEntry.{HostEntry}
 use Rattle.ov_dump.specs.declared.dump_and_graph_types.Listing.{Listing}
 use Rattle.ov_dump.proofs.Numbered.{name_is, name_one, named_node, node_one}
 use Rattle.ov_dump.specs.ShownNames.{shown_text}
@@ -35,7 +35,7 @@ use Rattle.ov_dump.proofs.Shown.{numbered, on_one_line, shown_some}
 
 -- ---- names are not empty
 
-entry_named : (entries : List Entry) (a : List ℕ) → ((e : Entry) → Has entries e → e.name ≢ [])
+entry_named : (entries : List HostEntry) (a : List ℕ) → ((e : HostEntry) → Has entries e → e.name ≢ [])
     → Has (names_of entries) a → a ≢ []
 entry_named [] a sound h = absurd h
 entry_named (e ∷ entries) a sound h = elim h [

@@ -8,7 +8,7 @@ use Rattle.ov_dump.specs.Faults.{AreSoundEntries, AreSoundListings, IsDumpFault,
 use Rattle.ov_dump.specs.Faults.{IsSoundListing}
 use Rattle.ov_dump.specs.declared.dump_and_graph_types.Choice.{Choice}
 use Rattle.ov_dump.specs.declared.dump_and_graph_types.Dump.{Dump}
-use Rattle.ov_dump.specs.declared.dump_and_graph_types.Entry.{Entry}
+use Rattle.ov_dump.specs.declared.dump_and_graph_types.HostEntry.{HostEntry}
 use Rattle.ov_dump.specs.declared.dump_and_graph_types.Listing.{Listing}
 use Rattle.ov_dump.specs.declared.graph_making_fault.DumpFault.{DumpFault}
 use Rattle.ov_dump.specs.declared.graph_making_fault.DumpFault.TheVariants.{NameTwice, EmptyName}
@@ -18,7 +18,7 @@ use Rattle.ov_dump.proofs.Places.{ordered_more}
 -- ---- entries
 
 -- the entries so far are sound, and their names were seen
-pub record SoundSoFar (before : List Entry) (seen : List (List ℕ)) : Type 0 where
+pub record SoundSoFar (before : List HostEntry) (seen : List (List ℕ)) : Type 0 where
   pub sound : AreSoundEntries before
   pub each : (n : List ℕ) → Has seen n ↔ Has (names_of before) n
 
@@ -28,12 +28,12 @@ begun seen none = record {
   each = λ n. ((λ h. subst (λ s. Has s n) none h), (λ h. absurd h));
 }
 
-pub names_more : (before : List Entry) (e : Entry) → names_of (before ++ e ∷ []) ≡ names_of before ++ e.name ∷ []
+pub names_more : (before : List HostEntry) (e : HostEntry) → names_of (before ++ e ∷ []) ≡ names_of before ++ e.name ∷ []
 names_more [] e = refl
 names_more (x ∷ xs) e = ap (λ ns. x.name ∷ ns) (names_more xs e)
 
 -- one entry more
-pub more : (before : List Entry) (e : Entry) (seen later : List (List ℕ)) → SoundSoFar before seen → e.name ≢ []
+pub more : (before : List HostEntry) (e : HostEntry) (seen later : List (List ℕ)) → SoundSoFar before seen → e.name ≢ []
     → ¬ Has seen e.name → ((n : List ℕ) → Has later n ↔ ((e.name ≡ n) ⊎ Has seen n))
     → SoundSoFar (before ++ e ∷ []) later
 more before e seen later s named fresh grown =
@@ -44,7 +44,7 @@ more before e seen later s named fresh grown =
         named = λ x h. elim (has_append_cases before (e ∷ []) x h) [
           | inl k ↦ s.sound.named x k
           | inr k ↦ elim k [
-            | inl same ↦ subst (λ (y : Entry). y.name ≢ []) same named
+            | inl same ↦ subst (λ (y : HostEntry). y.name ≢ []) same named
             | inr none ↦ absurd none
           ]
         ];
@@ -65,7 +65,7 @@ more before e seen later s named fresh grown =
     }
 
 -- the next entry is not sound
-pub flaw : (entries before after : List Entry) (e : Entry) (seen : List (List ℕ)) (fault : DumpFault)
+pub flaw : (entries before after : List HostEntry) (e : HostEntry) (seen : List (List ℕ)) (fault : DumpFault)
     → SoundSoFar before seen → entries ≡ before ++ e ∷ after → EntryFails seen e fault
     → (fault ≡ OutOfMemory) ⊎ IsEntryFlaw entries fault
 flaw entries before after e seen (EmptyName at) s split f = inr (before, e, (after, split, s.sound), f.0, f.1)

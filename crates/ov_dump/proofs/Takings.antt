@@ -12,7 +12,7 @@ use Rattle.ov_dump.specs.Faults.{IsDumpFault, IsSound, Naming, entry_namings, li
 use Rattle.ov_dump.specs.Names.{ComesBefore}
 use Rattle.ov_dump.specs.declared.dump_and_graph_types.Choice.{Choice}
 use Rattle.ov_dump.specs.declared.dump_and_graph_types.Dump.{Dump}
-use Rattle.ov_dump.specs.declared.dump_and_graph_types.Entry.{Entry}
+use Rattle.ov_dump.specs.declared.dump_and_graph_types.HostEntry.{HostEntry}
 use Rattle.ov_dump.specs.declared.dump_and_graph_types.Listing.{Listing}
 use Rattle.ov_dump.specs.declared.graph_making_fault.DumpFault.{DumpFault}
 use Rattle.ov_dump.specs.declared.graph_making_fault.DumpFault.TheVariants.{NameTwice, EmptyName}
@@ -27,7 +27,7 @@ pub texts_append : (xs ys : List Naming) → texts (xs ++ ys) ≡ texts xs ++ te
 texts_append [] ys = refl
 texts_append (x ∷ xs) ys = ap (λ ns. x.1 ∷ ns) (texts_append xs ys)
 
-pub entries_append : (xs ys : List Entry) → entry_namings (xs ++ ys) ≡ entry_namings xs ++ entry_namings ys
+pub entries_append : (xs ys : List HostEntry) → entry_namings (xs ++ ys) ≡ entry_namings xs ++ entry_namings ys
 entries_append [] ys = refl
 entries_append (x ∷ xs) ys = ap (λ ms. (x.at, x.name) ∷ ms) (entries_append xs ys)
 
@@ -141,7 +141,7 @@ runs_first old all more rest fault few whole r =
 
 -- ---- the names that are taken are those that the dump names
 
-texts_of_entries : (entries : List Entry) → texts (entry_namings entries) ≡ names_of entries
+texts_of_entries : (entries : List HostEntry) → texts (entry_namings entries) ≡ names_of entries
 texts_of_entries [] = refl
 texts_of_entries (e ∷ entries) = ap (λ ns. e.name ∷ ns) (texts_of_entries entries)
 

@@ -8,14 +8,14 @@ use Rattle.json.specs.Json.{Members, no_members, member}
 use Rattle.json.specs.Value.{items_view, members_view, value_view}
 use Rattle.json.specs.declared.value.Value.{Value}
 use Rattle.ov_dump.specs.declared.dump_and_graph_types.Dump.{Dump}
-use Rattle.ov_dump.specs.declared.dump_and_graph_types.Entry.{Entry}
+use Rattle.ov_dump.specs.declared.dump_and_graph_types.HostEntry.{HostEntry}
 use Rattle.ov_dump.specs.declared.dump_and_graph_types.Listing.{Listing}
 use Rattle.ov_dump.specs.Code.Reading.{FailsAt, FailsFrom, IsDumpIn, IsNoObject, as_items, as_members}
 use Rattle.ov_dump.specs.Views.{IsJson, IsViewsFault, SayDump, SaysViews, listed, listings_of, names_in, peers}
 use Rattle.ov_ids.specs.Options.{◌>>=◌}
-use Rattle.ov_dump.specs.declared.reading_fault.ReadingFault.{ReadingFault}
-use Rattle.ov_dump.specs.declared.reading_fault.ReadingFault.TheVariants.{NotJson, NotViews, NoView, UnreadLine}
-use Rattle.ov_dump.specs.declared.reading_fault.ReadingFault.TheVariants.{OutOfMemory}
+use Rattle.ov_dump.specs.declared.reading_fault.DumpReadFault.{DumpReadFault}
+use Rattle.ov_dump.specs.declared.reading_fault.DumpReadFault.TheVariants.{NotJson, NotViews, NoView, UnreadLine}
+use Rattle.ov_dump.specs.declared.reading_fault.DumpReadFault.TheVariants.{OutOfMemory}
 
 -- ---- items
 
@@ -115,17 +115,17 @@ next_item vs i d l =
 -- ---- members
 
 -- with what the members that are left say, the members say the entries and the listings so far, and those
-pub record ReadsOn (all : Members) (at : ℕ) (entries : List Entry) (listings : List Listing)
+pub record ReadsOn (all : Members) (at : ℕ) (entries : List HostEntry) (listings : List Listing)
     (left : Members) : Type 0 where
   pub says : (rest : Dump) → SayDump at left rest
       → SayDump 1 all (record { entries = entries ++ rest.entries; listings = listings ++ rest.listings })
-  pub fails : (fault : ReadingFault) → FailsFrom at left fault → FailsFrom 1 all fault
+  pub fails : (fault : DumpReadFault) → FailsFrom at left fault → FailsFrom 1 all fault
 
-pub reads_begun : (all : Members) (entries : List Entry) (listings : List Listing) → entries ≡ [] → listings ≡ []
+pub reads_begun : (all : Members) (entries : List HostEntry) (listings : List Listing) → entries ≡ [] → listings ≡ []
     → ReadsOn all 1 entries listings all
 reads_begun all entries listings no_entry no_listing = record {
   says = λ rest s.
-      subst (λ (es : List Entry). SayDump 1 all (record {
+      subst (λ (es : List HostEntry). SayDump 1 all (record {
         entries = es ++ rest.entries;
         listings = listings ++ rest.listings;
       }))
@@ -135,7 +135,7 @@ reads_begun all entries listings no_entry no_listing = record {
   fails = λ fault f. f;
 }
 
-later_fails : (at : ℕ) (name : List ℕ) (v : Json) (rest : Members) (names : List (List ℕ)) (fault : ReadingFault)
+later_fails : (at : ℕ) (name : List ℕ) (v : Json) (rest : Members) (names : List (List ℕ)) (fault : DumpReadFault)
     → peers v ≡ Some names → FailsFrom (at + 1) rest fault → FailsFrom at (member name v rest) fault
 later_fails at name v rest names (NoView entry wrong) e f =
     inr ((λ none. let no : Some names ≡ None = sym e ∙ none in absurd (cc)), f)
@@ -145,7 +145,7 @@ later_fails at name v rest names NotViews e f = absurd f
 later_fails at name v rest names (UnreadLine line why) e f = absurd f
 
 -- one member more
-pub reads_more : (all : Members) (at : ℕ) (entries entries' : List Entry) (listings listings' : List Listing)
+pub reads_more : (all : Members) (at : ℕ) (entries entries' : List HostEntry) (listings listings' : List Listing)
     (left rest : Members) (name : List ℕ) (v : Json) (names : List (List ℕ))
     → ReadsOn all at entries listings left → left ≡ member name v rest → peers v ≡ Some names
     → entries' ≡ entries ++ record { at = at; name = name } ∷ []
@@ -153,7 +153,7 @@ pub reads_more : (all : Members) (at : ℕ) (entries entries' : List Entry) (lis
     → ReadsOn all (at + 1) entries' listings' rest
 reads_more all at entries entries' listings listings' left rest name v names r first said e f = record {
   says = λ d s.
-      let entry : Entry = record { at = at; name = name } in
+      let entry : HostEntry = record { at = at; name = name } in
       let whole = r.says (record { entries = entry ∷ d.entries; listings = listings_of at name names ++ d.listings })
       (subst (λ (ms : Members). SayDump at ms
       (record { entries = entry ∷ d.entries; listings = listings_of at name names ++ d.listings }))
@@ -162,7 +162,7 @@ reads_more all at entries entries' listings listings' left rest name v names r f
       sym (append_assoc entries (entry ∷ []) d.entries) ∙ ap (λ es. es ++ d.entries) (sym e) in
       let listings_are : listings ++ (listings_of at name names ++ d.listings) ≡ listings' ++ d.listings =
       sym (append_assoc listings (listings_of at name names) d.listings) ∙ ap (λ ls. ls ++ d.listings) (sym f) in
-      subst (λ (es : List Entry). SayDump 1 all (record { entries = es; listings = listings' ++ d.listings }))
+      subst (λ (es : List HostEntry). SayDump 1 all (record { entries = es; listings = listings' ++ d.listings }))
       entries_are
       (subst (λ (ls : List Listing). SayDump 1 all (record { entries = entries ++ (entry ∷ d.entries); listings = ls }))
       listings_are whole);
@@ -170,7 +170,7 @@ reads_more all at entries entries' listings listings' left rest name v names r f
       (subst (λ (ms : Members). FailsFrom at ms fault) (sym first) (later_fails at name v rest names fault said g));
 }
 
-here_fails : (at : ℕ) (name : List ℕ) (v : Json) (rest : Members) (fault : ReadingFault)
+here_fails : (at : ℕ) (name : List ℕ) (v : Json) (rest : Members) (fault : DumpReadFault)
     → FailsAt at name (peers v) fault → FailsFrom at (member name v rest) fault
 here_fails at name v rest (NoView entry wrong) f = inl (f.2, f.0, f.1)
 here_fails at name v rest OutOfMemory f = tt
@@ -179,25 +179,25 @@ here_fails at name v rest NotViews f = absurd f
 here_fails at name v rest (UnreadLine line why) f = absurd f
 
 -- the next member is no list of names
-pub reads_wrong : (all : Members) (at : ℕ) (entries : List Entry) (listings : List Listing) (left rest : Members)
-    (name : List ℕ) (v : Json) (fault : ReadingFault)
+pub reads_wrong : (all : Members) (at : ℕ) (entries : List HostEntry) (listings : List Listing) (left rest : Members)
+    (name : List ℕ) (v : Json) (fault : DumpReadFault)
     → ReadsOn all at entries listings left → left ≡ member name v rest → FailsAt at name (peers v) fault
     → FailsFrom 1 all fault
 reads_wrong all at entries listings left rest name v fault r first f =
     r.fails fault (subst (λ (ms : Members). FailsFrom at ms fault) (sym first) (here_fails at name v rest fault f))
 
 -- memory ran out
-pub no_memory : (all : Members) (fault : ReadingFault) → fault ≡ OutOfMemory → FailsFrom 1 all fault
+pub no_memory : (all : Members) (fault : DumpReadFault) → fault ≡ OutOfMemory → FailsFrom 1 all fault
 no_memory all fault e = subst (FailsFrom 1 all) (sym e) tt
 
 -- no member is left
-pub reads_all : (all : Members) (at : ℕ) (entries : List Entry) (listings : List Listing) (left : Members)
+pub reads_all : (all : Members) (at : ℕ) (entries : List HostEntry) (listings : List Listing) (left : Members)
     → ReadsOn all at entries listings left → left ≡ no_members
     → SayDump 1 all (record { entries = entries; listings = listings })
 reads_all all at entries listings left r none =
     let whole = r.says (record { entries = []; listings = [] })
     (subst (λ (ms : Members). SayDump at ms (record { entries = []; listings = [] })) (sym none) (refl, refl)) in
-    subst (λ (es : List Entry). SayDump 1 all (record { entries = es; listings = listings })) (append-nil entries)
+    subst (λ (es : List HostEntry). SayDump 1 all (record { entries = es; listings = listings })) (append-nil entries)
     (subst (λ (ls : List Listing). SayDump 1 all (record { entries = entries ++ []; listings = ls }))
     (append-nil listings)
     whole)
@@ -252,7 +252,7 @@ peers_of_null (array is) e = absurd (cc)
 peers_of_null (object ms) e = absurd (cc)
 
 -- an entry fails without its name, or out of memory
-pub memory_fails : (at : ℕ) (name : List ℕ) (said : Option (List (List ℕ))) (fault : ReadingFault)
+pub memory_fails : (at : ℕ) (name : List ℕ) (said : Option (List (List ℕ))) (fault : DumpReadFault)
     → fault ≡ OutOfMemory → FailsAt at name said fault
 memory_fails at name said fault e = subst (FailsAt at name said) (sym e) tt
 
@@ -274,11 +274,11 @@ is_dump bytes (number t) d at says = absurd says
 is_dump bytes (string t) d at says = absurd says
 is_dump bytes (array is) d at says = absurd says
 
-other_fault : (bytes : List ℕ) (v : Json) (fault : ReadingFault) → IsJson bytes v → ((ms : Members) → v ≢ object ms)
+other_fault : (bytes : List ℕ) (v : Json) (fault : DumpReadFault) → IsJson bytes v → ((ms : Members) → v ≢ object ms)
     → fault ≡ NotViews → IsViewsFault bytes fault
 other_fault bytes v fault at none e = subst (IsViewsFault bytes) (sym e) (v, at, none)
 
-object_fault : (bytes : List ℕ) (ms : Members) (fault : ReadingFault) → IsJson bytes (object ms) → FailsFrom 1 ms fault
+object_fault : (bytes : List ℕ) (ms : Members) (fault : DumpReadFault) → IsJson bytes (object ms) → FailsFrom 1 ms fault
     → IsViewsFault bytes fault
 object_fault bytes ms (NoView entry wrong) at f = (ms, at, f)
 object_fault bytes ms OutOfMemory at f = tt
@@ -286,7 +286,7 @@ object_fault bytes ms NotJson at f = absurd f
 object_fault bytes ms NotViews at f = absurd f
 object_fault bytes ms (UnreadLine line why) at f = absurd f
 
-pub is_fault : (bytes : List ℕ) (v : Json) (fault : ReadingFault) → IsJson bytes v → IsNoObject (as_members v) fault
+pub is_fault : (bytes : List ℕ) (v : Json) (fault : DumpReadFault) → IsJson bytes v → IsNoObject (as_members v) fault
     → IsViewsFault bytes fault
 is_fault bytes (object ms) fault at f = object_fault bytes ms fault at f
 is_fault bytes null fault at f = other_fault bytes null fault at (λ ms e. absurd (cc)) f

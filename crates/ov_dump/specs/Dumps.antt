@@ -6,13 +6,13 @@ use Rattle.ov_graph.specs.Links.{LinkGraph, IsGraph, Linked}
 use Rattle.ov_dump.specs.Names.{ComesBefore}
 use Rattle.ov_dump.specs.declared.dump_and_graph_types.Choice.{Choice}
 use Rattle.ov_dump.specs.declared.dump_and_graph_types.Dump.{Dump}
-use Rattle.ov_dump.specs.declared.dump_and_graph_types.Entry.{Entry}
+use Rattle.ov_dump.specs.declared.dump_and_graph_types.HostEntry.{HostEntry}
 use Rattle.ov_dump.specs.declared.dump_and_graph_types.Listing.{Listing}
 
 -- ---- what a dump says
 
 -- the names of these entries, in order
-abbrev pub names_of : List Entry → List (List ℕ)
+abbrev pub names_of : List HostEntry → List (List ℕ)
 names_of entries = map (λ e. e.name) entries
 
 -- who lists whom, in order

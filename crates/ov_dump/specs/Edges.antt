@@ -4,12 +4,12 @@ use Rattle.std.specs.List.{flat_map}
 use Rattle.ov_lines.specs.Lines.{kept_lines}
 use Rattle.ov_dump.specs.FirstEntries.{AreFirsts}
 use Rattle.ov_dump.specs.declared.dump_and_graph_types.Dump.{Dump}
-use Rattle.ov_dump.specs.declared.dump_and_graph_types.Entry.{Entry}
+use Rattle.ov_dump.specs.declared.dump_and_graph_types.HostEntry.{HostEntry}
 use Rattle.ov_dump.specs.declared.dump_and_graph_types.Listing.{Listing}
 use Rattle.ov_dump.specs.EdgeLines.{IsBlankLine, IsEdge, IsReadable, IsWhy}
-use Rattle.ov_dump.specs.declared.reading_fault.ReadingFault.{ReadingFault}
-use Rattle.ov_dump.specs.declared.reading_fault.ReadingFault.TheVariants.{UnreadLine}
-use Rattle.ov_dump.specs.declared.reading_fault.ReadingFault.TheVariants.{OutOfMemory}
+use Rattle.ov_dump.specs.declared.reading_fault.DumpReadFault.{DumpReadFault}
+use Rattle.ov_dump.specs.declared.reading_fault.DumpReadFault.TheVariants.{UnreadLine}
+use Rattle.ov_dump.specs.declared.reading_fault.DumpReadFault.TheVariants.{OutOfMemory}
 use Rattle.ov_dump.specs.declared.unread_edge_line_reason.Why.{Why}
 
 -- two names, and the number of their line
@@ -31,7 +31,7 @@ abbrev pub listings_of : Edge → List Listing
 listings_of e = record { at = e.line; from = e.a; to = e.b } ∷ record { at = e.line; from = e.b; to = e.a } ∷ []
 
 -- the ends, each as an entry on the line of the edge
-abbrev pub ends_of : Edge → List Entry
+abbrev pub ends_of : Edge → List HostEntry
 ends_of e = record { at = e.line; name = e.a } ∷ record { at = e.line; name = e.b } ∷ []
 
 -- a file of these bytes says this dump: each end of an edge has one entry, at its first line, and each end lists the
@@ -49,7 +49,7 @@ IsUnreadAt (line ∷ more) n why =
     ((¬ IsReadable line.1) × (n ≡ line.0) × IsWhy line.1 why) ⊎ (IsReadable line.1 × IsUnreadAt more n why)
 
 -- why a file of these bytes says no dump
-abbrev pub IsEdgesFault : List ℕ → ReadingFault → Type 0
+abbrev pub IsEdgesFault : List ℕ → DumpReadFault → Type 0
 IsEdgesFault bytes (UnreadLine line why) = IsUnreadAt (kept_lines bytes) line why
 IsEdgesFault bytes OutOfMemory = ⊤
 IsEdgesFault bytes other = ⊥

@@ -8,7 +8,7 @@ use Rattle.ov_dump.specs.Dumps.{names_of}
 use Rattle.ov_dump.specs.Names.{ComesBefore}
 use Rattle.ov_dump.specs.declared.dump_and_graph_types.Choice.{Choice}
 use Rattle.ov_dump.specs.declared.dump_and_graph_types.Dump.{Dump}
-use Rattle.ov_dump.specs.declared.dump_and_graph_types.Entry.{Entry}
+use Rattle.ov_dump.specs.declared.dump_and_graph_types.HostEntry.{HostEntry}
 use Rattle.ov_dump.specs.declared.dump_and_graph_types.Listing.{Listing}
 use Rattle.ov_dump.specs.declared.graph_making_fault.DumpFault.{DumpFault}
 use Rattle.ov_dump.specs.declared.graph_making_fault.DumpFault.TheVariants.{NameTwice, EmptyName}
@@ -24,8 +24,8 @@ number_of OutOfMemory = 99
 -- ---- a dump without fault
 
 -- entries are sound: no name is empty, and no two are the same
-pub record AreSoundEntries (entries : List Entry) : Type 0 where
-  pub named : (e : Entry) → Has entries e → e.name ≢ []
+pub record AreSoundEntries (entries : List HostEntry) : Type 0 where
+  pub named : (e : HostEntry) → Has entries e → e.name ≢ []
   pub differ : Ordered (λ m n. m ≢ n) (names_of entries)
 
 -- a listing is sound: no name is empty. They may be one name, since who lists itself is linked to nobody by that
@@ -44,19 +44,19 @@ IsSound d = AreSoundEntries d.entries × AreSoundListings d.listings
 -- ---- the first that is not sound
 
 -- e is an entry, and those before it are sound
-abbrev pub IsNextEntry : List Entry → List Entry → Entry → Type 0
-IsNextEntry entries before e = (after : List Entry) × (entries ≡ before ++ e ∷ after) × AreSoundEntries before
+abbrev pub IsNextEntry : List HostEntry → List HostEntry → HostEntry → Type 0
+IsNextEntry entries before e = (after : List HostEntry) × (entries ≡ before ++ e ∷ after) × AreSoundEntries before
 
 -- l is a listing, and those before it are sound
 abbrev pub IsNextListing : List Listing → Listing → Type 0
 IsNextListing listings l = (before after : List Listing) × (listings ≡ before ++ l ∷ after) × AreSoundListings before
 
 -- what is wrong with the first entry that is not sound
-abbrev pub IsEntryFlaw : List Entry → DumpFault → Type 0
+abbrev pub IsEntryFlaw : List HostEntry → DumpFault → Type 0
 IsEntryFlaw entries (EmptyName at) =
-    (before : List Entry) × (e : Entry) × IsNextEntry entries before e × (at ≡ e.at) × (e.name ≡ [])
+    (before : List HostEntry) × (e : HostEntry) × IsNextEntry entries before e × (at ≡ e.at) × (e.name ≡ [])
 IsEntryFlaw entries (NameTwice at name) =
-    (before : List Entry) × (e : Entry) × IsNextEntry entries before e × (at ≡ e.at) × (name ≡ e.name)
+    (before : List HostEntry) × (e : HostEntry) × IsNextEntry entries before e × (at ≡ e.at) × (name ≡ e.name)
     × Has (names_of before) name
 IsEntryFlaw entries other = ⊥
 
@@ -77,7 +77,7 @@ abbrev pub Naming : Type 0
 Naming = ℕ × List ℕ
 
 -- the names that entries have
-abbrev pub entry_namings : List Entry → List Naming
+abbrev pub entry_namings : List HostEntry → List Naming
 entry_namings entries = map (λ e. (e.at, e.name)) entries
 
 -- the names that a listing has

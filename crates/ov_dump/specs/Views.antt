@@ -10,9 +10,9 @@ use Rattle.json.specs.Json.{Members, no_members, member, document}
 use Rattle.ov_ids.specs.Options.{◌>>=◌}
 use Rattle.ov_dump.specs.declared.dump_and_graph_types.Dump.{Dump}
 use Rattle.ov_dump.specs.declared.dump_and_graph_types.Listing.{Listing}
-use Rattle.ov_dump.specs.declared.reading_fault.ReadingFault.{ReadingFault}
-use Rattle.ov_dump.specs.declared.reading_fault.ReadingFault.TheVariants.{NotJson, NotViews, NoView}
-use Rattle.ov_dump.specs.declared.reading_fault.ReadingFault.TheVariants.{OutOfMemory}
+use Rattle.ov_dump.specs.declared.reading_fault.DumpReadFault.{DumpReadFault}
+use Rattle.ov_dump.specs.declared.reading_fault.DumpReadFault.TheVariants.{NotJson, NotViews, NoView}
+use Rattle.ov_dump.specs.declared.reading_fault.DumpReadFault.TheVariants.{OutOfMemory}
 
 -- with this byte, `.`, `e` or `E`, the whole part of a number ends: a fraction or an exponent begins
 abbrev pub ends_whole : ℕ → Bool
@@ -66,7 +66,7 @@ abbrev pub SaysViews : List ℕ → Dump → Type 0
 SaysViews bytes d = (ms : Members) × IsJson bytes (object ms) × SayDump 1 ms d
 
 -- why a file of these bytes says no dump
-abbrev pub IsViewsFault : List ℕ → ReadingFault → Type 0
+abbrev pub IsViewsFault : List ℕ → DumpReadFault → Type 0
 IsViewsFault bytes NotJson = (v : Json) → ¬ IsJson bytes v
 IsViewsFault bytes NotViews = (v : Json) × IsJson bytes v × ((ms : Members) → v ≢ object ms)
 IsViewsFault bytes (NoView entry name) = (ms : Members) × IsJson bytes (object ms) × LacksView 1 ms entry name

@@ -4,7 +4,7 @@ use ov_ids::Seq;
 
 /// A name that has an entry of its own.
 #[derive(Drop)]
-pub struct Entry {
+pub struct HostEntry {
     /// The line on which it is, counted from 1. In a JSON object, the number of the entry, counted from 1.
     pub at: u64,
     pub name: Name,
@@ -24,7 +24,7 @@ pub struct Listing {
 /// What a dump says: the entries in their order, and then the listings in theirs.
 #[derive(Drop)]
 pub struct Dump {
-    pub entries: Seq<Entry>,
+    pub entries: Seq<HostEntry>,
     pub listings: Seq<Listing>,
 }
 

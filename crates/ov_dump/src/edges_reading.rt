@@ -4,11 +4,11 @@ ghost use Rattle.ov_dump.specs.Edges.{IsEdgesFault, SaysEdges, listings_of};
 ghost use Rattle.ov_dump.specs.Code.Reading.{FailsAtLine, TakesEnds, TakesEntry};
 
 use crate::edge_line::{EdgeLine, read_edge_line};
-use crate::name_and_listing_from_text::{listing_of, name_of};
-use crate::reading_fault::ReadingFault;
+use crate::name_making::{listing_of, name_of};
+use crate::reading_fault::DumpReadFault;
 use crate::sorted_set_of_names::NameSet;
 use crate::unread_edge_line_reason::why_unread;
-use crate::{Dump, Entry, Listing};
+use crate::{Dump, HostEntry, Listing};
 use ov_ids::{OutOfMemory, Seq};
 use ov_lines::KeptLines;
 use std::alloc::Global;
@@ -16,7 +16,7 @@ use std::alloc::Global;
 /// The entries and the listings that lines say, in order, and the names that have an entry.
 #[derive(Drop)]
 struct EdgeParts {
-    entries: Vec<Entry>,
+    entries: Vec<HostEntry>,
     listings: Vec<Listing>,
     names: NameSet,
 }
@@ -28,7 +28,7 @@ struct EdgeParts {
 ///
 /// UnreadLine (70) says the first line of another form, or with a name that is no UTF-8, and why. OutOfMemory (99) is
 /// returned if an allocation was refused.
-pub fn read_edges(alloc: Global, bytes: &[u8]) -> Result<Dump, ReadingFault>
+pub fn read_edges(alloc: Global, bytes: &[u8]) -> Result<Dump, DumpReadFault>
     ensures dump { IfOk result (SaysEdges bytes.now) }
     ensures fault { IfErr result (IsEdgesFault bytes.now) }
 {
@@ -42,7 +42,7 @@ pub fn read_edges(alloc: Global, bytes: &[u8]) -> Result<Dump, ReadingFault>
     Ok(Dump { entries, listings })
 }
 
-fn read_parts(alloc: Global, bytes: &[u8]) -> Result<EdgeParts, ReadingFault>
+fn read_parts(alloc: Global, bytes: &[u8]) -> Result<EdgeParts, DumpReadFault>
     ensures dump { IfOk result (λ p. SaysEdges bytes.now
         (record { entries = p.entries.items; listings = p.listings.items })) }
     ensures fault { IfErr result (IsEdgesFault bytes.now) }
@@ -65,13 +65,13 @@ fn read_parts(alloc: Global, bytes: &[u8]) -> Result<EdgeParts, ReadingFault>
 }
 
 /// The fault of a line that can't be read.
-fn unread(alloc: Global, at: u64, line: &[u8]) -> ReadingFault
+fn unread(alloc: Global, at: u64, line: &[u8]) -> DumpReadFault
     requires { ¬ IsReadable line.now }
     ensures { FailsAtLine at line.now result }
 {
     match why_unread(alloc, line) {
-        Ok(why) => ReadingFault::UnreadLine { line: at, why },
-        Err(_) => ReadingFault::OutOfMemory,
+        Ok(why) => DumpReadFault::UnreadLine { line: at, why },
+        Err(_) => DumpReadFault::OutOfMemory,
     }
 }
 
@@ -100,7 +100,7 @@ fn add_edge(
 fn add_entry(
     alloc: Global,
     names: &mut NameSet,
-    entries: &mut Vec<Entry>,
+    entries: &mut Vec<HostEntry>,
     at: u64,
     name: &str,
 ) -> Result<(), OutOfMemory>
@@ -112,6 +112,6 @@ fn add_entry(
         return Ok(());
     }
     names.insert(name.copy(alloc)?)?;
-    entries.push(Entry { at, name })?;
+    entries.push(HostEntry { at, name })?;
     Ok(())
 }

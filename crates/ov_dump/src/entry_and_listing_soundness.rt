@@ -5,7 +5,7 @@ ghost use Rattle.ov_dump.specs.Faults.{IsEntryFlaw, IsFlaw, IsListingFlaw};
 ghost use Rattle.ov_dump.specs.Code.Judging.{EntryFails, ListingFails};
 ghost use Rattle.ov_dump.specs.declared.graph_making_fault.DumpFault.TheVariants.{OutOfMemory as out_of_memory};
 
-use crate::dump_and_graph_types::{Dump, Entry, Listing};
+use crate::dump_and_graph_types::{Dump, HostEntry, Listing};
 use crate::graph_making_fault::DumpFault;
 use crate::sorted_set_of_names::NameSet;
 use std::alloc::Global;
@@ -20,7 +20,7 @@ pub(crate) fn judge(alloc: Global, dump: &Dump) -> Result<(), DumpFault>
     Ok(())
 }
 
-fn judge_entries(alloc: Global, entries: &[Entry]) -> Result<(), DumpFault>
+fn judge_entries(alloc: Global, entries: &[HostEntry]) -> Result<(), DumpFault>
     ensures sound { OnOk result (AreSoundEntries entries.now) }
     ensures fault { IfErr result (λ fault. (fault ≡ out_of_memory) ⊎ IsEntryFlaw entries.now fault) }
 {
@@ -32,7 +32,7 @@ fn judge_entries(alloc: Global, entries: &[Entry]) -> Result<(), DumpFault>
 }
 
 /// Judges an entry behind those whose names were seen, and adds its name to these.
-fn judge_entry(alloc: Global, seen: &mut NameSet, entry: &Entry) -> Result<(), DumpFault>
+fn judge_entry(alloc: Global, seen: &mut NameSet, entry: &HostEntry) -> Result<(), DumpFault>
     ensures named { OnOk result (entry.now.name ≢ []) }
     ensures fresh { OnOk result (¬ Has seen.old entry.now.name) }
     ensures seen { OnOk result ((n : List ℕ) → Has seen.new n ↔ ((entry.now.name ≡ n) ⊎ Has seen.old n)) }

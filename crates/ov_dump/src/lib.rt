@@ -12,7 +12,7 @@ mod graph_making;
 mod graph_making_fault;
 mod listing_graphs;
 mod name;
-mod name_and_listing_from_text;
+mod name_making;
 mod names_in_graph_file_theorems;
 mod names_listing_themselves;
 mod names_shown_on_one_line;
@@ -28,7 +28,7 @@ mod unanswered_listings;
 mod unread_edge_line_reason;
 mod views_reading;
 
-pub use dump_and_graph_types::{Choice, Dump, Entry, Listing, NamedGraph};
+pub use dump_and_graph_types::{Choice, Dump, HostEntry, Listing, NamedGraph};
 pub use dump_determines_graph::one_graph;
 pub use dump_importing::import_dump;
 pub use edges_reading::read_edges;
@@ -39,7 +39,7 @@ pub use names_in_graph_file_theorems::{
     names_are_read, names_come_back, names_differ, one_shown_name,
 };
 pub use operator_notes::{import_notes, line_notes};
-pub use reading_fault::ReadingFault;
+pub use reading_fault::DumpReadFault;
 pub use refusal_or_write_fault::ImportFault;
 pub use unread_edge_line_reason::Why;
 pub use views_reading::read_views;

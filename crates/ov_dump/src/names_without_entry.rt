@@ -3,7 +3,7 @@ ghost use Rattle.ov_ids.specs.Members.{Has};
 ghost use Rattle.ov_dump.specs.Dumps.{names_of};
 ghost use Rattle.ov_dump.specs.Code.Listed.{AreWithoutEntry, Missing};
 
-use crate::dump_and_graph_types::{Dump, Entry, Listing};
+use crate::dump_and_graph_types::{Dump, HostEntry, Listing};
 use crate::name::Name;
 use crate::sorted_set_of_names::NameSet;
 use ov_ids::OutOfMemory;
@@ -34,7 +34,7 @@ fn listed_names(
 }
 
 /// The names that have an entry.
-fn entry_names(alloc: Global, entries: &[Entry]) -> Result<NameSet, OutOfMemory>
+fn entry_names(alloc: Global, entries: &[HostEntry]) -> Result<NameSet, OutOfMemory>
     ensures { IfOk result (λ names. (n : List ℕ) → Has names n ↔ Has (names_of entries.now) n) }
 {
     let mut names = NameSet::new(alloc);

@@ -7,7 +7,7 @@ ghost use Rattle.ov_dump.specs.Faults.{entry_namings, listing_namings, namings};
 ghost use Rattle.ov_dump.specs.Names.{ComesBefore};
 ghost use Rattle.ov_dump.specs.Code.Taking.{Gains, RunsOver};
 
-use crate::dump_and_graph_types::{Choice, Dump, Entry, Listing};
+use crate::dump_and_graph_types::{Choice, Dump, HostEntry, Listing};
 use crate::graph_making_fault::DumpFault;
 use crate::name::Name;
 use crate::sorted_set_of_names::NameSet;
@@ -52,7 +52,7 @@ fn take_all(
     Ok(())
 }
 
-fn take_entries(alloc: Global, names: &mut NameSet, entries: &[Entry]) -> Result<(), DumpFault>
+fn take_entries(alloc: Global, names: &mut NameSet, entries: &[HostEntry]) -> Result<(), DumpFault>
     requires few { length names.old ≤ most_nodes }
     ensures gains { OnOk result (Gains names.old (entry_namings entries.now) names.new) }
     ensures fault { IfErr result (RunsOver names.old (entry_namings entries.now)) }

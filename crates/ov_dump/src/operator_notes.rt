@@ -3,7 +3,7 @@ use crate::names_without_entry::{add, without_entry};
 use crate::pair_set::PairSet;
 use crate::sorted_set_of_names::NameSet;
 use crate::unanswered_listings::listed_by_one;
-use crate::{Choice, Dump, Entry, Listing, Name};
+use crate::{Choice, Dump, HostEntry, Listing, Name};
 use ov_ids::OutOfMemory;
 use std::alloc::{AllocError, Global};
 use std::fmt::Write;
@@ -229,7 +229,11 @@ fn note_colons(alloc: Global, notes: &mut String, dump: &Dump) -> Result<(), Out
 }
 
 /// Adds the names of entries that end in a colon.
-fn add_entries(alloc: Global, names: &mut NameSet, entries: &[Entry]) -> Result<(), OutOfMemory> {
+fn add_entries(
+    alloc: Global,
+    names: &mut NameSet,
+    entries: &[HostEntry],
+) -> Result<(), OutOfMemory> {
     for entry in entries {
         if ends_in_colon(&entry.name) {
             add(alloc, names, &entry.name)?;

@@ -1,6 +1,6 @@
 ghost use Rattle.std.specs.Prelude.{◌≡◌};
 ghost use Rattle.ov_dump.specs.FaultNumbers.{number_of};
-ghost use Rattle.ov_dump.specs.declared.reading_fault.ReadingFault.TheVariants.{OutOfMemory as out_of_memory};
+ghost use Rattle.ov_dump.specs.declared.reading_fault.DumpReadFault.TheVariants.{OutOfMemory as out_of_memory};
 
 use crate::Name;
 use crate::unread_edge_line_reason::Why;
@@ -10,7 +10,7 @@ use thiserror::Error;
 
 /// Why a file is no dump. The numbers 70 and 83 are chosen here.
 #[derive(Debug, Drop, Error)]
-pub enum ReadingFault {
+pub enum DumpReadFault {
     /// 60: the file is no JSON, or no UTF-8.
     #[error("the file is no JSON")]
     NotJson,
@@ -28,40 +28,40 @@ pub enum ReadingFault {
     OutOfMemory,
 }
 
-impl ReadingFault {
+impl DumpReadFault {
     /// The fault's number.
     pub fn number(&self) -> u32
         ensures { result ≡ number_of self.now }
     {
         match self {
-            ReadingFault::NotJson => 60,
-            ReadingFault::NotViews | ReadingFault::NoView { .. } => 83,
-            ReadingFault::UnreadLine { .. } => 70,
-            ReadingFault::OutOfMemory => 99,
+            DumpReadFault::NotJson => 60,
+            DumpReadFault::NotViews | DumpReadFault::NoView { .. } => 83,
+            DumpReadFault::UnreadLine { .. } => 70,
+            DumpReadFault::OutOfMemory => 99,
         }
     }
 }
 
-impl From<OutOfMemory> for ReadingFault {
+impl From<OutOfMemory> for DumpReadFault {
     ghost from_gives = { λ _ e. e ≡ out_of_memory };
 
-    fn from(_fault: OutOfMemory) -> ReadingFault {
-        ReadingFault::OutOfMemory
+    fn from(_fault: OutOfMemory) -> DumpReadFault {
+        DumpReadFault::OutOfMemory
     }
 }
 
-impl From<AllocError> for ReadingFault {
+impl From<AllocError> for DumpReadFault {
     ghost from_gives = { λ _ e. e ≡ out_of_memory };
 
-    fn from(_error: AllocError) -> ReadingFault {
-        ReadingFault::OutOfMemory
+    fn from(_error: AllocError) -> DumpReadFault {
+        DumpReadFault::OutOfMemory
     }
 }
 
-impl<T: Drop> From<AllocFailed<T>> for ReadingFault {
+impl<T: Drop> From<AllocFailed<T>> for DumpReadFault {
     ghost from_gives = { λ _ e. e ≡ out_of_memory };
 
-    fn from(_error: AllocFailed<T>) -> ReadingFault {
-        ReadingFault::OutOfMemory
+    fn from(_error: AllocFailed<T>) -> DumpReadFault {
+        DumpReadFault::OutOfMemory
     }
 }

@@ -3,11 +3,11 @@ ghost use Rattle.json.specs.Value.{items_view, members_view, value_view};
 ghost use Rattle.ov_dump.specs.Views.{IsViewsFault, SayDump, SaysViews, ends_whole, is_whole, listed};
 ghost use Rattle.ov_dump.specs.Views.{listings_of, names_in, peers};
 ghost use Rattle.ov_dump.specs.Code.Reading.{DumpOf, FailsAt, FailsFrom, as_items, as_members, names_read};
-ghost use Rattle.ov_dump.specs.declared.reading_fault.ReadingFault.TheVariants.{OutOfMemory as out_of_memory};
+ghost use Rattle.ov_dump.specs.declared.reading_fault.DumpReadFault.TheVariants.{OutOfMemory as out_of_memory};
 
-use crate::name_and_listing_from_text::{listing_of, name_of};
-use crate::reading_fault::ReadingFault;
-use crate::{Dump, Entry, Listing};
+use crate::name_making::{listing_of, name_of};
+use crate::reading_fault::DumpReadFault;
+use crate::{Dump, HostEntry, Listing};
 use json::{Error, Scratch, Value};
 use ov_ids::Seq;
 use std::alloc::Global;
@@ -15,7 +15,7 @@ use std::alloc::Global;
 /// The entries and the listings that members say, in order.
 #[derive(Drop)]
 struct ViewParts {
-    entries: Vec<Entry>,
+    entries: Vec<HostEntry>,
     listings: Vec<Listing>,
 }
 
@@ -37,7 +37,7 @@ pub(crate) enum Listed<'a> {
 /// NotJson (60): the bytes are no UTF-8 or no JSON. NotViews (83): they are another JSON value than an object. NoView
 /// (83) says the first entry whose value is no list of names. OutOfMemory (99) is returned if an allocation was
 /// refused.
-pub fn read_views(alloc: Global, bytes: &[u8]) -> Result<Dump, ReadingFault>
+pub fn read_views(alloc: Global, bytes: &[u8]) -> Result<Dump, DumpReadFault>
     ensures dump { IfOk result (SaysViews bytes.now) }
     ensures fault { IfErr result (IsViewsFault bytes.now) }
 {
@@ -45,14 +45,14 @@ pub fn read_views(alloc: Global, bytes: &[u8]) -> Result<Dump, ReadingFault>
     match Value::from_slice(alloc, bytes, &mut scratch) {
         Ok(value) => dump_of(alloc, &value),
         Err(fault) => match fault {
-            Error::Invalid => Err(ReadingFault::NotJson),
-            _ => Err(ReadingFault::OutOfMemory),
+            Error::Invalid => Err(DumpReadFault::NotJson),
+            _ => Err(DumpReadFault::OutOfMemory),
         },
     }
 }
 
 /// The dump that a value says.
-fn dump_of(alloc: Global, value: &Value<'_>) -> Result<Dump, ReadingFault>
+fn dump_of(alloc: Global, value: &Value<'_>) -> Result<Dump, DumpReadFault>
     ensures { DumpOf (value_view value.now) result }
 {
     match members_in(value) {
@@ -62,7 +62,7 @@ fn dump_of(alloc: Global, value: &Value<'_>) -> Result<Dump, ReadingFault>
             let listings = Seq::new(listings);
             Ok(Dump { entries, listings })
         }
-        None => Err(ReadingFault::NotViews),
+        None => Err(DumpReadFault::NotViews),
     }
 }
 
@@ -88,7 +88,7 @@ fn items_in<'v, 'a>(value: &'v Value<'a>) -> Option<&'v [Value<'a>]>
     }
 }
 
-fn read_members(alloc: Global, members: &[(&str, Value<'_>)]) -> Result<ViewParts, ReadingFault>
+fn read_members(alloc: Global, members: &[(&str, Value<'_>)]) -> Result<ViewParts, DumpReadFault>
     ensures dump { IfOk result (λ p. SayDump 1 (members_view members.now)
         (record { entries = p.entries.items; listings = p.listings.items })) }
     ensures fault { IfErr result (FailsFrom 1 (members_view members.now)) }
@@ -110,7 +110,7 @@ fn add_view(
     at: u64,
     name: &str,
     view: &Value<'_>,
-) -> Result<(), ReadingFault>
+) -> Result<(), DumpReadFault>
     ensures entry { OnOk result (parts.new.entries.items
         ≡ parts.old.entries.items ++ record { at = at; name = name.now } ∷ []) }
     ensures listings { OnOk result ((names : List (List ℕ)) × (peers (value_view view.now) ≡ Some names)
@@ -132,16 +132,16 @@ fn add_view(
 /// Adds an entry without listings.
 fn add_entry(
     alloc: Global,
-    entries: &mut Vec<Entry>,
+    entries: &mut Vec<HostEntry>,
     at: u64,
     name: &str,
-) -> Result<(), ReadingFault>
+) -> Result<(), DumpReadFault>
     ensures entry { OnOk result (entries.new.items
         ≡ entries.old.items ++ record { at = at; name = name.now } ∷ []) }
     ensures fault { IfErr result (λ fault. fault ≡ out_of_memory) }
 {
     let entry = name_of(alloc, name)?;
-    entries.push(Entry { at, name: entry })?;
+    entries.push(HostEntry { at, name: entry })?;
     Ok(())
 }
 
@@ -152,7 +152,7 @@ fn add_peers(
     at: u64,
     name: &str,
     items: &[Value<'_>],
-) -> Result<(), ReadingFault>
+) -> Result<(), DumpReadFault>
     ensures listings { OnOk result ((names : List (List ℕ)) × (listed (items_view items.now) ≡ Some names)
         × (listings.new.items ≡ listings.old.items ++ listings_of at name.now names)) }
     ensures fault { IfErr result (FailsAt at name.now (listed (items_view items.now))) }
@@ -206,11 +206,11 @@ fn ends_whole(byte: u8) -> bool
 }
 
 /// The fault of an entry whose value is no list of names.
-fn no_view(alloc: Global, entry: u64, name: &str) -> ReadingFault
+fn no_view(alloc: Global, entry: u64, name: &str) -> DumpReadFault
     ensures { FailsAt entry name.now None result }
 {
     match name_of(alloc, name) {
-        Ok(name) => ReadingFault::NoView { entry, name },
-        Err(_) => ReadingFault::OutOfMemory,
+        Ok(name) => DumpReadFault::NoView { entry, name },
+        Err(_) => DumpReadFault::OutOfMemory,
     }
 }

@@ -14,7 +14,7 @@ use crate::bit_rows::{Row, WORDS, has, words_for};
 use crate::bit_rows_from_links::rows_of;
 use crate::changing::{join, part, put_in, take_out};
 use crate::fault::GraphFault;
-use crate::first_fault::first_fault;
+use crate::graph_judging::first_fault;
 use crate::id_and_row_equality::{are_equal, have_same_rows};
 use crate::link_iterators::{Links, Neighbours};
 use crate::node_places_by_id::{are_nodes, place_in, place_of};

@@ -7,8 +7,8 @@ use Rattle.ov_grow.specs.declared.phase_moment_and_deliveries.Phase.{Phase}
 use Rattle.ov_io.specs.Device.{AppendsPrefixOf}
 use Rattle.ov_grow.specs.Replay.{Replays}
 use Rattle.ov_snap.specs.CoreState.{CoreState}
-use Rattle.ov_grow_commands.specs.declared.grow_command_fault.GrowthFault.{GrowthFault}
-use Rattle.ov_grow_commands.specs.declared.grow_command_fault.GrowthFault.TheVariants as growth
+use Rattle.ov_grow_commands.specs.declared.grow_command_fault.GrowCommandFault.{GrowCommandFault}
+use Rattle.ov_grow_commands.specs.declared.grow_command_fault.GrowCommandFault.TheVariants as growth
 
 -- with these options an overlay is grown by the scenario of this text, which replays its core
 pub record IsGrownBy (o : GrowOptions) (text : List ℕ) : Type 0 where
@@ -28,7 +28,7 @@ certificate_lines settled crashed healed =
 -- what a writer took: all of such a text, and the moments at the end of the phases are known; a prefix of it, if
 -- writing failed; and nothing, if growing was refused for this reason
 abbrev pub WasPrinted :
-    {W : Type 0} → GrowOptions → (W → Option (List ℕ)) → W → W → Result (List ℕ) GrowthFault → Type 0
+    {W : Type 0} → GrowOptions → (W → Option (List ℕ)) → W → W → Result (List ℕ) GrowCommandFault → Type 0
 WasPrinted o contents old new (Ok moments) =
     (text : List ℕ) × (grown : IsGrownBy o text) × Appends (contents old) (contents new) text
     × (moments ≡ grown.settled.moment ∷ grown.crashed.moment ∷ grown.healed.moment ∷ [])

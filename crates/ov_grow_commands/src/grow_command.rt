@@ -2,10 +2,10 @@ ghost use Rattle.std.specs.Prelude.{◌≡◌, ◌<◌, ◌+◌, IfErr, IfOk, On
 ghost use Rattle.std.specs.Io.KnownBytes.{Appends};
 ghost use Rattle.ov_io.specs.Device.{most_faults};
 ghost use Rattle.ov_grow_commands.specs.Growing.{WasPrinted, certificate_lines};
-ghost use Rattle.ov_grow_commands.specs.declared.grow_command_fault.GrowthFault.TheVariants.{Growing};
-ghost use Rattle.ov_grow_commands.specs.declared.grow_command_fault.GrowthFault.TheVariants.{Write as write_failed};
+ghost use Rattle.ov_grow_commands.specs.declared.grow_command_fault.GrowCommandFault.TheVariants.{Growing};
+ghost use Rattle.ov_grow_commands.specs.declared.grow_command_fault.GrowCommandFault.TheVariants.{Write as write_failed};
 
-use crate::grow_command_fault::GrowthFault;
+use crate::grow_command_fault::GrowCommandFault;
 use crate::row_files::options_of_row;
 use ov_arguments::GrowRequest;
 use ov_grow::{GrowFault, grow};
@@ -17,7 +17,7 @@ use std::io::Write;
 
 /// Grows an overlay, and prints its scenario, with the lines for its certificates if they are asked for. Prints nothing
 /// if growing is refused, but why on standard error.
-pub(crate) fn grow_asked(rt: &HostRuntime, request: &GrowRequest) -> Result<(), GrowthFault> {
+pub(crate) fn grow_asked(rt: &HostRuntime, request: &GrowRequest) -> Result<(), GrowCommandFault> {
     match &request.row {
         Some(row) => match options_of_row(rt, row.as_str()) {
             Ok(options) => print_grown(rt, &options, request.certificates),
@@ -33,7 +33,7 @@ fn print_grown(
     rt: &HostRuntime,
     options: &GrowOptions,
     certificates: bool,
-) -> Result<(), GrowthFault> {
+) -> Result<(), GrowCommandFault> {
     let mut sink = Sink::new(rt.stdout());
     let moments = print_scenario(rt, options, &mut sink)?;
     if !certificates {
@@ -50,7 +50,7 @@ fn print_scenario<W: Write>(
     rt: &HostRuntime,
     options: &GrowOptions,
     sink: &mut Sink<W>,
-) -> Result<[u32; 3], GrowthFault>
+) -> Result<[u32; 3], GrowCommandFault>
     requires { sink.old.faults < most_faults }
     ensures printed { WasPrinted options.now W.contents sink.old.writer sink.new.writer result }
     ensures failed { IfErr result (λ fault. fault ≡ write_failed → sink.new.faults ≡ sink.old.faults + 1) }
@@ -64,7 +64,7 @@ fn print_scenario<W: Write>(
             ];
             match sink.write_all(&grown.text) {
                 Ok(()) => Ok(moments),
-                Err(_) => Err(told(rt, GrowthFault::Write)),
+                Err(_) => Err(told(rt, GrowCommandFault::Write)),
             }
         }
         Err(fault) => Err(not_grown(rt, fault)),
@@ -79,7 +79,7 @@ fn print_certificate_lines<W: Write>(
     crashed: u32,
     healed: u32,
     sink: &mut Sink<W>,
-) -> Result<(), GrowthFault>
+) -> Result<(), GrowCommandFault>
     requires { sink.old.faults < most_faults }
     ensures { OnOk result (Appends (W.contents sink.old.writer) (W.contents sink.new.writer)
         (certificate_lines settled crashed healed)) }
@@ -87,9 +87,9 @@ fn print_certificate_lines<W: Write>(
     match certificate_lines(rt.alloc(), settled, crashed, healed) {
         Ok(text) => match sink.write_all(text.as_bytes()) {
             Ok(()) => Ok(()),
-            Err(_) => Err(told(rt, GrowthFault::Write)),
+            Err(_) => Err(told(rt, GrowCommandFault::Write)),
         },
-        Err(_) => Err(told(rt, GrowthFault::OutOfMemory)),
+        Err(_) => Err(told(rt, GrowCommandFault::OutOfMemory)),
     }
 }
 
@@ -106,10 +106,10 @@ fn certificate_lines(
 }
 
 /// Ends if growing was refused. Prints why.
-fn not_grown(rt: &HostRuntime, fault: GrowFault) -> GrowthFault
+fn not_grown(rt: &HostRuntime, fault: GrowFault) -> GrowCommandFault
     ensures { result ≡ Growing fault }
 {
-    let ended = GrowthFault::Growing(fault);
+    let ended = GrowCommandFault::Growing(fault);
     let _ = eprintln!(rt; "{ended}");
     print_refusal(rt, &fault);
     ended
@@ -125,16 +125,16 @@ pub(crate) fn print_refusal(rt: &HostRuntime, fault: &GrowFault) {
 }
 
 /// Prints the line of a fault, and what it means. Nothing more is known of it.
-pub(crate) fn told(rt: &HostRuntime, fault: GrowthFault) -> GrowthFault
+pub(crate) fn told(rt: &HostRuntime, fault: GrowCommandFault) -> GrowCommandFault
     ensures { result ≡ fault }
 {
     let meaning = match fault {
-        GrowthFault::Arguments => "the words after the command can't be read",
-        GrowthFault::Growing(_) => "growing was refused",
-        GrowthFault::Row => "a line is no row",
-        GrowthFault::Read => "reading failed",
-        GrowthFault::Write => "writing failed",
-        GrowthFault::OutOfMemory => "out of memory",
+        GrowCommandFault::Arguments => "the words after the command can't be read",
+        GrowCommandFault::Growing(_) => "growing was refused",
+        GrowCommandFault::Row => "a line is no row",
+        GrowCommandFault::Read => "reading failed",
+        GrowCommandFault::Write => "writing failed",
+        GrowCommandFault::OutOfMemory => "out of memory",
     };
     let _ = eprintln!(rt; "{fault}\n{meaning}");
     fault

@@ -1,8 +1,8 @@
 ghost use Rattle.std.specs.Prelude.{◌≡◌};
 ghost use Rattle.ov_grow_commands.specs.GrowFaults.{fault_of_sweep, growth_number};
-ghost use Rattle.ov_grow_commands.specs.declared.grow_command_fault.GrowthFault.TheVariants.{OutOfMemory as no_memory};
-ghost use Rattle.ov_grow_commands.specs.declared.grow_command_fault.GrowthFault.TheVariants.{Growing};
-ghost use Rattle.ov_grow_commands.specs.declared.grow_command_fault.GrowthFault.TheVariants.{Write as write_failed};
+ghost use Rattle.ov_grow_commands.specs.declared.grow_command_fault.GrowCommandFault.TheVariants.{OutOfMemory as no_memory};
+ghost use Rattle.ov_grow_commands.specs.declared.grow_command_fault.GrowCommandFault.TheVariants.{Growing};
+ghost use Rattle.ov_grow_commands.specs.declared.grow_command_fault.GrowCommandFault.TheVariants.{Write as write_failed};
 
 use ov_grow::{GrowFault, SweepFault};
 use ov_ids::OutOfMemory;
@@ -13,7 +13,7 @@ use std::fmt::{Display, Formatter, Result as Printed, Write};
 /// Why `overlay grow` or `overlay sweep` ended before its end. It is shown as the line that is printed on standard
 /// error.
 #[derive(Clone, Copy, Debug, PartialEq, Eq)]
-pub enum GrowthFault {
+pub enum GrowCommandFault {
     /// The words after the command can't be read.
     Arguments,
     /// Growing was refused.
@@ -28,23 +28,23 @@ pub enum GrowthFault {
     OutOfMemory,
 }
 
-impl GrowthFault {
+impl GrowCommandFault {
     /// The fault's number.
     pub fn number(&self) -> u32
         ensures { result ≡ growth_number self.now }
     {
         match self {
-            GrowthFault::Arguments => 73,
-            GrowthFault::Growing(fault) => fault.number(),
-            GrowthFault::Row => 70,
-            GrowthFault::Read => 71,
-            GrowthFault::Write => 72,
-            GrowthFault::OutOfMemory => 99,
+            GrowCommandFault::Arguments => 73,
+            GrowCommandFault::Growing(fault) => fault.number(),
+            GrowCommandFault::Row => 70,
+            GrowCommandFault::Read => 71,
+            GrowCommandFault::Write => 72,
+            GrowCommandFault::OutOfMemory => 99,
         }
     }
 }
 
-impl Display for GrowthFault {
+impl Display for GrowCommandFault {
     ghost use Rattle.std.specs.Prelude.{Some};
     ghost use Rattle.ov_io.specs.Refusal.{refusal_text};
     ghost use Rattle.ov_grow_commands.specs.GrowFaults.{growth_number};
@@ -57,54 +57,54 @@ impl Display for GrowthFault {
     }
 }
 
-impl From<GrowFault> for GrowthFault {
+impl From<GrowFault> for GrowCommandFault {
     ghost from_gives = { λ fault e. e ≡ Growing fault };
 
-    fn from(fault: GrowFault) -> GrowthFault {
-        GrowthFault::Growing(fault)
+    fn from(fault: GrowFault) -> GrowCommandFault {
+        GrowCommandFault::Growing(fault)
     }
 }
 
-impl From<SweepFault> for GrowthFault {
+impl From<SweepFault> for GrowCommandFault {
     ghost from_gives = { λ fault e. e ≡ fault_of_sweep fault };
 
-    fn from(fault: SweepFault) -> GrowthFault {
+    fn from(fault: SweepFault) -> GrowCommandFault {
         match fault {
-            SweepFault::Run(refused) => GrowthFault::Growing(refused.fault),
-            SweepFault::Write => GrowthFault::Write,
-            SweepFault::OutOfMemory => GrowthFault::OutOfMemory,
+            SweepFault::Run(refused) => GrowCommandFault::Growing(refused.fault),
+            SweepFault::Write => GrowCommandFault::Write,
+            SweepFault::OutOfMemory => GrowCommandFault::OutOfMemory,
         }
     }
 }
 
-impl From<WriteFault> for GrowthFault {
+impl From<WriteFault> for GrowCommandFault {
     ghost from_gives = { λ _ e. e ≡ write_failed };
 
-    fn from(_fault: WriteFault) -> GrowthFault {
-        GrowthFault::Write
+    fn from(_fault: WriteFault) -> GrowCommandFault {
+        GrowCommandFault::Write
     }
 }
 
-impl From<OutOfMemory> for GrowthFault {
+impl From<OutOfMemory> for GrowCommandFault {
     ghost from_gives = { λ _ e. e ≡ no_memory };
 
-    fn from(_fault: OutOfMemory) -> GrowthFault {
-        GrowthFault::OutOfMemory
+    fn from(_fault: OutOfMemory) -> GrowCommandFault {
+        GrowCommandFault::OutOfMemory
     }
 }
 
-impl From<AllocError> for GrowthFault {
+impl From<AllocError> for GrowCommandFault {
     ghost from_gives = { λ _ e. e ≡ no_memory };
 
-    fn from(_error: AllocError) -> GrowthFault {
-        GrowthFault::OutOfMemory
+    fn from(_error: AllocError) -> GrowCommandFault {
+        GrowCommandFault::OutOfMemory
     }
 }
 
-impl<T: Drop> From<AllocFailed<T>> for GrowthFault {
+impl<T: Drop> From<AllocFailed<T>> for GrowCommandFault {
     ghost from_gives = { λ _ e. e ≡ no_memory };
 
-    fn from(_error: AllocFailed<T>) -> GrowthFault {
-        GrowthFault::OutOfMemory
+    fn from(_error: AllocFailed<T>) -> GrowCommandFault {
+        GrowCommandFault::OutOfMemory
     }
 }

@@ -1,5 +1,5 @@
 use crate::grow_command::{grow_asked, told};
-use crate::grow_command_fault::GrowthFault;
+use crate::grow_command_fault::GrowCommandFault;
 use crate::sweep_command::sweep_asked;
 use ov_arguments::{GrowArgumentsFault, GrowingRequest, read_growing};
 use std::thread::Threads;
@@ -10,7 +10,7 @@ pub fn grow_or_sweep<T: Threads + Sync>(
     rt: &HostRuntime,
     threads: &T,
     arguments: &[String],
-) -> Result<bool, GrowthFault> {
+) -> Result<bool, GrowCommandFault> {
     match read_growing(rt.alloc(), arguments) {
         Ok(None) => Ok(false),
         Ok(Some(GrowingRequest::Grow(request))) => {
@@ -26,13 +26,13 @@ pub fn grow_or_sweep<T: Threads + Sync>(
 }
 
 /// Ends if words can't be read. Prints what is wrong with them.
-fn unread_words(rt: &HostRuntime, fault: &GrowArgumentsFault) -> GrowthFault {
+fn unread_words(rt: &HostRuntime, fault: &GrowArgumentsFault) -> GrowCommandFault {
     match fault {
         GrowArgumentsFault::BadArguments { reason } => {
-            let ended = GrowthFault::Arguments;
+            let ended = GrowCommandFault::Arguments;
             let _ = eprint!(rt; "{ended}\n{reason}");
             ended
         }
-        GrowArgumentsFault::OutOfMemory => told(rt, GrowthFault::OutOfMemory),
+        GrowArgumentsFault::OutOfMemory => told(rt, GrowCommandFault::OutOfMemory),
     }
 }

@@ -12,5 +12,5 @@ mod sweep_command;
 mod sweep_progress;
 mod sweep_report;
 
-pub use grow_command_fault::GrowthFault;
+pub use grow_command_fault::GrowCommandFault;
 pub use grow_or_sweep_dispatch::grow_or_sweep;

@@ -1,5 +1,5 @@
 use crate::grow_command::told;
-use crate::grow_command_fault::GrowthFault;
+use crate::grow_command_fault::GrowCommandFault;
 use crate::sweep_command::refused_run;
 use crate::sweep_progress::RunProgress;
 use ov_arguments::SweepRequest;
@@ -9,7 +9,10 @@ use ov_io::Sink;
 use ov_sweep_rows::{MessageRow, message_header_text, message_row_text};
 
 /// Prints a row for each broadcast of a sweep, run after run. Prints why it ended before its end.
-pub(crate) fn print_messages(rt: &HostRuntime, request: &SweepRequest) -> Result<(), GrowthFault> {
+pub(crate) fn print_messages(
+    rt: &HostRuntime,
+    request: &SweepRequest,
+) -> Result<(), GrowCommandFault> {
     if let Err(fault) = print_message_header(rt) {
         return Err(told(rt, fault));
     }
@@ -23,14 +26,14 @@ pub(crate) fn print_messages(rt: &HostRuntime, request: &SweepRequest) -> Result
     Ok(())
 }
 
-fn print_message_header(rt: &HostRuntime) -> Result<(), GrowthFault> {
+fn print_message_header(rt: &HostRuntime) -> Result<(), GrowCommandFault> {
     let header = message_header_text(rt.alloc())?;
     Ok(Sink::new(rt.stdout()).write_all(&header)?)
 }
 
 /// Grows an overlay with these options, and prints a row for each of its broadcasts. Prints why it ended before its
 /// end.
-fn print_messages_of(rt: &HostRuntime, options: &GrowOptions) -> Result<(), GrowthFault> {
+fn print_messages_of(rt: &HostRuntime, options: &GrowOptions) -> Result<(), GrowCommandFault> {
     match message_rows_of(rt.alloc(), options) {
         Ok(messages) => match write_messages(rt, &messages) {
             Ok(()) => Ok(()),
@@ -47,7 +50,7 @@ fn print_messages_of(rt: &HostRuntime, options: &GrowOptions) -> Result<(), Grow
 }
 
 /// Writes rows of broadcasts to standard output, one after the other.
-fn write_messages(rt: &HostRuntime, messages: &[MessageRow]) -> Result<(), GrowthFault> {
+fn write_messages(rt: &HostRuntime, messages: &[MessageRow]) -> Result<(), GrowCommandFault> {
     for message in messages {
         let text = message_row_text(rt.alloc(), message)?;
         Sink::new(rt.stdout()).write_all(&text)?;

@@ -1,5 +1,5 @@
 use crate::grow_command::told;
-use crate::grow_command_fault::GrowthFault;
+use crate::grow_command_fault::GrowCommandFault;
 use ov_io::{Sink, unopened_text};
 use std::fs::{File, OpenFile, OpenOptions};
 use std::io::ErrorKind;
@@ -9,7 +9,7 @@ use std::io::ErrorKind;
 pub(crate) fn opened_picture(
     rt: &HostRuntime,
     path: Option<&str>,
-) -> Result<Option<File>, GrowthFault> {
+) -> Result<Option<File>, GrowCommandFault> {
     let Some(path) = path else {
         return Ok(None);
     };
@@ -18,7 +18,7 @@ pub(crate) fn opened_picture(
     match options.open(rt, path) {
         Ok(file) => Ok(Some(file)),
         Err(error) => {
-            let ended = GrowthFault::Write;
+            let ended = GrowCommandFault::Write;
             let _ = eprintln!(rt; "{ended}");
             if let Ok(text) = unopened_text(rt.alloc(), path, &error) {
                 let _ = eprintln!(rt; "{text}");
@@ -33,13 +33,13 @@ pub(crate) fn write_picture(
     rt: &HostRuntime,
     file: File,
     picture: &str,
-) -> Result<(), GrowthFault> {
+) -> Result<(), GrowCommandFault> {
     if !is_emptied(&file) {
-        return Err(told(rt, GrowthFault::Write));
+        return Err(told(rt, GrowCommandFault::Write));
     }
     match Sink::new(file).write_all(picture.as_bytes()) {
         Ok(()) => Ok(()),
-        Err(_) => Err(told(rt, GrowthFault::Write)),
+        Err(_) => Err(told(rt, GrowCommandFault::Write)),
     }
 }
 

@@ -1,11 +1,11 @@
 ghost use Rattle.std.specs.Prelude.{◌≡◌, ◌≤◌, ◌↔◌, ◌⊎◌, IfErr, IfOk, IfSome, IsTrue};
 ghost use Rattle.ov_grow_commands.specs.Code.RowFiles.{IsUnreadRows};
 ghost use Rattle.ov_grow_commands.specs.GrowFaults.{fault_of_rows};
-ghost use Rattle.ov_grow_commands.specs.declared.grow_command_fault.GrowthFault.TheVariants.{OutOfMemory, Read};
+ghost use Rattle.ov_grow_commands.specs.declared.grow_command_fault.GrowCommandFault.TheVariants.{OutOfMemory, Read};
 ghost use Rattle.ov_sweep_rows.specs.Reading.{AreRowsOf};
 
 use crate::grow_command::told;
-use crate::grow_command_fault::GrowthFault;
+use crate::grow_command_fault::GrowCommandFault;
 use ov_grow_options::GrowOptions;
 use ov_io::{ReadFault, Source, shown_name, unopened_text, unread_text};
 use ov_sweep_rows::{Row, RowFault, read_rows};
@@ -14,12 +14,15 @@ use std::io::{self, IsTerminal, Read};
 
 /// The rows of files, one file after the other. Prints why, if a file can't be read or has a line that is no row, or if
 /// memory runs out.
-pub(crate) fn rows_of_files(rt: &HostRuntime, files: &[String]) -> Result<Vec<Row>, GrowthFault> {
+pub(crate) fn rows_of_files(
+    rt: &HostRuntime,
+    files: &[String],
+) -> Result<Vec<Row>, GrowCommandFault> {
     let mut rows = Vec::new(rt.alloc());
     for file in files {
         let more = rows_of_file(rt, file.as_str())?;
         if rows.extend_from_slice(&more).is_err() {
-            return Err(told(rt, GrowthFault::OutOfMemory));
+            return Err(told(rt, GrowCommandFault::OutOfMemory));
         }
     }
     Ok(rows)
@@ -27,7 +30,7 @@ pub(crate) fn rows_of_files(rt: &HostRuntime, files: &[String]) -> Result<Vec<Ro
 
 /// The rows of a file, or of standard input. Prints why, if it can't be read or has a line that is no row, or if memory
 /// runs out.
-fn rows_of_file(rt: &HostRuntime, name: &str) -> Result<Vec<Row>, GrowthFault> {
+fn rows_of_file(rt: &HostRuntime, name: &str) -> Result<Vec<Row>, GrowCommandFault> {
     if name == STANDARD_INPUT {
         tell_typing(rt);
         return rows_from(rt, name, rt.stdin());
@@ -43,7 +46,7 @@ fn rows_from<R: Read + Drop>(
     rt: &HostRuntime,
     name: &str,
     reader: R,
-) -> Result<Vec<Row>, GrowthFault>
+) -> Result<Vec<Row>, GrowCommandFault>
     ensures rows { IfOk result (λ rows. IfSome (R.remaining reader) (λ xs. AreRowsOf xs rows.items)) }
     ensures fault { IfErr result (IsUnreadRows (R.remaining reader)) }
 {
@@ -55,7 +58,7 @@ fn rows_from<R: Read + Drop>(
 }
 
 /// The options of a row that is named as FILE:N. Prints why, if there is no such row, or if memory runs out.
-pub(crate) fn options_of_row(rt: &HostRuntime, row: &str) -> Result<GrowOptions, GrowthFault> {
+pub(crate) fn options_of_row(rt: &HostRuntime, row: &str) -> Result<GrowOptions, GrowCommandFault> {
     let Some((file, number)) = row.rsplit_once(":") else {
         return Err(no_row(rt, row, "a row is named FILE:N, as rows.csv:12"));
     };
@@ -81,8 +84,8 @@ fn has_its_sender(options: &GrowOptions) -> bool
 }
 
 /// Ends if a row that is asked for is not there. Prints its name, and why.
-fn no_row(rt: &HostRuntime, row: &str, reason: &str) -> GrowthFault {
-    let ended = GrowthFault::Row;
+fn no_row(rt: &HostRuntime, row: &str, reason: &str) -> GrowCommandFault {
+    let ended = GrowCommandFault::Row;
     let _ = eprintln!(rt; "{ended}");
     if let Ok(shown) = shown_name(rt.alloc(), row) {
         let _ = eprintln!(rt; "{shown}: {reason}");
@@ -94,10 +97,10 @@ fn no_row(rt: &HostRuntime, row: &str, reason: &str) -> GrowthFault {
 const STANDARD_INPUT: &str = "-";
 
 /// Ends if a file can't be opened. Prints its name, with the cause.
-fn not_opened(rt: &HostRuntime, name: &str, error: &io::Error) -> GrowthFault
+fn not_opened(rt: &HostRuntime, name: &str, error: &io::Error) -> GrowCommandFault
     ensures { result ≡ Read }
 {
-    let ended = GrowthFault::Read;
+    let ended = GrowCommandFault::Read;
     let _ = eprintln!(rt; "{ended}");
     if let Ok(text) = unopened_text(rt.alloc(), name, error) {
         let _ = eprintln!(rt; "{text}");
@@ -117,15 +120,15 @@ fn all_bytes<R: Read + Drop>(
     rt: &HostRuntime,
     name: &str,
     reader: R,
-) -> Result<Vec<u8>, GrowthFault>
+) -> Result<Vec<u8>, GrowCommandFault>
     ensures bytes { IfOk result (λ bytes. IfSome (R.remaining reader) (λ xs. bytes.items ≡ xs)) }
     ensures fault { IfErr result (λ fault. (fault ≡ Read) ⊎ (fault ≡ OutOfMemory)) }
 {
     match Source::new(reader).read_all(rt.alloc()) {
         Ok(bytes) => Ok(bytes),
-        Err(ReadFault::OutOfMemory) => Err(told(rt, GrowthFault::OutOfMemory)),
+        Err(ReadFault::OutOfMemory) => Err(told(rt, GrowCommandFault::OutOfMemory)),
         Err(ReadFault::Read) => {
-            let ended = GrowthFault::Read;
+            let ended = GrowCommandFault::Read;
             let _ = eprintln!(rt; "{ended}");
             if let Ok(text) = unread_text(rt.alloc(), name) {
                 let _ = eprintln!(rt; "{text}");
@@ -136,13 +139,13 @@ fn all_bytes<R: Read + Drop>(
 }
 
 /// Ends if a file has a line that is no row. Prints its name, and which line.
-fn no_rows(rt: &HostRuntime, name: &str, fault: RowFault) -> GrowthFault
+fn no_rows(rt: &HostRuntime, name: &str, fault: RowFault) -> GrowCommandFault
     ensures { result ≡ fault_of_rows fault }
 {
     if fault == RowFault::OutOfMemory {
-        return told(rt, GrowthFault::OutOfMemory);
+        return told(rt, GrowCommandFault::OutOfMemory);
     }
-    let ended = GrowthFault::Row;
+    let ended = GrowCommandFault::Row;
     let _ = eprintln!(rt; "{ended}");
     if let Ok(shown) = shown_name(rt.alloc(), name) {
         let _ = eprintln!(rt; "{shown}: {fault}");

@@ -2,7 +2,7 @@ ghost use Rattle.std.specs.Prelude.{IsTrue};
 ghost use Rattle.ov_grow_commands.specs.KeptRows.{AreGrown, asked_measures, needs_rows};
 
 use crate::grow_command::{print_refusal, told};
-use crate::grow_command_fault::GrowthFault;
+use crate::grow_command_fault::GrowCommandFault;
 use crate::message_row_printing::print_messages;
 use crate::picture_file::opened_picture;
 use crate::row_files::rows_of_files;
@@ -20,7 +20,7 @@ pub(crate) fn sweep_asked<T: Threads + Sync>(
     rt: &HostRuntime,
     threads: &T,
     request: &SweepRequest,
-) -> Result<(), GrowthFault> {
+) -> Result<(), GrowCommandFault> {
     match request.printed {
         Printed::List { block } => print_list(rt, request, block),
         Printed::Messages => print_messages(rt, request),
@@ -29,7 +29,7 @@ pub(crate) fn sweep_asked<T: Threads + Sync>(
 }
 
 /// Prints the commands of all blocks of runs. Prints why it ended before its end.
-fn print_list(rt: &HostRuntime, request: &SweepRequest, most: u32) -> Result<(), GrowthFault> {
+fn print_list(rt: &HostRuntime, request: &SweepRequest, most: u32) -> Result<(), GrowCommandFault> {
     for block in request.blocks(most) {
         if let Err(fault) = print_block(rt, &block) {
             return Err(told(rt, fault));
@@ -39,7 +39,7 @@ fn print_list(rt: &HostRuntime, request: &SweepRequest, most: u32) -> Result<(),
 }
 
 /// Prints the command of a block of runs.
-fn print_block(rt: &HostRuntime, block: &SweepBlock) -> Result<(), GrowthFault> {
+fn print_block(rt: &HostRuntime, block: &SweepBlock) -> Result<(), GrowCommandFault> {
     let mut line = block.command(rt.alloc())?;
     line.push('\n')?;
     Ok(Sink::new(rt.stdout()).write_all(line.as_bytes())?)
@@ -51,7 +51,7 @@ fn print_sweep<T: Threads + Sync>(
     rt: &HostRuntime,
     threads: &T,
     request: &SweepRequest,
-) -> Result<(), GrowthFault> {
+) -> Result<(), GrowCommandFault> {
     let mut picture = opened_picture(rt, request.svg.as_deref())?;
     match &request.read {
         Some(files) => {
@@ -70,7 +70,7 @@ fn read_and_print(
     rt: &HostRuntime,
     request: &SweepRequest,
     files: &[String],
-) -> Result<Vec<Row>, GrowthFault> {
+) -> Result<Vec<Row>, GrowCommandFault> {
     let rows = rows_of_files(rt, files)?;
     tell_none(rt, &rows);
     tell_repeated(rt, &rows)?;
@@ -83,7 +83,7 @@ fn read_and_print(
 }
 
 /// Prints the header, and these rows, with the columns that all of them have.
-fn print_rows(rt: &HostRuntime, rows: &[Row]) -> Result<(), GrowthFault> {
+fn print_rows(rt: &HostRuntime, rows: &[Row]) -> Result<(), GrowCommandFault> {
     let form = RowForm::of_rows(rows);
     let header = header_text(rt.alloc(), form)?;
     let mut sink = Sink::new(rt.stdout());
@@ -98,7 +98,7 @@ fn grow_and_print<T: Threads + Sync>(
     threads: &T,
     request: &SweepRequest,
     picture: &mut Option<File>,
-) -> Result<(), GrowthFault> {
+) -> Result<(), GrowCommandFault> {
     let Swept { rows, done } = rows_swept(rt, threads, request);
     match done {
         Ok(()) => print_report(rt, request, &rows, picture),
@@ -108,7 +108,7 @@ fn grow_and_print<T: Threads + Sync>(
             }
             Err(refused_run(rt, &refused))
         }
-        Err(fault) => Err(told(rt, GrowthFault::from(fault))),
+        Err(fault) => Err(told(rt, GrowCommandFault::from(fault))),
     }
 }
 
@@ -148,9 +148,9 @@ fn rows_swept<T: Threads + Sync>(rt: &HostRuntime, threads: &T, request: &SweepR
 }
 
 /// Ends a sweep at a run that was refused. Prints the command of the run, and why.
-pub(crate) fn refused_run(rt: &HostRuntime, refused: &RefusedRun) -> GrowthFault {
+pub(crate) fn refused_run(rt: &HostRuntime, refused: &RefusedRun) -> GrowCommandFault {
     let (options, fault) = (refused.options, refused.fault);
-    let ended = GrowthFault::from(fault);
+    let ended = GrowCommandFault::from(fault);
     let _ = eprintln!(rt; "{ended}\n{options}");
     print_refusal(rt, &fault);
     ended

@@ -1,5 +1,5 @@
 use crate::grow_command::told;
-use crate::grow_command_fault::GrowthFault;
+use crate::grow_command_fault::GrowCommandFault;
 use crate::picture_file::write_picture;
 use ov_arguments::{AskedPhase, Printed, SplitAsked, SweepRequest};
 use ov_ids::OutOfMemory;
@@ -17,7 +17,7 @@ pub(crate) fn print_report(
     request: &SweepRequest,
     rows: &[Row],
     picture: &mut Option<File>,
-) -> Result<(), GrowthFault> {
+) -> Result<(), GrowCommandFault> {
     if let Err(fault) = print_texts(rt, request, rows) {
         return Err(told(rt, fault));
     }
@@ -26,12 +26,16 @@ pub(crate) fn print_report(
     };
     match picture_of(rt, rows) {
         Ok(text) => write_picture(rt, file, text.as_str()),
-        Err(OutOfMemory) => Err(told(rt, GrowthFault::OutOfMemory)),
+        Err(OutOfMemory) => Err(told(rt, GrowCommandFault::OutOfMemory)),
     }
 }
 
 /// Prints the summary of these rows, and the answer to what is asked of them.
-fn print_texts(rt: &HostRuntime, request: &SweepRequest, rows: &[Row]) -> Result<(), GrowthFault> {
+fn print_texts(
+    rt: &HostRuntime,
+    request: &SweepRequest,
+    rows: &[Row],
+) -> Result<(), GrowCommandFault> {
     if request.printed == Printed::Summary {
         print_summary(rt, rows)?;
     }
@@ -42,7 +46,7 @@ fn print_texts(rt: &HostRuntime, request: &SweepRequest, rows: &[Row]) -> Result
 }
 
 /// Prints the summary of these rows.
-fn print_summary(rt: &HostRuntime, rows: &[Row]) -> Result<(), GrowthFault> {
+fn print_summary(rt: &HostRuntime, rows: &[Row]) -> Result<(), GrowCommandFault> {
     let settings = settings_of(rt.alloc(), rows)?;
     let text = summary_text(rt.alloc(), &settings)?;
     Ok(Sink::new(rt.stdout()).write_all(text.as_bytes())?)
@@ -54,7 +58,7 @@ fn print_answer(
     asked: SplitAsked,
     rows: &[Row],
     is_behind: bool,
-) -> Result<(), GrowthFault> {
+) -> Result<(), GrowCommandFault> {
     let settings = settings_of(rt.alloc(), rows)?;
     let question = SplitQuestion {
         phase: phase_of(asked.after),
@@ -101,7 +105,7 @@ pub(crate) fn tell_none(rt: &HostRuntime, rows: &[Row]) {
 }
 
 /// Says on standard error how many rows have the setting and the seed of an earlier one.
-pub(crate) fn tell_repeated(rt: &HostRuntime, rows: &[Row]) -> Result<(), GrowthFault> {
+pub(crate) fn tell_repeated(rt: &HostRuntime, rows: &[Row]) -> Result<(), GrowCommandFault> {
     match repeated_runs(rt.alloc(), rows) {
         Ok(None) => Ok(()),
         Ok(Some(repeated)) => {
@@ -112,6 +116,6 @@ pub(crate) fn tell_repeated(rt: &HostRuntime, rows: &[Row]) -> Result<(), Growth
             );
             Ok(())
         }
-        Err(OutOfMemory) => Err(told(rt, GrowthFault::OutOfMemory)),
+        Err(OutOfMemory) => Err(told(rt, GrowCommandFault::OutOfMemory)),
     }
 }

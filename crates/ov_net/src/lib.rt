@@ -4,11 +4,11 @@
 
 mod boxed_live_peer;
 mod boxed_plan;
-mod deterministic_world_theorems;
 mod event;
 mod event_judging;
 mod event_planning;
 mod fault;
+mod journal_and_step_theorems;
 mod journal_entry_and_changes;
 mod live_graph_updating;
 mod member;
@@ -19,9 +19,9 @@ mod planned_effects;
 mod world;
 
 pub use boxed_live_peer::LivePeer;
-pub use deterministic_world_theorems::{links_stay, one_graph, one_step};
 pub use event::Event;
 pub use fault::NetFault;
+pub use journal_and_step_theorems::{links_stay, one_graph, one_step};
 pub use journal_entry_and_changes::{Change, Entry};
 pub use member::Member;
 pub use packet::Packet;

@@ -29,7 +29,7 @@ type Ranked = (usize, usize, usize);
 
 /// The connected components that the crash leaves, which are none if every two members are linked.
 #[derive(Drop)]
-pub(crate) struct Components {
+pub(crate) struct RankedComponents {
     /// The components in the order of their numbers.
     all: Vec<Component>,
     /// The same components in the order of their ranks.
@@ -38,11 +38,11 @@ pub(crate) struct Components {
     places: Vec<Option<usize>>,
 }
 
-impl Components {
+impl RankedComponents {
     /// The components of the survivors of a drawing.
-    pub(crate) fn new(alloc: Global, drawing: &Drawing) -> Result<Components, AllocError> {
+    pub(crate) fn new(alloc: Global, drawing: &Drawing) -> Result<RankedComponents, AllocError> {
         let nodes = drawing.nodes.as_slice();
-        let mut components = Components {
+        let mut components = RankedComponents {
             all: Vec::with_capacity(alloc, drawing.components.len())?,
             ranked: Vec::new(alloc),
             places: Vec::with_capacity(alloc, nodes.len())?,

@@ -2,7 +2,7 @@ ghost use Rattle.std.specs.Prelude.{◌≡◌, ◌++◌, ℕ, List, codes, strin
 
 use crate::class_names::{link_class_name, node_class_name};
 use crate::component_colours::{pale_colour, strong_colour};
-use crate::component_ranking::{Component, Components};
+use crate::component_ranking::{Component, RankedComponents};
 use crate::escaped_texts::push_dot;
 use crate::headings::{push_some, small_lines};
 use crate::labels::Labels;
@@ -24,7 +24,7 @@ pub fn dot(alloc: Global, drawing: &Drawing, names: &[Option<&str>]) -> Result<S
     ensures ends { IfOk result (λ text. (before : List ℕ) × (string_bytes text ≡ before ++ codes "}\n")) }
 {
     let labels = Labels::new(alloc, drawing, names)?;
-    let components = Components::new(alloc, drawing)?;
+    let components = RankedComponents::new(alloc, drawing)?;
     let layout = Plan::new(alloc, drawing, &components, &labels)?.layout(alloc, 0.0)?;
     let mut text = String::new(alloc);
     text.push_str("graph overlay {\n  graph [label=\"")?;
@@ -44,7 +44,7 @@ fn push_heading(
     alloc: Global,
     text: &mut String,
     drawing: &Drawing,
-    components: &Components,
+    components: &RankedComponents,
     labels: &Labels,
 ) -> Result<(), AllocError> {
     let mut told = Vec::new(alloc);
@@ -64,7 +64,7 @@ fn push_heading(
 fn push_nodes(
     text: &mut String,
     drawing: &Drawing,
-    components: &Components,
+    components: &RankedComponents,
     layout: &Layout,
     labels: &Labels,
 ) -> Result<(), AllocError> {

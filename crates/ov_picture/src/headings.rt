@@ -1,4 +1,4 @@
-use crate::component_ranking::Components;
+use crate::component_ranking::RankedComponents;
 use crate::labels::{Labels, letters_of};
 use crate::node_position::number;
 use crate::sentences::{components_of, counts_of, members_of, paths_of, sentence_of};
@@ -48,7 +48,7 @@ impl Heading {
     pub(crate) fn new(
         alloc: Global,
         drawing: &Drawing,
-        components: &Components,
+        components: &RankedComponents,
         labels: &Labels,
         width: f64,
     ) -> Result<Heading, AllocError> {
@@ -83,7 +83,7 @@ impl Heading {
 fn told_of(
     alloc: Global,
     drawing: &Drawing,
-    components: &Components,
+    components: &RankedComponents,
     labels: &Labels,
 ) -> Result<Vec<String>, AllocError> {
     let mut told = Vec::with_capacity(alloc, 5)?;

@@ -1,7 +1,7 @@
-use crate::component_ranking::Components;
+use crate::component_ranking::RankedComponents;
 use crate::labels::Labels;
 use crate::node_columns::Columns;
-use crate::node_position::{LEFT, Place, RIGHT, UP};
+use crate::node_position::{LEFT, NodePosition, RIGHT, UP};
 use crate::nodes_by_part::Bands;
 use crate::rings::Ring;
 use ov_drawing::Drawing;
@@ -38,7 +38,7 @@ pub(crate) struct Layout {
     /// Where the legend begins, below all nodes.
     pub(crate) bottom: f64,
     /// Where the nodes stand, in their order.
-    pub(crate) places: Vec<Place>,
+    pub(crate) places: Vec<NodePosition>,
     /// The columns of the cut.
     pub(crate) cut: Columns,
     /// How far a node reaches from its middle.
@@ -121,7 +121,7 @@ impl Plan {
     pub(crate) fn new(
         alloc: Global,
         drawing: &Drawing,
-        components: &Components,
+        components: &RankedComponents,
         labels: &Labels,
     ) -> Result<Plan, AllocError> {
         let nodes = drawing.nodes.as_slice().len();
@@ -175,21 +175,21 @@ impl Layout {
     }
 
     /// Puts nodes in columns.
-    fn put_columns(&mut self, nodes: &[usize], columns: Columns, middle: Place) {
+    fn put_columns(&mut self, nodes: &[usize], columns: Columns, middle: NodePosition) {
         for (number, node) in nodes.iter().enumerate() {
             self.put(*node, columns.place(number, middle));
         }
     }
 
     /// Puts nodes on a ring, the first of them in this direction from the middle.
-    fn put_ring(&mut self, nodes: &[usize], ring: Ring, first: f64, middle: Place) {
+    fn put_ring(&mut self, nodes: &[usize], ring: Ring, first: f64, middle: NodePosition) {
         for (number, node) in nodes.iter().enumerate() {
             self.put(*node, ring.place(number, first, middle));
         }
     }
 
     /// Puts a node in its place.
-    fn put(&mut self, node: usize, place: Place) {
+    fn put(&mut self, node: usize, place: NodePosition) {
         if let Some(old) = self.places.get_mut(node) {
             *old = place;
         }
@@ -197,7 +197,7 @@ impl Layout {
 }
 
 /// Places for so many nodes.
-fn unplaced(alloc: Global, nodes: usize) -> Result<Vec<Place>, AllocError> {
+fn unplaced(alloc: Global, nodes: usize) -> Result<Vec<NodePosition>, AllocError> {
     let mut places = Vec::with_capacity(alloc, nodes)?;
     for _ in 0..nodes {
         places.push(at(0.0, 0.0))?;
@@ -206,8 +206,8 @@ fn unplaced(alloc: Global, nodes: usize) -> Result<Vec<Place>, AllocError> {
 }
 
 /// A point.
-pub(crate) fn at(x: f64, y: f64) -> Place {
-    Place { x, y, outward: UP }
+pub(crate) fn at(x: f64, y: f64) -> NodePosition {
+    NodePosition { x, y, outward: UP }
 }
 
 /// How far so many nodes are from each other, and how far they reach.

@@ -1,4 +1,4 @@
-use crate::node_position::{LEFT, Place, RIGHT, UP, number};
+use crate::node_position::{LEFT, NodePosition, RIGHT, UP, number};
 
 /// How many nodes stand in one column at most, if there is one column only.
 const MOST_IN_ONE: usize = 16;
@@ -77,7 +77,7 @@ impl Columns {
 
     /// Where the node with this number stands. Nodes go from column to column, and every second column stands half a
     /// row lower.
-    pub(crate) fn place(&self, at: usize, middle: Place) -> Place {
+    pub(crate) fn place(&self, at: usize, middle: NodePosition) -> NodePosition {
         let column = at % self.columns.max(1);
         let row = at / self.columns.max(1);
         let lower = if column % 2 == 1 { 0.5 } else { 0.0 };
@@ -88,7 +88,7 @@ impl Columns {
         } else {
             RIGHT
         };
-        Place {
+        NodePosition {
             x: middle.x - self.width() / 2.0 + number(column) * self.across,
             y: middle.y - self.height() / 2.0 + (number(row) + lower) * self.down,
             outward,
@@ -97,7 +97,7 @@ impl Columns {
 
     /// The point that bends a link of two nodes of the cut so that it passes no third node of its column. There is none
     /// for neighbours in a column, and for nodes of two columns.
-    pub(crate) fn bend(&self, from: Place, to: Place) -> Option<(f64, f64)> {
+    pub(crate) fn bend(&self, from: NodePosition, to: NodePosition) -> Option<(f64, f64)> {
         let distance = (to.y - from.y).abs();
         if (to.x - from.x).abs() > 1.0 || distance < 1.5 * self.down {
             return None;

@@ -15,7 +15,7 @@ pub(crate) const UP: f64 = 1.5 * PI;
 /// Where a node stands, and the direction in which there is room for its label. Lengths are in units of the picture,
 /// which are pixels at its own size.
 #[derive(Clone, Copy)]
-pub(crate) struct Place {
+pub(crate) struct NodePosition {
     pub(crate) x: f64,
     pub(crate) y: f64,
     pub(crate) outward: f64,

@@ -1,4 +1,4 @@
-use crate::component_ranking::Components;
+use crate::component_ranking::RankedComponents;
 use ov_drawing::{Band, DrawnNode, NodeClass};
 use std::alloc::{AllocError, Global};
 use std::ops::Range;
@@ -20,7 +20,7 @@ impl Bands {
     pub(crate) fn new(
         alloc: Global,
         nodes: &[DrawnNode],
-        components: &Components,
+        components: &RankedComponents,
     ) -> Result<Bands, AllocError> {
         let mut bands = Bands {
             whole: members_of(alloc, nodes, Band::Whole, NodeClass::Unparted)?,
@@ -35,7 +35,7 @@ impl Bands {
 }
 
 /// The rank of the component of the node at a place.
-fn rank_of(components: &Components, at: usize) -> usize {
+fn rank_of(components: &RankedComponents, at: usize) -> usize {
     components.of(at).map_or(0, |component| component.rank)
 }
 

@@ -1,4 +1,4 @@
-use crate::node_position::{Place, TURN, number};
+use crate::node_position::{NodePosition, TURN, number};
 
 /// How many nodes a layer of a ring has at most.
 const MOST_ON_LAYER: usize = 256;
@@ -39,12 +39,12 @@ impl Ring {
     }
 
     /// Where the node with this number on the ring stands, if node 0 stands in the direction `first` from the middle.
-    pub(crate) fn place(&self, at: usize, first: f64, middle: Place) -> Place {
+    pub(crate) fn place(&self, at: usize, first: f64, middle: NodePosition) -> NodePosition {
         let outward = first + TURN * number(at) / number(self.nodes.max(1));
         let layer = at % self.layers.max(1);
         let radius = (self.radius - number(layer) * self.step).max(0.0);
         let (sin, cos) = outward.sin_cos();
-        Place {
+        NodePosition {
             x: middle.x + radius * cos,
             y: middle.y + radius * sin,
             outward,

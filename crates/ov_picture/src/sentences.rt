@@ -1,4 +1,4 @@
-use crate::component_ranking::Components;
+use crate::component_ranking::RankedComponents;
 use crate::labels::Labels;
 use ov_drawing::{ChosenEntry, Drawing, DrawnNode, NodeClass};
 use ov_ids::NodeId;
@@ -95,7 +95,7 @@ pub(crate) fn counts_of(alloc: Global, drawing: &Drawing) -> Result<String, Allo
 pub(crate) fn components_of(
     alloc: Global,
     drawing: &Drawing,
-    components: &Components,
+    components: &RankedComponents,
 ) -> Result<Option<String>, AllocError> {
     let count = components.len();
     if count == 0 {
@@ -112,7 +112,7 @@ pub(crate) fn components_of(
 }
 
 /// Appends the sizes of components in the order of their ranks.
-fn push_sizes(text: &mut String, components: &Components) -> Result<(), AllocError> {
+fn push_sizes(text: &mut String, components: &RankedComponents) -> Result<(), AllocError> {
     let count = components.len();
     for rank in 0..count.min(MOST_SIZES) {
         let before = if rank == 0 {

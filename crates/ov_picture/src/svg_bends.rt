@@ -1,5 +1,5 @@
 use crate::layout::Layout;
-use crate::node_position::Place;
+use crate::node_position::NodePosition;
 use crate::svg_nodes::reach_of;
 use ov_drawing::{Drawing, DrawnLink};
 
@@ -18,8 +18,8 @@ const STEPS: usize = 4;
 /// The line of a link, bent by a point that is so far beside its middle, as a part of its length.
 #[derive(Clone, Copy)]
 struct Curve {
-    from: Place,
-    to: Place,
+    from: NodePosition,
+    to: NodePosition,
     aside: f64,
 }
 
@@ -29,8 +29,8 @@ pub(crate) fn bend_of(
     drawing: &Drawing,
     layout: &Layout,
     link: &DrawnLink,
-    from: Place,
-    to: Place,
+    from: NodePosition,
+    to: NodePosition,
 ) -> Option<(f64, f64)> {
     let mut curve = Curve {
         from,
@@ -68,7 +68,7 @@ impl Curve {
 
     /// How far a place is from the line. If it is further than is asked for, a smaller distance may be told that is
     /// further too. Places are reckoned along the link and across it, in its lengths.
-    fn distance(&self, place: Place, asked: f64) -> f64 {
+    fn distance(&self, place: NodePosition, asked: f64) -> f64 {
         let (right, down) = (self.to.x - self.from.x, self.to.y - self.from.y);
         let (x, y) = (place.x - self.from.x, place.y - self.from.y);
         let length = right.hypot(down);

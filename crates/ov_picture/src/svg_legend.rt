@@ -1,7 +1,7 @@
 use crate::component_colours::{COMPONENT_COLOURS, MOST_COLOURED};
-use crate::component_ranking::{Component, Components, Main};
+use crate::component_ranking::{Component, Main, RankedComponents};
 use crate::layout::Layout;
-use crate::node_position::{Place, RIGHT, number};
+use crate::node_position::{NodePosition, RIGHT, number};
 use crate::path_colours::{colour_of, dashes_of};
 use crate::sentences::{count_of, outside};
 use crate::svg_nodes::push_node;
@@ -37,7 +37,7 @@ const CLASSES: [(NodeClass, &str, &str); 4] = [
 ];
 
 /// How high the legend of a drawing is, in a picture of this width.
-pub(crate) fn legend_height(drawing: &Drawing, components: &Components, width: f64) -> f64 {
+pub(crate) fn legend_height(drawing: &Drawing, components: &RankedComponents, width: f64) -> f64 {
     let nodes = drawing.nodes.as_slice();
     let classes = CLASSES
         .iter()
@@ -67,10 +67,10 @@ fn lines_of(items: usize, item: f64, width: f64) -> f64 {
 }
 
 /// Where the item with this number begins, from a height on.
-fn item_place(at: usize, item: f64, width: f64, top: f64) -> Place {
+fn item_place(at: usize, item: f64, width: f64, top: f64) -> NodePosition {
     let abreast = abreast(item, width);
     let line = (number(at) / abreast).floor();
-    Place {
+    NodePosition {
         x: EDGE + (number(at) - line * abreast) * item,
         y: top + (line + 0.5) * LINE,
         outward: RIGHT,
@@ -81,7 +81,7 @@ fn item_place(at: usize, item: f64, width: f64, top: f64) -> Place {
 pub(crate) fn push_class_items(
     text: &mut String,
     drawing: &Drawing,
-    components: &Components,
+    components: &RankedComponents,
     layout: &Layout,
 ) -> Result<f64, AllocError> {
     text.push_str("<g class=\"nodes\">\n")?;
@@ -126,7 +126,7 @@ fn push_shape_items(
 /// items. Returns how many items there are then.
 fn push_component_items(
     text: &mut String,
-    components: &Components,
+    components: &RankedComponents,
     layout: &Layout,
     before: usize,
 ) -> Result<usize, AllocError> {
@@ -150,7 +150,7 @@ fn push_component_items(
 /// Appends what is said of a component, or of all components from it on that share its colour, and ends their item.
 fn push_component(
     text: &mut String,
-    components: &Components,
+    components: &RankedComponents,
     component: Component,
 ) -> Result<(), AllocError> {
     let Component {
@@ -213,7 +213,7 @@ fn push_sign(
     text: &mut String,
     sign: DrawnNode,
     component: Option<Component>,
-    place: Place,
+    place: NodePosition,
 ) -> Result<(), AllocError> {
     push_node(text, sign, component, place, REACH, false)?;
     text.push_str(if sign.class == NodeClass::Cut {
@@ -227,8 +227,8 @@ fn push_sign(
 }
 
 /// Appends a line in the colour of a path, with its number from 1.
-fn push_path_item(text: &mut String, path: usize, place: Place) -> Result<(), AllocError> {
-    let Place { x, y, .. } = place;
+fn push_path_item(text: &mut String, path: usize, place: NodePosition) -> Result<(), AllocError> {
+    let NodePosition { x, y, .. } = place;
     let colour = colour_of(path);
     let dashes = dashes_of(path);
     let behind = x + 26.0;

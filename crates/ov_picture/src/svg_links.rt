@@ -1,8 +1,8 @@
 use crate::class_names::link_class_name;
 use crate::component_colours::colour_class;
-use crate::component_ranking::{Component, Components, place_of};
+use crate::component_ranking::{Component, RankedComponents, place_of};
 use crate::layout::{Layout, at};
-use crate::node_position::Place;
+use crate::node_position::NodePosition;
 use crate::path_colours::{colour_of, dashes_of};
 use crate::svg_bends::bend_of;
 use ov_drawing::{Drawing, DrawnLink, DrawnNode, LinkClass};
@@ -37,7 +37,7 @@ pub(crate) enum Layer {
 pub(crate) fn push_plain_links(
     text: &mut String,
     drawing: &Drawing,
-    components: &Components,
+    components: &RankedComponents,
     layout: &Layout,
     layer: Layer,
 ) -> Result<(), AllocError> {
@@ -109,25 +109,25 @@ pub(crate) fn push_path_links(
 /// Appends the line of a link, bent by this point if there is one, and ends its element.
 fn push_line(
     text: &mut String,
-    from: Place,
-    to: Place,
+    from: NodePosition,
+    to: NodePosition,
     bend: Option<(f64, f64)>,
 ) -> Result<(), AllocError> {
-    let Place { x, y, .. } = from;
+    let NodePosition { x, y, .. } = from;
     write!(text, "M{x:.1} {y:.1}")?;
     if let Some((x, y)) = bend {
         write!(text, "Q{x:.1} {y:.1} ")?;
     } else {
         text.push('L')?;
     }
-    let Place { x, y, .. } = to;
+    let NodePosition { x, y, .. } = to;
     write!(text, "{x:.1} {y:.1}\"/>\n")
 }
 
 /// The component that a link between two survivors is in.
 pub(crate) fn component_of(
     nodes: &[DrawnNode],
-    components: &Components,
+    components: &RankedComponents,
     link: &DrawnLink,
 ) -> Option<Component> {
     match link.class {
@@ -139,13 +139,13 @@ pub(crate) fn component_of(
 }
 
 /// Where the ends of a link stand.
-fn ends_of(nodes: &[DrawnNode], layout: &Layout, link: &DrawnLink) -> (Place, Place) {
+fn ends_of(nodes: &[DrawnNode], layout: &Layout, link: &DrawnLink) -> (NodePosition, NodePosition) {
     let from = spot_of(nodes, layout, link.from.0);
     (from, spot_of(nodes, layout, link.to.0))
 }
 
 /// Where the node with this number stands.
-fn spot_of(nodes: &[DrawnNode], layout: &Layout, id: u32) -> Place {
+fn spot_of(nodes: &[DrawnNode], layout: &Layout, id: u32) -> NodePosition {
     let spot = layout.places.get(place_of(nodes, id));
     spot.copied().unwrap_or(at(0.0, 0.0))
 }

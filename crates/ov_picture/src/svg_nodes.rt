@@ -1,10 +1,10 @@
 use crate::class_names::node_class_name;
 use crate::component_colours::colour_class;
-use crate::component_ranking::{Component, Components};
+use crate::component_ranking::{Component, RankedComponents};
 use crate::escaped_texts::push_xml;
 use crate::labels::Labels;
 use crate::layout::Layout;
-use crate::node_position::{LEFT, Place, RIGHT, TURN};
+use crate::node_position::{LEFT, NodePosition, RIGHT, TURN};
 use crate::sentences::is_end;
 use ov_drawing::{Drawing, DrawnNode, NodeClass};
 use std::alloc::AllocError;
@@ -27,7 +27,7 @@ const BASE: f64 = 4.3;
 pub(crate) fn push_shapes(
     text: &mut String,
     drawing: &Drawing,
-    components: &Components,
+    components: &RankedComponents,
     layout: &Layout,
     labels: &Labels,
     mattering: bool,
@@ -87,11 +87,11 @@ pub(crate) fn push_node(
     text: &mut String,
     node: DrawnNode,
     component: Option<Component>,
-    place: Place,
+    place: NodePosition,
     reach: f64,
     chosen: bool,
 ) -> Result<(), AllocError> {
-    let Place { x, y, .. } = place;
+    let NodePosition { x, y, .. } = place;
     let class = node_class_name(node.class);
     let colour = colour_class(component);
     let more = match (node.is_member, chosen) {
@@ -133,13 +133,13 @@ fn push_tip(text: &mut String, node: DrawnNode, name: &str) -> Result<(), AllocE
 fn push_label(
     text: &mut String,
     class: NodeClass,
-    place: Place,
+    place: NodePosition,
     reach: f64,
     turned: bool,
 ) -> Result<(), AllocError> {
     let distance = reach + BESIDE;
     if class == NodeClass::Cut && place.outward != LEFT && place.outward != RIGHT {
-        let Place { x, y, .. } = place;
+        let NodePosition { x, y, .. } = place;
         let above = y - distance;
         return write!(
             text,

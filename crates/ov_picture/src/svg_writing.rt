@@ -1,6 +1,6 @@
 ghost use Rattle.std.specs.Prelude.{◌≡◌, ◌++◌, ℕ, List, codes, string_bytes, IfOk};
 
-use crate::component_ranking::Components;
+use crate::component_ranking::RankedComponents;
 use crate::escaped_texts::push_xml;
 use crate::headings::{EDGE, FIRST, Heading, LINES};
 use crate::labels::Labels;
@@ -24,7 +24,7 @@ pub fn svg(alloc: Global, drawing: &Drawing, names: &[Option<&str>]) -> Result<S
     ensures ends { IfOk result (λ text. (before : List ℕ) × (string_bytes text ≡ before ++ codes "</svg>\n")) }
 {
     let labels = Labels::new(alloc, drawing, names)?;
-    let components = Components::new(alloc, drawing)?;
+    let components = RankedComponents::new(alloc, drawing)?;
     let plan = Plan::new(alloc, drawing, &components, &labels)?;
     let mut text = String::new(alloc);
     let layout = push_head(alloc, &mut text, drawing, &components, &labels, &plan)?;
@@ -46,7 +46,7 @@ fn push_head(
     alloc: Global,
     text: &mut String,
     drawing: &Drawing,
-    components: &Components,
+    components: &RankedComponents,
     labels: &Labels,
     plan: &Plan,
 ) -> Result<Layout, AllocError> {

@@ -8,7 +8,7 @@ ghost use Rattle.ov_run.specs.Code.Outcomes.{first_refused, refusal_at, refused_
 use crate::run_watcher::RanLine;
 use ov_ids::Seq;
 use ov_io::{Sink, WriteFault};
-use ov_run_meaning::{Outcome, Refusal, refused_line, together_line};
+use ov_run_meaning::{LineOutcome, Refusal, refused_line, together_line};
 use std::io::Write;
 use std::marker::Model;
 
@@ -16,7 +16,7 @@ use std::marker::Model;
 #[derive(Drop)]
 pub(crate) enum Came<'a> {
     /// The line is no block. If it was accepted, what it prints was written; if it was refused, nothing was.
-    Alone(Outcome),
+    Alone(LineOutcome),
     /// The line is a block, whose sections ran. Nothing was written yet.
     Block(BlockTold<'a>),
 }
@@ -35,7 +35,7 @@ pub(crate) struct BlockTold<'a> {
 #[derive(Drop)]
 pub(crate) struct ToldLine<'a> {
     pub line: RanLine<'a>,
-    pub outcome: Outcome,
+    pub outcome: LineOutcome,
 }
 
 impl<'a> Model for ToldLine<'a> {
@@ -53,8 +53,8 @@ impl<'a> Came<'a> {
         ensures { result ≡ refused_of number self.now }
     {
         match self {
-            Came::Alone(Outcome::Accepted) => None,
-            Came::Alone(Outcome::Refused(refusal)) => Some((number, *refusal)),
+            Came::Alone(LineOutcome::Accepted) => None,
+            Came::Alone(LineOutcome::Refused(refusal)) => Some((number, *refusal)),
             Came::Block(block) => first_refused(block.told.as_slice()),
         }
     }
@@ -70,8 +70,8 @@ pub(crate) fn write_rest<W: Write>(came: &Came<'_>, sink: &mut Sink<W>) -> Resul
     ensures faults { sink.new.faults ≡ sink.old.faults + sink_faults write_number result }
 {
     match came {
-        Came::Alone(Outcome::Accepted) => Ok(()),
-        Came::Alone(Outcome::Refused(refusal)) => {
+        Came::Alone(LineOutcome::Accepted) => Ok(()),
+        Came::Alone(LineOutcome::Refused(refusal)) => {
             sink.write_all(refused_line(refusal.number()).as_str().as_bytes())
         }
         Came::Block(block) => {
@@ -111,8 +111,8 @@ impl<'a> ToldLine<'a> {
         ensures { result ≡ refusal_at self.now.number self.now.outcome }
     {
         match self.outcome {
-            Outcome::Accepted => None,
-            Outcome::Refused(refusal) => Some((self.line.number, refusal)),
+            LineOutcome::Accepted => None,
+            LineOutcome::Refused(refusal) => Some((self.line.number, refusal)),
         }
     }
 
@@ -121,8 +121,8 @@ impl<'a> ToldLine<'a> {
         ensures { result ≡ one_accepted self.now.outcome }
     {
         match self.outcome {
-            Outcome::Accepted => 1,
-            Outcome::Refused(_) => 0,
+            LineOutcome::Accepted => 1,
+            LineOutcome::Refused(_) => 0,
         }
     }
 }

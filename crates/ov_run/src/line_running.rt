@@ -22,7 +22,9 @@ use ov_hall::HallName;
 use ov_ids::{OutOfMemory, Seq, Workers};
 use ov_io::{Sink, WriteFault};
 use ov_net::{Entry, Event};
-use ov_run_meaning::{Outcome, Refusal, RunFault, Strictness, write_done, write_entry, write_look};
+use ov_run_meaning::{
+    LineOutcome, Refusal, RunFault, Strictness, write_done, write_entry, write_look,
+};
 use ov_scenario::{Line, LineToRun, LinesToRun, Look, SectionLine, Subject};
 use ov_snap::Core;
 use ov_words::{WORDS_PER_EVENT, Words};
@@ -134,8 +136,8 @@ fn settle<W: Write>(
 /// Shows a watcher what became of a line that ran.
 fn tell<V: RunWatcher>(watcher: &mut V, core: &Core, line: &RanLine<'_>, came: Came<'_>) {
     match came {
-        Came::Alone(Outcome::Accepted) => watcher.accepted(line),
-        Came::Alone(Outcome::Refused(refusal)) => watcher.refused(core, line, refusal),
+        Came::Alone(LineOutcome::Accepted) => watcher.accepted(line),
+        Came::Alone(LineOutcome::Refused(refusal)) => watcher.refused(core, line, refusal),
         Came::Block(block) => {
             watcher.accepted(line);
             tell_sections(watcher, block.told);
@@ -154,8 +156,8 @@ fn tell_sections<V: RunWatcher>(watcher: &mut V, told: Seq<Seq<ToldLine<'_>>>) {
 fn tell_section<V: RunWatcher>(watcher: &mut V, told: &[ToldLine<'_>]) {
     for one in told {
         match one.outcome {
-            Outcome::Accepted => watcher.accepted(&one.line),
-            Outcome::Refused(refusal) => watcher.refused_in_section(&one.line, refusal),
+            LineOutcome::Accepted => watcher.accepted(&one.line),
+            LineOutcome::Refused(refusal) => watcher.refused_in_section(&one.line, refusal),
         }
     }
 }
@@ -294,7 +296,7 @@ fn run_event<N: HallName, W: Write>(
     event: Event,
     words: &Words,
     sink: &mut Sink<W>,
-) -> Result<Outcome, RunFault>
+) -> Result<LineOutcome, RunFault>
     requires faults { sink.old.faults < most_faults }
     ensures outcome { IfOk result (WritesOutcome (DoesEvent hall.old event words.now hall.new)
         (λ refusal. RefusesEvent hall.old event refusal × (hall.new ≡ hall.old))
@@ -309,7 +311,7 @@ fn run_event<N: HallName, W: Write>(
 {
     match hall.take_event(event, words) {
         Ok(_) => write_entry(alloc, last_entry(hall.core()), sink),
-        Err(fault) => Ok(Outcome::Refused(Refusal::World(fault))),
+        Err(fault) => Ok(LineOutcome::Refused(Refusal::World(fault))),
     }
 }
 
@@ -334,7 +336,7 @@ fn run_analysis<N: HallName, T: Threads + Sync, W: Write>(
     subject: &Subject,
     workers: Workers,
     sink: &mut Sink<W>,
-) -> Result<Outcome, WriteFault>
+) -> Result<LineOutcome, WriteFault>
     requires faults { sink.old.faults < most_faults }
     ensures outcome { IfOk result (WritesOutcome (FilesReport hall.old subject.now hall.new)
         (λ refusal. RefusesAnalysis hall.old subject.now refusal × (hall.new ≡ hall.old))
@@ -345,6 +347,6 @@ fn run_analysis<N: HallName, T: Threads + Sync, W: Write>(
 {
     match file_analysis(rt, alloc, hall, recent, subject, workers) {
         Ok(line) => write_done(line.as_bytes(), sink),
-        Err(fault) => Ok(Outcome::Refused(Refusal::Core(fault))),
+        Err(fault) => Ok(LineOutcome::Refused(Refusal::Core(fault))),
     }
 }

@@ -9,7 +9,7 @@ ghost use Rattle.ov_snap.specs.declared.refused_core_call.CoreFault.TheVariants.
 ghost use Rattle.ov_run_meaning.specs.Sections.{HasAnalysed, IsRefusedAnalysis, IsReportOn, RunsLine, is_event};
 ghost use Rattle.ov_run_meaning.specs.Sections.{told_of};
 ghost use Rattle.ov_run.specs.Code.Jobs.{HasRun};
-ghost use Rattle.ov_run_meaning.specs.declared.line_run_outcome.Outcome.{Outcome as OutcomeOf};
+ghost use Rattle.ov_run_meaning.specs.declared.line_run_outcome.LineOutcome.{LineOutcome as OutcomeOf};
 ghost use Rattle.ov_scenario.specs.declared.line_of_section.Deed.TheVariants as deed;
 
 use crate::line_outcome::ToldLine;
@@ -19,7 +19,7 @@ use crate::run_watcher::RanLine;
 use ov_hall::{Hall, HallName, Pass};
 use ov_ids::{OutOfMemory, Seq, Workers};
 use ov_net::Event;
-use ov_run_meaning::{Outcome, Refusal};
+use ov_run_meaning::{LineOutcome, Refusal};
 use ov_scenario::{Deed, SectionLine, Subject};
 use ov_snap::{CoreFault, Snapshot};
 use ov_words::{WORDS_PER_EVENT, Words};
@@ -139,7 +139,7 @@ fn run_deed<N: HallName, T: Threads + Wait + Sync>(
     deed: Deed<'_>,
     recent: &mut RecentReports,
     words: &mut Words,
-) -> (Outcome, Pass<N>)
+) -> (LineOutcome, Pass<N>)
     ensures { RunsLine N.params pass deed.entry result.0 result.1 }
 {
     match deed {
@@ -158,13 +158,13 @@ fn run_event<N: HallName>(
     pass: Pass<N>,
     event: Event,
     words: &Words,
-) -> (Outcome, Pass<N>)
+) -> (LineOutcome, Pass<N>)
     ensures { RunsLine N.params pass (deed.Event event words.now) result.0 result.1 }
 {
     let (answer, pass) = hall.take_event(rt, pass, event, words);
     match answer {
-        Ok(()) => (Outcome::Accepted, pass),
-        Err(fault) => (Outcome::Refused(Refusal::World(fault)), pass),
+        Ok(()) => (LineOutcome::Accepted, pass),
+        Err(fault) => (LineOutcome::Refused(Refusal::World(fault)), pass),
     }
 }
 
@@ -176,13 +176,13 @@ fn run_analysis<N: HallName, T: Threads + Wait + Sync>(
     pass: Pass<N>,
     moment: u32,
     recent: &mut RecentReports,
-) -> (Outcome, Pass<N>)
+) -> (LineOutcome, Pass<N>)
     ensures { RunsLine N.params pass (deed.Analyse moment) result.0 result.1 }
 {
     let (filed, pass) = analyse(rt, alloc, hall, pass, moment, recent);
     match filed {
-        Ok(()) => (Outcome::Accepted, pass),
-        Err(fault) => (Outcome::Refused(Refusal::Core(fault)), pass),
+        Ok(()) => (LineOutcome::Accepted, pass),
+        Err(fault) => (LineOutcome::Refused(Refusal::Core(fault)), pass),
     }
 }
 

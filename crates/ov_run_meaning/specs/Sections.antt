@@ -19,8 +19,8 @@ use Rattle.ov_snap.specs.Parts.{total}
 use Rattle.ov_snap.specs.DriverSteps.{HasBegun, HasFiled, HasLooked, HasStepped, ticket}
 use Rattle.ov_snap.specs.declared.ghost_log_of_drivers.Mark.{Mark}
 use Rattle.ov_snap.specs.declared.ghost_log_of_drivers.Ticket.{Ticket}
-use Rattle.ov_run_meaning.specs.declared.line_run_outcome.Outcome.{Outcome}
-use Rattle.ov_run_meaning.specs.declared.line_run_outcome.Outcome.TheVariants.{Accepted, Refused}
+use Rattle.ov_run_meaning.specs.declared.line_run_outcome.LineOutcome.{LineOutcome}
+use Rattle.ov_run_meaning.specs.declared.line_run_outcome.LineOutcome.TheVariants.{Accepted, Refused}
 use Rattle.ov_run_meaning.specs.declared.refusal.Refusal.{Refusal}
 use Rattle.ov_run_meaning.specs.declared.refusal.Refusal.TheVariants.{World, Core}
 use Rattle.ov_scenario.specs.declared.line_of_section.Deed.{Deed}
@@ -76,7 +76,7 @@ IsRefused params p (deed.Analyse m) (World fault) q = ⊥
 IsRefused params p (deed.Analyse m) (Core fault) q = IsRefusedAnalysis params p m fault q
 
 -- what came of a line: it was accepted, or refused for this reason
-abbrev pub RunsLine : ParamsState → Ticket → Deed → Outcome → Ticket → Type 0
+abbrev pub RunsLine : ParamsState → Ticket → Deed → LineOutcome → Ticket → Type 0
 RunsLine params p deed Accepted q = IsAccepted params p deed q
 RunsLine params p deed (Refused refusal) q = IsRefused params p deed refusal q
 
@@ -87,7 +87,7 @@ pub record ToldLine : Type 0 where
   pub number : ℕ
   pub text : List ℕ
   pub is_event : Bool
-  pub outcome : Outcome
+  pub outcome : LineOutcome
 
 -- whether a line of a section is an event
 abbrev pub is_event : Deed → Bool
@@ -95,17 +95,17 @@ is_event (deed.Event event words) = true
 is_event (deed.Analyse m) = false
 
 -- what is told of a line of a section, of which this came
-abbrev pub told_of : SectionLine → Outcome → ToldLine
+abbrev pub told_of : SectionLine → LineOutcome → ToldLine
 told_of line outcome =
     record { number = line.number; text = line.text; is_event = is_event line.deed; outcome = outcome }
 
 -- 1 for what was accepted
-abbrev pub one_accepted : Outcome → ℕ
+abbrev pub one_accepted : LineOutcome → ℕ
 one_accepted Accepted = 1
 one_accepted (Refused refusal) = 0
 
 -- 1 for what was refused
-abbrev pub one_refused : Outcome → ℕ
+abbrev pub one_refused : LineOutcome → ℕ
 one_refused Accepted = 0
 one_refused (Refused refusal) = 1
 
@@ -123,7 +123,7 @@ refused_in told = total (λ t. one_refused t.outcome) told
 abbrev pub RunsSection : ParamsState → Ticket → List SectionLine → List ToldLine → Ticket → Type 0
 RunsSection params p [] told q = (q ≡ p) × (told ≡ [])
 RunsSection params p (line ∷ lines) told q =
-    (next : Ticket) × (outcome : Outcome) × (others : List ToldLine) × RunsLine params p line.deed outcome next
+    (next : Ticket) × (outcome : LineOutcome) × (others : List ToldLine) × RunsLine params p line.deed outcome next
     × RunsSection params next lines others q
     × (told ≡ told_of line outcome ∷ others)
 

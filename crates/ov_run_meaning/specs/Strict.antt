@@ -12,7 +12,7 @@ use Rattle.ov_run_meaning.specs.Accepting.{DoesEvent, FilesReport, RefusesAnalys
 use Rattle.ov_run_meaning.specs.Accepting.{ShowsLook}
 use Rattle.ov_run_meaning.specs.Running.{PrintsLine, RunsBlock}
 use Rattle.ov_run_meaning.specs.Sections.{RunTogether, ToldLine, refused_in}
-use Rattle.ov_run_meaning.specs.declared.line_run_outcome.Outcome.TheVariants.{Refused}
+use Rattle.ov_run_meaning.specs.declared.line_run_outcome.LineOutcome.TheVariants.{Refused}
 use Rattle.ov_run_meaning.specs.declared.refusal.Refusal.{Refusal}
 use Rattle.ov_run_meaning.specs.declared.strictness.Strictness.{Strictness}
 use Rattle.ov_run_meaning.specs.declared.strictness.Strictness.TheVariants.{Lenient, Strict}

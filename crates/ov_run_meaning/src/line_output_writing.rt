@@ -15,10 +15,10 @@ ghost use Rattle.ov_run_meaning.specs.Running.{PrintsPackets};
 ghost use Rattle.ov_run_meaning.specs.Writing.{IsOfWriting, Writes, WritesOutcome, WritesPrefix};
 
 use crate::event_block_node_and_packet_lines::{entry_line, node_line, packet_line};
-use crate::line_run_outcome::Outcome;
+use crate::line_run_outcome::LineOutcome;
 use crate::refusal::Refusal;
+use crate::report_of_subject::filed_report;
 use crate::run_fault::RunFault;
-use crate::subjects::filed_report;
 use ov_certfile::to_text_group;
 use ov_ids::{NodeId, OutOfMemory};
 use ov_io::{Sink, WriteFault};
@@ -31,15 +31,15 @@ use std::alloc::Global;
 use std::io::Write;
 
 /// Writes what is printed of a line that was done. Write (72) is returned if the writer failed; it took a prefix then.
-pub fn write_done<W: Write>(text: &[u8], sink: &mut Sink<W>) -> Result<Outcome, WriteFault>
+pub fn write_done<W: Write>(text: &[u8], sink: &mut Sink<W>) -> Result<LineOutcome, WriteFault>
     requires faults { sink.old.faults < most_faults }
-    ensures outcome { IfOk result (λ outcome. outcome ≡ Outcome.Accepted) }
+    ensures outcome { IfOk result (λ outcome. outcome ≡ LineOutcome.Accepted) }
     ensures bytes { OnOk result (Appends (W.contents sink.old.writer) (W.contents sink.new.writer) text.now) }
     ensures prefix { AppendsPrefixOf text.now (W.contents sink.old.writer) (W.contents sink.new.writer) }
     ensures faults { sink.new.faults ≡ sink.old.faults + sink_faults write_number result }
 {
     sink.write_all(text)?;
-    Ok(Outcome::Accepted)
+    Ok(LineOutcome::Accepted)
 }
 
 /// Writes the line of an event that happened. Write (72) is returned if the writer failed; it took a prefix then.
@@ -49,9 +49,9 @@ pub fn write_entry<W: Write>(
     alloc: Global,
     entry: &Entry,
     sink: &mut Sink<W>,
-) -> Result<Outcome, RunFault>
+) -> Result<LineOutcome, RunFault>
     requires faults { sink.old.faults < most_faults }
-    ensures outcome { IfOk result (λ outcome. outcome ≡ Outcome.Accepted) }
+    ensures outcome { IfOk result (λ outcome. outcome ≡ LineOutcome.Accepted) }
     ensures bytes { OnOk result
         (Appends (W.contents sink.old.writer) (W.contents sink.new.writer) (entry_line entry.now)) }
     ensures prefix { AppendsPrefixOf (entry_line entry.now) (W.contents sink.old.writer) (W.contents sink.new.writer) }
@@ -71,7 +71,7 @@ pub fn write_look<W: Write>(
     core: &Core,
     look: Look,
     sink: &mut Sink<W>,
-) -> Result<Outcome, RunFault>
+) -> Result<LineOutcome, RunFault>
     requires faults { sink.old.faults < most_faults }
     ensures outcome { IfOk result (WritesOutcome (ShowsLook core.now look) (RefusesLook core.now look)
         (W.contents sink.old.writer) (W.contents sink.new.writer)) }
@@ -96,7 +96,7 @@ fn write_node<W: Write>(
     world: &World,
     id: NodeId,
     sink: &mut Sink<W>,
-) -> Result<Outcome, RunFault>
+) -> Result<LineOutcome, RunFault>
     requires faults { sink.old.faults < most_faults }
     ensures outcome { IfOk result (WritesOutcome (ShowsNode world.now.net id) (HidesNode world.now.net id)
         (W.contents sink.old.writer) (W.contents sink.new.writer)) }
@@ -109,8 +109,8 @@ fn write_node<W: Write>(
 {
     match world.peer(id) {
         Some(peer) => write_peer(alloc, id, peer, sink),
-        None if world.born(id) => Ok(Outcome::Refused(Refusal::World(NetFault::CrashedNode))),
-        None => Ok(Outcome::Refused(Refusal::World(NetFault::UnknownNode))),
+        None if world.born(id) => Ok(LineOutcome::Refused(Refusal::World(NetFault::CrashedNode))),
+        None => Ok(LineOutcome::Refused(Refusal::World(NetFault::UnknownNode))),
     }
 }
 
@@ -121,9 +121,9 @@ fn write_peer<W: Write>(
     id: NodeId,
     peer: &Peer,
     sink: &mut Sink<W>,
-) -> Result<Outcome, RunFault>
+) -> Result<LineOutcome, RunFault>
     requires faults { sink.old.faults < most_faults }
-    ensures outcome { IfOk result (λ outcome. outcome ≡ Outcome.Accepted) }
+    ensures outcome { IfOk result (λ outcome. outcome ≡ LineOutcome.Accepted) }
     ensures bytes { OnOk result
         (Appends (W.contents sink.old.writer) (W.contents sink.new.writer) (node_line id peer.now)) }
     ensures prefix { AppendsPrefixOf (node_line id peer.now) (W.contents sink.old.writer) (W.contents sink.new.writer) }
@@ -142,7 +142,7 @@ fn write_certificate<W: Write>(
     core: &Core,
     subject: &Subject,
     sink: &mut Sink<W>,
-) -> Result<Outcome, WriteFault>
+) -> Result<LineOutcome, WriteFault>
     requires faults { sink.old.faults < most_faults }
     ensures outcome { IfOk result (WritesOutcome (ShowsCertificate core.now subject.now)
         (HidesCertificate core.now subject.now) (W.contents sink.old.writer) (W.contents sink.new.writer)) }
@@ -151,12 +151,12 @@ fn write_certificate<W: Write>(
     ensures faults { sink.new.faults ≡ sink.old.faults + sink_faults write_number result }
 {
     let Some(report) = filed_report(core, subject) else {
-        return Ok(Outcome::Refused(Refusal::Core(CoreFault::NoSuchMoment)));
+        return Ok(LineOutcome::Refused(Refusal::Core(CoreFault::NoSuchMoment)));
     };
     prove!(core.world().journal().len() <= MOST_ENTRIES);
     match file_text(alloc, report) {
         Ok(text) => write_done(text.as_bytes(), sink),
-        Err(OutOfMemory) => Ok(Outcome::Refused(Refusal::Core(CoreFault::OutOfMemory))),
+        Err(OutOfMemory) => Ok(LineOutcome::Refused(Refusal::Core(CoreFault::OutOfMemory))),
     }
 }
 
@@ -179,10 +179,10 @@ fn write_packets<W: Write>(
     alloc: Global,
     packets: &BlockList<Packet>,
     sink: &mut Sink<W>,
-) -> Result<Outcome, RunFault>
+) -> Result<LineOutcome, RunFault>
     requires faults { sink.old.faults < most_faults }
     requires few { length packets.now.items ≤ most_packets }
-    ensures outcome { IfOk result (λ outcome. outcome ≡ Outcome.Accepted) }
+    ensures outcome { IfOk result (λ outcome. outcome ≡ LineOutcome.Accepted) }
     ensures prints { OnOk result (Writes (PrintsPackets 0 packets.now.items)
         (W.contents sink.old.writer) (W.contents sink.new.writer)) }
     ensures begun { WritesPrefix (BeginsPackets packets.now.items)
@@ -198,5 +198,5 @@ fn write_packets<W: Write>(
         sink.write_all(line.as_bytes())?;
         place += 1;
     }
-    Ok(Outcome::Accepted)
+    Ok(LineOutcome::Accepted)
 }

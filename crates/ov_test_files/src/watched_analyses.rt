@@ -1,5 +1,5 @@
 //! That the watcher of an analysis of a graph file sees how far it has come, with the certificate and without it.
-use ov_answers::{Answered, analyse_bytes};
+use ov_answers::{ReportOrRefusal, analyse_bytes};
 use ov_even::Watcher;
 use ov_ids::Workers;
 use ov_io::Sink;
@@ -55,7 +55,10 @@ fn is_told(rt: &(impl AllocGlobal + Threads + Sync), certificate: bool) -> bool 
         &mut pieces,
     );
     let is_printed = sink.into_writer().starts_with(ANSWER);
-    answered == Ok(Answered::Report { k: 1 }) && is_printed && pieces.told > 0 && pieces.is_right
+    answered == Ok(ReportOrRefusal::Report { k: 1 })
+        && is_printed
+        && pieces.told > 0
+        && pieces.is_right
 }
 
 #[test]

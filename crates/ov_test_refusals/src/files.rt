@@ -1,6 +1,6 @@
 //! The file of the square's certificate, written as it is made.
 use crate::square_groups::square;
-use ov_certwriter::{WritingFault, place_answer, write_certificate};
+use ov_certwriter::{CertificateWriteFault, place_answer, write_certificate};
 use ov_crew::{OpenGate, settle_group_watched};
 use ov_even::Unwatched;
 use ov_ids::Workers;
@@ -22,7 +22,7 @@ const ROOM: usize = 4096;
 /// What a call answered, and what it wrote.
 #[derive(Drop)]
 struct Written {
-    answer: Result<(), WritingFault>,
+    answer: Result<(), CertificateWriteFault>,
     bytes: Vec<u8>,
 }
 
@@ -35,7 +35,7 @@ impl Written {
 
     /// Memory was refused, and nothing was written.
     fn is_refused(&self) -> bool {
-        self.answer == Err(WritingFault::OutOfMemory) && self.bytes.is_empty()
+        self.answer == Err(CertificateWriteFault::OutOfMemory) && self.bytes.is_empty()
     }
 }
 

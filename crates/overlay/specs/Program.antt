@@ -8,18 +8,18 @@ use Rattle.ov_arguments.specs.declared.arguments.Request.TheVariants.{Analyse}
 use Rattle.ov_commands.specs.Statuses.{IsAlarmStatus}
 use Rattle.ov_commands.specs.Faults.{command_fault_text}
 use Rattle.ov_grow_commands.specs.GrowFaults.{growth_number}
-use Rattle.ov_grow_commands.specs.declared.grow_command_fault.GrowthFault.TheVariants as growth
-use Rattle.overlay.specs.declared.fault_and_exit_status.ProgramFault.{ProgramFault}
-use Rattle.overlay.specs.declared.fault_and_exit_status.ProgramFault.TheVariants.{Arguments, Command, Growth}
+use Rattle.ov_grow_commands.specs.declared.grow_command_fault.GrowCommandFault.TheVariants as growth
+use Rattle.overlay.specs.declared.fault_and_exit_status.OverlayFault.{OverlayFault}
+use Rattle.overlay.specs.declared.fault_and_exit_status.OverlayFault.TheVariants.{Arguments, Command, Growth}
 
 -- what is printed of a fault on standard error, without its line feed
-abbrev pub program_fault_text : ProgramFault → List ℕ
+abbrev pub program_fault_text : OverlayFault → List ℕ
 program_fault_text (Arguments fault) = refusal_text (number_of fault)
 program_fault_text (Command fault) = command_fault_text fault
 program_fault_text (Growth fault) = refusal_text (growth_number fault)
 
 -- the fault is one of what was asked for, and not of the arguments
-abbrev pub IsOfRequest : ProgramFault → Type 0
+abbrev pub IsOfRequest : OverlayFault → Type 0
 IsOfRequest (Command fault) = ⊤
 IsOfRequest other = ⊥
 
@@ -37,7 +37,7 @@ IsStatusGiven arguments status =
     × (text_given arguments (codes "at-least") ≢ None))
 
 -- the program's status: that of the run or the analysis, 2 if the arguments are refused, and 1 after another fault
-abbrev pub exit_status : Result ℕ ProgramFault → ℕ
+abbrev pub exit_status : Result ℕ OverlayFault → ℕ
 exit_status (Ok status) = status
 exit_status (Err (Arguments BadArguments)) = 2
 exit_status (Err (Arguments OutOfMemory)) = 1

@@ -6,11 +6,11 @@ ghost use Rattle.std.specs.Prelude.{◌≡◌, ◌≢◌, ◌⊎◌, drop, map, 
 ghost use Rattle.ov_arguments.specs.Arguments.{AreTaken};
 ghost use Rattle.ov_arguments.specs.declared.arguments.ArgumentsFault.TheVariants.{BadArguments};
 ghost use Rattle.overlay.specs.Program.{IsOfRequest, IsStatusGiven, IsStatusOf};
-ghost use Rattle.overlay.specs.declared.fault_and_exit_status.ProgramFault.TheVariants.{Arguments};
+ghost use Rattle.overlay.specs.declared.fault_and_exit_status.OverlayFault.TheVariants.{Arguments};
 
 mod fault_and_exit_status;
 
-use crate::fault_and_exit_status::{ProgramFault, exit_status};
+use crate::fault_and_exit_status::{OverlayFault, exit_status};
 use ov_arguments::{ArgumentsFault, Request, argument_reasons, read_arguments, unopened_tip};
 use ov_commands::{
     CommandFault, analyse_asked, graph_asked, import_asked, picture_asked, print_command_tip,
@@ -31,7 +31,7 @@ fn main(rt: HostRuntime) -> ExitCode {
 }
 
 /// Does what the command line asks for.
-fn overlay<T: Threads + Wait + Sync>(rt: &HostRuntime, threads: &T) -> Result<u8, ProgramFault>
+fn overlay<T: Threads + Wait + Sync>(rt: &HostRuntime, threads: &T) -> Result<u8, OverlayFault>
     ensures status { IfOk result (λ status. (status ≡ 0) ⊎ (status ≡ 3)) }
 {
     match command_line(rt) {
@@ -45,7 +45,7 @@ fn do_command<T: Threads + Wait + Sync>(
     rt: &HostRuntime,
     threads: &T,
     arguments: &[String],
-) -> Result<u8, ProgramFault>
+) -> Result<u8, OverlayFault>
     ensures status { IfOk result (IsStatusGiven (map (λ argument. string_bytes argument) arguments.now)) }
 {
     if grow_or_sweep(rt, threads, arguments)? {
@@ -59,7 +59,7 @@ fn answer<T: Threads + Wait + Sync>(
     rt: &HostRuntime,
     threads: &T,
     arguments: &[String],
-) -> Result<u8, ProgramFault>
+) -> Result<u8, OverlayFault>
     ensures status { IfOk result (IsStatusGiven (map (λ argument. string_bytes argument) arguments.now)) }
     ensures taken { AreTaken (map (λ argument. string_bytes argument) arguments.now)
         → (result ≢ Err (Arguments BadArguments)) }
@@ -76,8 +76,8 @@ fn answer<T: Threads + Wait + Sync>(
 }
 
 /// If a file can't be read, prints what else these arguments may mean.
-fn tell_meant(rt: &HostRuntime, arguments: &[String], done: &Result<u8, ProgramFault>) {
-    if let Err(ProgramFault::Command(CommandFault::Run(RunFault::Read))) = done {
+fn tell_meant(rt: &HostRuntime, arguments: &[String], done: &Result<u8, OverlayFault>) {
+    if let Err(OverlayFault::Command(CommandFault::Run(RunFault::Read))) = done {
         print_tip(rt, unopened_tip(rt.alloc(), arguments));
     }
 }
@@ -99,10 +99,10 @@ fn behind_name(command_line: &[String]) -> &[String]
 }
 
 /// Ends if the arguments can't be read. Prints what is wrong with them.
-fn unread_arguments(rt: &HostRuntime, fault: ArgumentsFault, arguments: &[String]) -> ProgramFault
+fn unread_arguments(rt: &HostRuntime, fault: ArgumentsFault, arguments: &[String]) -> OverlayFault
     ensures { result ≡ Arguments fault }
 {
-    let ended = ProgramFault::Arguments(fault);
+    let ended = OverlayFault::Arguments(fault);
     let _ = eprintln!(rt; "{ended}");
     match fault {
         ArgumentsFault::BadArguments => {
@@ -121,7 +121,7 @@ fn do_asked<T: Threads + Wait + Sync>(
     rt: &HostRuntime,
     threads: &T,
     request: Request,
-) -> Result<u8, ProgramFault>
+) -> Result<u8, OverlayFault>
     ensures status { IfOk result (IsStatusOf request) }
     ensures fault { IfErr result IsOfRequest }
 {

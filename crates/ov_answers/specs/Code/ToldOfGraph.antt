@@ -9,18 +9,18 @@ use Rattle.ov_run_meaning.specs.declared.run_fault.RunFault.{RunFault}
 use Rattle.ov_run_meaning.specs.declared.run_fault.RunFault.TheVariants.{Write}
 use Rattle.ov_answers.specs.Code.Files.{IsWritingFault}
 use Rattle.ov_answers.specs.Telling.{TellsAnswer}
-use Rattle.ov_answers.specs.declared.report_or_refusal.Answered.{Answered}
-use Rattle.ov_answers.specs.declared.request.Told.{Told}
+use Rattle.ov_answers.specs.declared.report_or_refusal.ReportOrRefusal.{ReportOrRefusal}
+use Rattle.ov_answers.specs.declared.request.ToldAnalysis.{ToldAnalysis}
 
 -- An analysis of this graph and this group that tells more, from a sink before it to what it is after it: as
 -- `IsToldOf`, but for the graph in place of the file that says it.
 pub record IsToldOfGraph {W : Type 0} (g : LinkGraph) (q : List ℕ) (names : NamesState) (certificate named : Bool)
-    (contents : W → Option (List ℕ)) (before after : SinkState W) (result : Result Told RunFault) : Type 0 where
+    (contents : W → Option (List ℕ)) (before after : SinkState W) (result : Result ToldAnalysis RunFault) : Type 0 where
   -- without fault, the writer took the text after what it held, and what was printed is returned
   pub tells : IfOk result (λ told. (text : List ℕ) × TellsAnswer g q names certificate named told.answered text
       × Appends (contents before.writer) (contents after.writer) text)
   -- however it ends, the sink is as before, or the writer took a prefix of the text
-  pub begun : (after ≡ before) ⊎ ((answered : Answered) × (text : List ℕ)
+  pub begun : (after ≡ before) ⊎ ((answered : ReportOrRefusal) × (text : List ℕ)
       × TellsAnswer g q names certificate named answered text
       × AppendsPrefixOf text (contents before.writer) (contents after.writer))
   -- after Write the sink counts one more fault, otherwise the same number as before

@@ -8,17 +8,17 @@ use Rattle.serde_json.specs.Data.{Data, Members}
 use Rattle.serde_json.specs.Written.{outline, members_outline}
 use Rattle.ov_certfile.specs.Forms.{ids_in}
 use Rattle.ov_certfile.specs.DataOf.{ids_data}
-use Rattle.ov_certfile.specs.declared.token_cursor.Place.{Place}
-use Rattle.ov_certfile.specs.declared.token_cursor.Place.TheVariants.{Fresh, AfterValue, AfterComma}
+use Rattle.ov_certfile.specs.declared.token_cursor.CursorPlace.{CursorPlace}
+use Rattle.ov_certfile.specs.declared.token_cursor.CursorPlace.TheVariants.{Fresh, AfterValue, AfterComma}
 
 -- where a cursor stands among commas and colons
-abbrev pub place_in : Place → lexer.Place
+abbrev pub place_in : CursorPlace → lexer.Place
 place_in Fresh = fresh
 place_in AfterValue = after_value
 place_in AfterComma = after_comma
 
 -- the tokens of a text that is left
-abbrev pub tokens_at : Place → List ℕ → List Token
+abbrev pub tokens_at : CursorPlace → List ℕ → List Token
 tokens_at place text = punctuate (place_in place) (lex between text)
 
 -- the tokens with which a value is written are taken off

@@ -5,7 +5,7 @@ use Rattle.ov_graphfile.specs.NamesState.{NamesState}
 use Rattle.ov_run_meaning.specs.declared.run_fault.RunFault.TheVariants as run
 use Rattle.ov_io.specs.Device.{SinkState}
 use Rattle.ov_answers.specs.Telling.{IsToldOf}
-use Rattle.ov_answers.specs.declared.request.Told.{Told}
+use Rattle.ov_answers.specs.declared.request.ToldAnalysis.{ToldAnalysis}
 use Rattle.ov_commands.specs.Naming.{NamesNobody}
 use Rattle.ov_commands.specs.Statuses.{alarm_status}
 use Rattle.ov_commands.specs.declared.command_fault.CommandFault.{CommandFault}
@@ -35,7 +35,7 @@ IsNotFound bytes named those these other = ⊥
 abbrev pub WasAnswered : {W : Type 0} → List ℕ → List ℕ → Option (List ℕ) → Bool → Bool → Option ℕ
     → (W → Option (List ℕ)) → SinkState W → SinkState W → Result ℕ CommandFault → Type 0
 WasAnswered bytes gone group certificate named least contents old new (Ok status) =
-    (told : Told) × IsToldOf bytes contents old gone group certificate named new (Ok told)
+    (told : ToldAnalysis) × IsToldOf bytes contents old gone group certificate named new (Ok told)
     × (status ≡ alarm_status least told.answered)
 WasAnswered bytes gone group certificate named least contents old new (Err (Run fault)) =
     IsToldOf bytes contents old gone group certificate named new (Err fault)

@@ -1,22 +1,22 @@
 -- Why a token can't stand at a place of the diagram.
 use Rattle.ov_dot.specs.declared.token.Kind.{Kind}
 use Rattle.ov_dot.specs.declared.token.Kind.TheVariants.{Subgraph, Html, OpenBrace, Line, Arrow}
-use Rattle.ov_dot.specs.declared.grammar_state.Place.{Place}
-use Rattle.ov_dot.specs.declared.grammar_state.Place.TheVariants.{Beginning, BehindStrict, BehindKind, BehindTitle}
-use Rattle.ov_dot.specs.declared.grammar_state.Place.TheVariants.{Body, Named}
-use Rattle.ov_dot.specs.declared.grammar_state.Place.TheVariants.{Member, PortNext, Ported, CompassNext, Directed}
-use Rattle.ov_dot.specs.declared.grammar_state.Place.TheVariants.{EndNext}
-use Rattle.ov_dot.specs.declared.grammar_state.Place.TheVariants.{ListNext, InList, Attribute, ValueNext, Valued}
-use Rattle.ov_dot.specs.declared.grammar_state.Place.TheVariants.{Listed}
-use Rattle.ov_dot.specs.declared.grammar_state.Place.TheVariants.{AssignedNext}
-use Rattle.ov_dot.specs.declared.grammar_state.Place.TheVariants.{SubgraphNext, SubgraphTitled, Over}
+use Rattle.ov_dot.specs.declared.grammar_state.GrammarPlace.{GrammarPlace}
+use Rattle.ov_dot.specs.declared.grammar_state.GrammarPlace.TheVariants.{Beginning, BehindStrict, BehindKind, BehindTitle}
+use Rattle.ov_dot.specs.declared.grammar_state.GrammarPlace.TheVariants.{Body, Named}
+use Rattle.ov_dot.specs.declared.grammar_state.GrammarPlace.TheVariants.{Member, PortNext, Ported, CompassNext, Directed}
+use Rattle.ov_dot.specs.declared.grammar_state.GrammarPlace.TheVariants.{EndNext}
+use Rattle.ov_dot.specs.declared.grammar_state.GrammarPlace.TheVariants.{ListNext, InList, Attribute, ValueNext, Valued}
+use Rattle.ov_dot.specs.declared.grammar_state.GrammarPlace.TheVariants.{Listed}
+use Rattle.ov_dot.specs.declared.grammar_state.GrammarPlace.TheVariants.{AssignedNext}
+use Rattle.ov_dot.specs.declared.grammar_state.GrammarPlace.TheVariants.{SubgraphNext, SubgraphTitled, Over}
 use Rattle.ov_dot.specs.declared.fault.Why.{Why}
 use Rattle.ov_dot.specs.declared.fault.Why.TheVariants.{NoGraph, NoBrace, NoName, NoStatement, BadAttributes}
 use Rattle.ov_dot.specs.declared.fault.Why.TheVariants.{SubgraphAsEnd}
 use Rattle.ov_dot.specs.declared.fault.Why.TheVariants.{HtmlText, BehindGraph}
 
 -- what was wanted at a place
-abbrev pub lacking : Place → Why
+abbrev pub lacking : GrammarPlace → Why
 lacking Beginning = NoGraph
 lacking BehindStrict = NoGraph
 lacking BehindKind = NoBrace
@@ -60,7 +60,7 @@ not_wanted why Html = HtmlText
 not_wanted why kind = why
 
 -- why a token of this kind can't stand at a place
-abbrev pub why_not : Place → Kind → Why
+abbrev pub why_not : GrammarPlace → Kind → Why
 why_not EndNext kind = no_end kind
 why_not Body kind = no_statement kind
 why_not Over kind = BehindGraph

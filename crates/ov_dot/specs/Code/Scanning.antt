@@ -3,19 +3,19 @@ use Rattle.std.specs.Prelude.{ℕ, ◌+◌, ◌-◌, Bool, true, false, ◌==◌
 use Rattle.std.specs.Prelude.{if◌then◌else◌}
 use Rattle.std.specs.Bool.{then_some}
 use Rattle.std.specs.Char.{is_ascii_digit}
-use Rattle.ov_dot.specs.declared.lexeme_scanning.Place.{Place}
-use Rattle.ov_dot.specs.declared.lexeme_scanning.Place.TheVariants.{Start, LineFeed, Slash, LineComment}
-use Rattle.ov_dot.specs.declared.lexeme_scanning.Place.TheVariants.{BlockComment, BlockStar}
-use Rattle.ov_dot.specs.declared.lexeme_scanning.Place.TheVariants.{Word, Minus, Point, Digits, Fraction, Text}
-use Rattle.ov_dot.specs.declared.lexeme_scanning.Place.TheVariants.{Escaped, Angle, End}
+use Rattle.ov_dot.specs.declared.lexeme_scanning.ScanPlace.{ScanPlace}
+use Rattle.ov_dot.specs.declared.lexeme_scanning.ScanPlace.TheVariants.{Start, LineFeed, Slash, LineComment}
+use Rattle.ov_dot.specs.declared.lexeme_scanning.ScanPlace.TheVariants.{BlockComment, BlockStar}
+use Rattle.ov_dot.specs.declared.lexeme_scanning.ScanPlace.TheVariants.{Word, Minus, Point, Digits, Fraction, Text}
+use Rattle.ov_dot.specs.declared.lexeme_scanning.ScanPlace.TheVariants.{Escaped, Angle, End}
 use Rattle.ov_dot.specs.Parts.{is_blank, is_mark, is_letter, is_word_byte, is_in_line, line_feed}
 
 -- the place behind the first byte of a numeral
-abbrev pub decimal_place : ℕ → Option Place
+abbrev pub decimal_place : ℕ → Option ScanPlace
 decimal_place b = if is_ascii_digit b then Some Digits else then_some (b == 46) Point
 
 -- the place behind the first byte of a part
-abbrev pub first_place : ℕ → Option Place
+abbrev pub first_place : ℕ → Option ScanPlace
 first_place b =
     if is_blank b then Some End
     else (if is_mark b then Some End
@@ -28,7 +28,7 @@ first_place b =
     else decimal_place b)))))))
 
 -- the place behind one byte more, if the part may go on by it
-abbrev pub after : Place → ℕ → Option Place
+abbrev pub after : ScanPlace → ℕ → Option ScanPlace
 after Start b = first_place b
 after LineFeed b = then_some (b == 35) LineComment
 after Slash b = if b == 47 then Some LineComment else then_some (b == 42) BlockComment
@@ -49,7 +49,7 @@ after (Angle depth) b =
 after End b = None
 
 -- a part may end at this place
-abbrev pub is_whole : Place → Bool
+abbrev pub is_whole : ScanPlace → Bool
 is_whole LineFeed = true
 is_whole LineComment = true
 is_whole Word = true
@@ -67,22 +67,22 @@ is_whole Escaped = false
 is_whole (Angle depth) = false
 
 -- a part may go on by these bytes from the place, and end behind them
-abbrev pub accepts : Option Place → List ℕ → Bool
+abbrev pub accepts : Option ScanPlace → List ℕ → Bool
 accepts None bs = false
 accepts (Some place) [] = is_whole place
 accepts (Some place) (b ∷ bs) = accepts (after place b) bs
 
 -- how many HTML brackets are open at a place
-abbrev pub open_at : Place → ℕ
+abbrev pub open_at : ScanPlace → ℕ
 open_at (Angle depth) = depth
 open_at place = 0
 
 -- the end of the longest part so far, at a place behind this many bytes
-abbrev pub marked : ℕ → Place → Option ℕ → Option ℕ
+abbrev pub marked : ℕ → ScanPlace → Option ℕ → Option ℕ
 marked n place longest = if is_whole place then Some n else longest
 
 -- the end of the longest part, from a place behind this many bytes, with the longest one so far
-unfoldable pub longest_from : ℕ → Option Place → List ℕ → Option ℕ → Option ℕ
+unfoldable pub longest_from : ℕ → Option ScanPlace → List ℕ → Option ℕ → Option ℕ
 longest_from n None bs longest = longest
 longest_from n (Some place) [] longest = marked n place longest
 longest_from n (Some place) (b ∷ bs) longest = longest_from (n + 1) (after place b) bs (marked n place longest)

@@ -6,8 +6,8 @@ use Rattle.std.specs.Prelude.{if◌then◌else◌}
 use Rattle.ov_dot.specs.Tokens.{Lexeme}
 use Rattle.ov_dot.specs.declared.token.Kind.{Kind}
 use Rattle.ov_dot.specs.declared.token.Kind.TheVariants.{Digraph, OpenBrace, CloseBrace, Equals, Line, Arrow}
-use Rattle.ov_dot.specs.declared.grammar_state.Place.{Place}
-use Rattle.ov_dot.specs.declared.grammar_state.Place.TheVariants.{Beginning, Named, Member, EndNext, Over}
+use Rattle.ov_dot.specs.declared.grammar_state.GrammarPlace.{GrammarPlace}
+use Rattle.ov_dot.specs.declared.grammar_state.GrammarPlace.TheVariants.{Beginning, Named, Member, EndNext, Over}
 use Rattle.ov_dot.specs.declared.fault.DotFault.{DotFault}
 use Rattle.ov_dot.specs.declared.fault.DotFault.TheVariants.{UnreadLine}
 use Rattle.ov_dot.specs.declared.fault.Why.TheVariants.{WrongEdge, Unclosed}
@@ -22,7 +22,7 @@ pub record Reading : Type 0 where
   -- how many braces are open
   pub depth : ℕ
   -- the place in the diagram
-  pub place : Place
+  pub place : GrammarPlace
   -- the last name of a node; before the first one, the first token
   pub name : Lexeme
   -- the line of the last token
@@ -45,12 +45,12 @@ depth_behind depth kind = depth
 
 -- the place behind one token more, where the diagram leads to this place: the brace that closes the first one ends the
 -- file
-abbrev pub place_behind : ℕ → Kind → Place → Place
+abbrev pub place_behind : ℕ → Kind → GrammarPlace → GrammarPlace
 place_behind depth CloseBrace place = if nat_le depth 1 then Over else place
 place_behind depth kind place = place
 
 -- a token at this place is the name of a node
-abbrev pub name_behind : Place → Lexeme → Lexeme → Lexeme
+abbrev pub name_behind : GrammarPlace → Lexeme → Lexeme → Lexeme
 name_behind Named name token = token
 name_behind Member name token = token
 name_behind place name token = name
@@ -62,7 +62,7 @@ is_wrong_edge directed Arrow = not directed
 is_wrong_edge directed kind = false
 
 -- behind one token more, where the diagram leads to this place
-abbrev pub moved : Reading → Lexeme → Place → Reading
+abbrev pub moved : Reading → Lexeme → GrammarPlace → Reading
 moved r t place = record {
   directed = directed_behind r.directed t.kind;
   depth = depth_behind r.depth t.kind;
@@ -72,7 +72,7 @@ moved r t place = record {
 }
 
 -- one token more, where the diagram leads to a place, or nowhere
-abbrev pub step_to : Reading → Lexeme → Option Place → Result Reading DotFault
+abbrev pub step_to : Reading → Lexeme → Option GrammarPlace → Result Reading DotFault
 step_to r t None = Err (UnreadLine t.line (why_not r.place t.kind))
 step_to r t (Some place) =
     if is_wrong_edge r.directed t.kind then Err (UnreadLine t.line WrongEdge) else Ok (moved r t place)
@@ -87,7 +87,7 @@ with_first name Equals said = said
 with_first name kind said = record { entries = said.entries ++ name ∷ []; listings = said.listings }
 
 -- what was said, and what one token more says at a place: that the last name is one of a node, or an edge to this token
-abbrev pub said_at : Bool → Place → Lexeme → Lexeme → Said → Said
+abbrev pub said_at : Bool → GrammarPlace → Lexeme → Lexeme → Said → Said
 said_at directed Named name t said = with_first name t.kind said
 said_at directed EndNext name t said = with_edge directed name t said
 said_at directed place name t said = said
@@ -97,7 +97,7 @@ abbrev pub said_behind : Reading → Lexeme → Said → Said
 said_behind r t said = said_at r.directed r.place r.name t said
 
 -- the text ends: behind its last brace, with what was said, or before it
-abbrev pub ended : Reading → Place → Said → Result Said DotFault
+abbrev pub ended : Reading → GrammarPlace → Said → Result Said DotFault
 ended r Over said = Ok said
 ended r place said = Err (UnreadLine r.line Unclosed)
 

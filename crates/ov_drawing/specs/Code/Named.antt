@@ -6,7 +6,7 @@ use Rattle.ov_cert.specs.declared.cert.Split.{Split}
 use Rattle.ov_drawing.specs.Classes.{class_of}
 use Rattle.ov_drawing.specs.declared.node_and_link_classes.NodeClass.{NodeClass}
 use Rattle.ov_drawing.specs.declared.node_and_link_classes.NodeClass.TheVariants as node
-use Rattle.ov_drawing.specs.declared.node_classes.Classes.{Classes}
+use Rattle.ov_drawing.specs.declared.classes_by_certificate.Classes.{Classes}
 use Rattle.ov_drawing.specs.Code.Tables.{class_in}
 
 -- the class of a node that a split names

@@ -7,7 +7,7 @@ use Rattle.ov_ids.specs.Sets.{has}
 use Rattle.ov_drawing.specs.declared.node_and_link_classes.NodeClass.{NodeClass}
 use Rattle.ov_drawing.specs.declared.drawing.DrawnNode.{DrawnNode}
 use Rattle.ov_drawing.specs.declared.drawing.DrawnLink.{DrawnLink}
-use Rattle.ov_drawing.specs.declared.node_classes.Classes.{Classes}
+use Rattle.ov_drawing.specs.declared.classes_by_certificate.Classes.{Classes}
 use Rattle.ov_drawing.specs.Classes.{band_of, link_class}
 use Rattle.ov_drawing.specs.Code.PathTests.{link_cmp}
 

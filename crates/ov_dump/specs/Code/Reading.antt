@@ -4,16 +4,16 @@ use Rattle.std.specs.Prelude.{None, Result, Ok, Err}
 use Rattle.ov_ids.specs.Members.{Has}
 use Rattle.json.specs.Json.{Json, array, object, Items, Members}
 use Rattle.ov_dump.specs.declared.dump_and_graph_types.Dump.{Dump}
-use Rattle.ov_dump.specs.declared.dump_and_graph_types.Entry.{Entry}
+use Rattle.ov_dump.specs.declared.dump_and_graph_types.HostEntry.{HostEntry}
 use Rattle.ov_dump.specs.EdgeLines.{IsBlankLine, IsEdge, IsReadable, IsWhy, before_mark, is_blank, is_name_byte}
 use Rattle.ov_dump.specs.Views.{LacksView, SayDump}
 use Rattle.ov_dump.specs.declared.edge_line.EdgeLine.{EdgeLine}
 use Rattle.ov_dump.specs.declared.views_reading.Listed.{Listed}
 use Rattle.ov_dump.specs.declared.views_reading.Listed.TheVariants.{Nobody, Peer, NoName}
 use Rattle.ov_dump.specs.declared.edge_line.EdgeLine.TheVariants.{Blank, Edge, Unread}
-use Rattle.ov_dump.specs.declared.reading_fault.ReadingFault.{ReadingFault}
-use Rattle.ov_dump.specs.declared.reading_fault.ReadingFault.TheVariants.{NotViews, NoView, UnreadLine}
-use Rattle.ov_dump.specs.declared.reading_fault.ReadingFault.TheVariants.{OutOfMemory}
+use Rattle.ov_dump.specs.declared.reading_fault.DumpReadFault.{DumpReadFault}
+use Rattle.ov_dump.specs.declared.reading_fault.DumpReadFault.TheVariants.{NotViews, NoView, UnreadLine}
+use Rattle.ov_dump.specs.declared.reading_fault.DumpReadFault.TheVariants.{OutOfMemory}
 
 -- ---- views
 
@@ -34,19 +34,19 @@ names_read (Peer name) = Some (name.now ∷ [])
 names_read NoName = None
 
 -- the entry of this number and name is no list of names
-abbrev pub FailsAt : ℕ → List ℕ → Option (List (List ℕ)) → ReadingFault → Type 0
+abbrev pub FailsAt : ℕ → List ℕ → Option (List (List ℕ)) → DumpReadFault → Type 0
 FailsAt at name said (NoView entry wrong) = (entry ≡ at) × (wrong ≡ name) × (said ≡ None)
 FailsAt at name said OutOfMemory = ⊤
 FailsAt at name said other = ⊥
 
 -- one of these members is no list of names
-abbrev pub FailsFrom : ℕ → Members → ReadingFault → Type 0
+abbrev pub FailsFrom : ℕ → Members → DumpReadFault → Type 0
 FailsFrom at ms (NoView entry wrong) = LacksView at ms entry wrong
 FailsFrom at ms OutOfMemory = ⊤
 FailsFrom at ms other = ⊥
 
 -- of a value that is no object
-abbrev pub IsNoObject : Option Members → ReadingFault → Type 0
+abbrev pub IsNoObject : Option Members → DumpReadFault → Type 0
 IsNoObject None fault = fault ≡ NotViews
 IsNoObject (Some ms) fault = FailsFrom 1 ms fault
 
@@ -55,7 +55,7 @@ abbrev pub IsDumpIn : Option Members → Dump → Type 0
 IsDumpIn None d = ⊥
 IsDumpIn (Some ms) d = SayDump 1 ms d
 
-abbrev pub DumpOf : Json → Result Dump ReadingFault → Type 0
+abbrev pub DumpOf : Json → Result Dump DumpReadFault → Type 0
 DumpOf v (Ok d) = IsDumpIn (as_members v) d
 DumpOf v (Err fault) = IsNoObject (as_members v) fault
 
@@ -109,7 +109,7 @@ WasRead line (Edge a b) = IsEdge line a.now b.now
 WasRead line Unread = ¬ IsReadable line
 
 -- the line with this number can't be read, and why
-abbrev pub FailsAtLine : ℕ → List ℕ → ReadingFault → Type 0
+abbrev pub FailsAtLine : ℕ → List ℕ → DumpReadFault → Type 0
 FailsAtLine at line (UnreadLine n why) = (n ≡ at) × IsWhy line why
 FailsAtLine at line OutOfMemory = ⊤
 FailsAtLine at line other = ⊥
@@ -117,13 +117,13 @@ FailsAtLine at line other = ⊥
 -- ---- edges
 
 -- an entry is added to those so far, unless its name was seen
-abbrev pub TakesEntry : List (List ℕ) → List Entry → Entry → List (List ℕ) → List Entry → Type 0
+abbrev pub TakesEntry : List (List ℕ) → List HostEntry → HostEntry → List (List ℕ) → List HostEntry → Type 0
 TakesEntry seen entries e seen' entries' =
     (Has seen e.name × (seen' ≡ seen) × (entries' ≡ entries))
     ⊎ ((¬ Has seen e.name) × ((n : List ℕ) → Has seen' n ↔ ((e.name ≡ n) ⊎ Has seen n))
     × (entries' ≡ entries ++ e ∷ []))
 
 -- two entries are added so, one after the other
-abbrev pub TakesEnds : List (List ℕ) → List Entry → Entry → Entry → List (List ℕ) → List Entry → Type 0
-TakesEnds seen entries e f seen' entries' = (mid : List (List ℕ)) × (between : List Entry)
+abbrev pub TakesEnds : List (List ℕ) → List HostEntry → HostEntry → HostEntry → List (List ℕ) → List HostEntry → Type 0
+TakesEnds seen entries e f seen' entries' = (mid : List (List ℕ)) × (between : List HostEntry)
     × TakesEntry seen entries e mid between × TakesEntry mid between f seen' entries'

@@ -3,14 +3,14 @@ use Rattle.std.proofs.Common.{◌≡◌, ◌≤◌, ◌+◌, List, [], ◌∷◌
 use Rattle.ov_hall.proofs.Flat.{total-append}
 use Rattle.ov_run.specs.Code.Jobs.{joined}
 use Rattle.ov_run_meaning.specs.Sections.{ToldLine, accepted_in, one_accepted, one_refused, refused_in}
-use Rattle.ov_run_meaning.specs.declared.line_run_outcome.Outcome.{Outcome}
-use Rattle.ov_run_meaning.specs.declared.line_run_outcome.Outcome.TheVariants.{Accepted, Refused}
+use Rattle.ov_run_meaning.specs.declared.line_run_outcome.LineOutcome.{LineOutcome}
+use Rattle.ov_run_meaning.specs.declared.line_run_outcome.LineOutcome.TheVariants.{Accepted, Refused}
 
-one_of_two : (o : Outcome) → one_accepted o + one_refused o ≡ 1
+one_of_two : (o : LineOutcome) → one_accepted o + one_refused o ≡ 1
 one_of_two Accepted = omega arith
 one_of_two (Refused refusal) = omega arith
 
-pub one_most : (o : Outcome) → one_accepted o ≤ 1
+pub one_most : (o : LineOutcome) → one_accepted o ≤ 1
 one_most Accepted = omega arith
 one_most (Refused refusal) = omega arith
 

@@ -15,8 +15,8 @@ use Rattle.ov_snap.specs.declared.ghost_log_of_drivers.Mark.{Mark}
 use Rattle.ov_snap.specs.declared.ghost_log_of_drivers.Ticket.{Ticket}
 use Rattle.ov_run_meaning.specs.Sections.{HasAnalysed, IsAccepted, IsRefused, IsRefusedAnalysis, IsReportOn, RunsLine}
 use Rattle.ov_run_meaning.specs.Sections.{RunsSection, ToldLine, is_event, told_of}
-use Rattle.ov_run_meaning.specs.declared.line_run_outcome.Outcome.{Outcome}
-use Rattle.ov_run_meaning.specs.declared.line_run_outcome.Outcome.TheVariants.{Accepted, Refused}
+use Rattle.ov_run_meaning.specs.declared.line_run_outcome.LineOutcome.{LineOutcome}
+use Rattle.ov_run_meaning.specs.declared.line_run_outcome.LineOutcome.TheVariants.{Accepted, Refused}
 use Rattle.ov_run_meaning.specs.declared.refusal.Refusal.{Refusal}
 use Rattle.ov_run_meaning.specs.declared.refusal.Refusal.TheVariants.{World, Core}
 use Rattle.ov_scenario.specs.declared.line_of_section.Deed.{Deed}
@@ -67,7 +67,7 @@ refused_on params p (deed.Analyse m) (Core fault) q (inl (is, looked)) = looked_
 refused_on params p (deed.Analyse m) (Core fault) q (inr (r, begun, answered, is, looked)) =
     extends_on p begun q (looked_on p begun answered.0) (looked_on begun q looked)
 
-line_on : (params : ParamsState) (p : Ticket) (d : Deed) (outcome : Outcome) (q : Ticket)
+line_on : (params : ParamsState) (p : Ticket) (d : Deed) (outcome : LineOutcome) (q : Ticket)
     → RunsLine params p d outcome q → Extends p q
 line_on params p d Accepted q does = accepted_on params p d q does
 line_on params p d (Refused refusal) q is = refused_on params p d refusal q is
@@ -83,12 +83,12 @@ section_on params p (line ∷ lines) told q (next, outcome, others, first, rest,
 abbrev pub line_as : ℕ → List ℕ → Deed → SectionLine
 line_as number text deed = record { number = number; text = text; deed = deed }
 
-abbrev pub line_told : ℕ → List ℕ → Bool → Outcome → ToldLine
+abbrev pub line_told : ℕ → List ℕ → Bool → LineOutcome → ToldLine
 line_told number text event outcome =
     record { number = number; text = text; is_event = event; outcome = outcome }
 
 -- what is told of a line that was taken apart
-pub told_as : (number : ℕ) (text : List ℕ) (deed : Deed) (event : Bool) (outcome : Outcome) (line : SectionLine)
+pub told_as : (number : ℕ) (text : List ℕ) (deed : Deed) (event : Bool) (outcome : LineOutcome) (line : SectionLine)
     → line_as number text deed ≡ line → event ≡ is_event deed
     → line_told number text event outcome ≡ told_of line outcome
 told_as number text deed event outcome line same is =
@@ -108,7 +108,7 @@ section_begun params p all more q runs = runs
 pub section_more : (params : ParamsState) (p : Ticket) (all : List SectionLine) (now : Ticket) (line : SectionLine)
     (left : List SectionLine) (said : List ToldLine) (one : ToldLine) (next : Ticket)
     → SectionSoFar params p all now (line ∷ left) said
-    → (outcome : Outcome) × RunsLine params now line.deed outcome next × (one ≡ told_of line outcome)
+    → (outcome : LineOutcome) × RunsLine params now line.deed outcome next × (one ≡ told_of line outcome)
     → SectionSoFar params p all next left (said ++ one ∷ [])
 section_more params p all now line left said one next so_far (outcome, does, is) more q runs =
     subst (λ told. RunsSection params p all told q) (sym (append_assoc said (one ∷ []) more))

@@ -20,8 +20,8 @@ use Rattle.ov_run_meaning.specs.Writing.{IsOfWriting, Writes, WritesOutcome, Wri
 use Rattle.ov_run.specs.declared.line_outcome.BlockTold.{BlockTold}
 use Rattle.ov_run.specs.declared.line_outcome.Came.{Came}
 use Rattle.ov_run.specs.declared.line_outcome.Came.TheVariants.{Alone, Block}
-use Rattle.ov_run_meaning.specs.declared.line_run_outcome.Outcome.{Outcome}
-use Rattle.ov_run_meaning.specs.declared.line_run_outcome.Outcome.TheVariants.{Accepted, Refused}
+use Rattle.ov_run_meaning.specs.declared.line_run_outcome.LineOutcome.{LineOutcome}
+use Rattle.ov_run_meaning.specs.declared.line_run_outcome.LineOutcome.TheVariants.{Accepted, Refused}
 use Rattle.ov_run_meaning.specs.declared.run_fault.RunFault.{RunFault}
 use Rattle.ov_run_meaning.specs.declared.run_fault.RunFault.TheVariants.{Write, OutOfMemory}
 use Rattle.ov_run_meaning.specs.declared.strictness.Strictness.TheVariants.{Strict}
@@ -77,7 +77,7 @@ module _ {W : Type 0} (contents : W → Option (List ℕ)) (b : CoreState) (line
 
 -- a look that was written whole, or refused
 pub look_came :
-    (b : CoreState) (look : Look) (a c : Option (List ℕ)) (o : Outcome)
+    (b : CoreState) (look : Look) (a c : Option (List ℕ)) (o : LineOutcome)
     → WritesOutcome (ShowsLook b look) (RefusesLook b look) a c o → LineCame b (line.Look look) b a c (Alone o)
 look_came b look a c Accepted (text, shows, went) = (text, (refl, shows), went)
 look_came b look a c (Refused refusal) (refuses, went) = ((refuses, refl), went)

@@ -23,8 +23,8 @@ use Rattle.ov_run.specs.Code.Outcomes.{refused_of, rest_of, stop_of}
 use Rattle.ov_run.specs.declared.line_outcome.BlockTold.{BlockTold}
 use Rattle.ov_run.specs.declared.line_outcome.Came.{Came}
 use Rattle.ov_run.specs.declared.line_outcome.Came.TheVariants.{Alone, Block}
-use Rattle.ov_run_meaning.specs.declared.line_run_outcome.Outcome.{Outcome}
-use Rattle.ov_run_meaning.specs.declared.line_run_outcome.Outcome.TheVariants.{Accepted, Refused}
+use Rattle.ov_run_meaning.specs.declared.line_run_outcome.LineOutcome.{LineOutcome}
+use Rattle.ov_run_meaning.specs.declared.line_run_outcome.LineOutcome.TheVariants.{Accepted, Refused}
 use Rattle.ov_run_meaning.specs.declared.refusal.Refusal.{Refusal}
 use Rattle.ov_run_meaning.specs.declared.refusal.Refusal.TheVariants.{World, Core}
 use Rattle.ov_run_meaning.specs.declared.strictness.Strictness.{Strictness}
@@ -71,7 +71,7 @@ refusal_in other None = other
 refusal_in other (Some found) = found.1
 
 first_more :
-    (told : ToldLine) (others : List ToldLine) (n : ℕ) (refusal : Refusal) (o : Outcome) → told.outcome ≡ o
+    (told : ToldLine) (others : List ToldLine) (n : ℕ) (refusal : Refusal) (o : LineOutcome) → told.outcome ≡ o
     → or_else (refusal_at told.number o) (first_refused others) ≡ Some (n, refusal)
     → (first_refused others ≡ Some (n, refusal) → IsFirstRefused others n refusal)
     → IsFirstRefused (told ∷ others) n refusal
@@ -91,7 +91,7 @@ first_found (told ∷ others) n refusal is =
     first_more told others n refusal told.outcome refl is (first_found others n refusal)
 
 none_more :
-    (told : ToldLine) (others : List ToldLine) (o : Outcome) → told.outcome ≡ o
+    (told : ToldLine) (others : List ToldLine) (o : LineOutcome) → told.outcome ≡ o
     → or_else (refusal_at told.number o) (first_refused others) ≡ None
     → (first_refused others ≡ None → refused_in others ≡ 0)
     → refused_in (told ∷ others) ≡ 0

@@ -21,8 +21,8 @@ use Rattle.ov_run.specs.Code.Failing.{IsOfRunning}
 use Rattle.ov_run.specs.declared.line_outcome.BlockTold.{BlockTold}
 use Rattle.ov_run.specs.declared.line_outcome.Came.{Came}
 use Rattle.ov_run.specs.declared.line_outcome.Came.TheVariants.{Alone, Block}
-use Rattle.ov_run_meaning.specs.declared.line_run_outcome.Outcome.{Outcome}
-use Rattle.ov_run_meaning.specs.declared.line_run_outcome.Outcome.TheVariants.{Accepted, Refused}
+use Rattle.ov_run_meaning.specs.declared.line_run_outcome.LineOutcome.{LineOutcome}
+use Rattle.ov_run_meaning.specs.declared.line_run_outcome.LineOutcome.TheVariants.{Accepted, Refused}
 use Rattle.ov_run_meaning.specs.declared.refusal.Refusal.{Refusal}
 use Rattle.ov_run_meaning.specs.declared.run_fault.RunFault.{RunFault}
 use Rattle.ov_run_meaning.specs.declared.run_fault.RunFault.TheVariants as fault
@@ -90,7 +90,7 @@ WritesRest before after came (Some stop) = Appends before after []
 -- ---- the first line that was refused
 
 -- of what came of a line, its refusal, with this number of the line
-abbrev pub refusal_at : ℕ → Outcome → Option (ℕ × Refusal)
+abbrev pub refusal_at : ℕ → LineOutcome → Option (ℕ × Refusal)
 refusal_at n Accepted = None
 refusal_at n (Refused refusal) = Some (n, refusal)
 

@@ -6,7 +6,7 @@ use Rattle.ov_run_meaning.specs.declared.run_fault.RunFault.{RunFault}
 use Rattle.ov_answers.specs.Code.Files.{with_file_of}
 use Rattle.ov_answers.specs.Code.GivenNames.{given_names}
 use Rattle.ov_answers.specs.Code.ToldOfGraph.{IsToldOfGraph}
-use Rattle.ov_answers.specs.declared.request.Told.{Told}
+use Rattle.ov_answers.specs.declared.request.ToldAnalysis.{ToldAnalysis}
 use Rattle.ov_answers.proofs.OfGraph.{written, file_told}
 use Rattle.ov_answers.proofs.answer_writing.tell_hauls.Goals as goal
 
@@ -22,7 +22,7 @@ returns-in-Ok g c =
     let answer = c.in_ok-answer.answer in
     let placed = c.in_ok-placed.placed in
     let write = c.write_answer.ensures in
-    subst (λ (r : Result Told RunFault). IsToldOfGraph c.args.graph.now c.args.group.now names true named
+    subst (λ (r : Result ToldAnalysis RunFault). IsToldOfGraph c.args.graph.now c.args.group.now names true named
     g.W.Write.contents c.args.sink.now c.write_answer.new.sink r) c.in-Ok.is
     (written c.args.graph.now c.args.group.now names true named g.W.Write.contents c.args.sink.now
     c.write_answer.new.sink answer.told (with_file_of answer.text.items (Some placed)) c.write_answer.result
@@ -37,7 +37,7 @@ returns-in-Err g c =
     let answer = c.in_ok-answer.answer in
     let placed = c.in_ok-placed.placed in
     let write = c.write_answer.ensures in
-    subst (λ (r : Result Told RunFault). IsToldOfGraph c.args.graph.now c.args.group.now names true named
+    subst (λ (r : Result ToldAnalysis RunFault). IsToldOfGraph c.args.graph.now c.args.group.now names true named
     g.W.Write.contents c.args.sink.now c.write_answer.new.sink r) c.in-Err.is
     (written c.args.graph.now c.args.group.now names true named g.W.Write.contents c.args.sink.now
     c.write_answer.new.sink answer.told (with_file_of answer.text.items (Some placed)) c.write_answer.result

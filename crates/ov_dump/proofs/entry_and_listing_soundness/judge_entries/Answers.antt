@@ -1,7 +1,7 @@
 -- One entry more.
 use Rattle.std.proofs.Common.{List, suc, take, drop, sym, subst}
 use Rattle.std.proofs.lemmas.Result.{err_from_is_err_and}
-use Rattle.ov_dump.specs.declared.dump_and_graph_types.Entry.{Entry}
+use Rattle.ov_dump.specs.declared.dump_and_graph_types.HostEntry.{HostEntry}
 use Rattle.ov_dump.proofs.Places.{parted_at, taken_next}
 use Rattle.ov_dump.proofs.Sounding.{SoundSoFar, begun, flaw, more}
 use Rattle.ov_dump.proofs.entry_and_listing_soundness.judge_entries.Goals as goal
@@ -16,7 +16,7 @@ loop-entry-preserved c =
     let e = c.entry-item.result in
     let next = taken_next entries i e c.loop-entry-test.true c.entry-item.is in
     let judged = c.in_ok-judge_entry.ensures in
-    subst (λ (es : List Entry). SoundSoFar es c.judge_entry.new.seen) (sym next)
+    subst (λ (es : List HostEntry). SoundSoFar es c.judge_entry.new.seen) (sym next)
     (more (take i entries) e c.loop-entry.seen c.judge_entry.new.seen c.loop-entry.invariant judged.named judged.fresh
     judged.seen)
 

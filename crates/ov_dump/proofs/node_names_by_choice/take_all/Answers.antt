@@ -4,16 +4,16 @@ use Rattle.std.proofs.lemmas.Result.{err_from_is_err_and}
 use Rattle.std.specs.List.{flat_map}
 use Rattle.ov_dump.specs.Code.Taking.{Gains, RunsOver}
 use Rattle.ov_dump.specs.Faults.{entry_namings, listing_namings}
-use Rattle.ov_dump.specs.declared.dump_and_graph_types.Entry.{Entry}
+use Rattle.ov_dump.specs.declared.dump_and_graph_types.HostEntry.{HostEntry}
 use Rattle.ov_dump.specs.declared.dump_and_graph_types.Listing.{Listing}
 use Rattle.ov_dump.proofs.Takings.{ends_too, over_in_ends, over_in_entries}
 use Rattle.ov_dump.proofs.node_names_by_choice.take_all.Goals as goal
 
 -- from what a call says of a slice and of a set, to the entries of the dump and to no name
-of_dump : (names : List (List ℕ)) (slice entries : List Entry) (mid : List (List ℕ)) → names ≡ [] → slice ≡ entries
+of_dump : (names : List (List ℕ)) (slice entries : List HostEntry) (mid : List (List ℕ)) → names ≡ [] → slice ≡ entries
     → Gains names (entry_namings slice) mid → Gains [] (entry_namings entries) mid
 of_dump names slice entries mid none same gains =
-    subst (λ (es : List Entry). Gains [] (entry_namings es) mid) same
+    subst (λ (es : List HostEntry). Gains [] (entry_namings es) mid) same
     (subst (λ (ns : List (List ℕ)). Gains ns (entry_namings slice) mid) none gains)
 
 pub returns-in_err-take_entries-clause-fault : goal.returns-in_err-take_entries-clause-fault
@@ -22,7 +22,7 @@ returns-in_err-take_entries-clause-fault c =
     let slice = c.as_slice-entries.result.now in
     let p = err_from_is_err_and c.from_residual.result c.from_residual.ensures.1 in
     rw (p.1, p.2) (over_in_entries c.args.choice c.args.dump.now fault
-    (subst (λ (es : List Entry). RunsOver [] (entry_namings es) fault) c.as_slice-entries.ensures
+    (subst (λ (es : List HostEntry). RunsOver [] (entry_namings es) fault) c.as_slice-entries.ensures
     (subst (λ (ns : List (List ℕ)). RunsOver ns (entry_namings slice) fault) c.requires.none
     c.in_err-take_entries.ensures.fault)))
 

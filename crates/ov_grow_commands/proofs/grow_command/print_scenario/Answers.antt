@@ -9,7 +9,7 @@ use Rattle.ov_grow.specs.declared.phase_moment_and_deliveries.Phase.{Phase}
 use Rattle.ov_grow.specs.Replay.{Replays}
 use Rattle.ov_snap.specs.CoreState.{CoreState}
 use Rattle.ov_grow_commands.specs.Growing.{IsGrownBy, WasPrinted}
-use Rattle.ov_grow_commands.specs.declared.grow_command_fault.GrowthFault.{GrowthFault}
+use Rattle.ov_grow_commands.specs.declared.grow_command_fault.GrowCommandFault.{GrowCommandFault}
 use Rattle.ov_grow_commands.proofs.grow_command.print_scenario.Goals as goal
 
 -- what was grown is grown by its text
@@ -39,7 +39,7 @@ returns-in-Ok-write_all-clause-printed g c =
 pub returns-in-Ok-clause-printed : goal.returns-in-Ok-clause-printed
 returns-in-Ok-clause-printed g c =
     let grown = c.in-Ok.grown in
-    subst (λ (fault : GrowthFault). WasPrinted c.args.options.now g.W.Write.contents c.args.sink.now.writer
+    subst (λ (fault : GrowCommandFault). WasPrinted c.args.options.now g.W.Write.contents c.args.sink.now.writer
     c.write_all.new.self.writer (Err fault)) (sym c.told.ensures) (
       grown.text.items,
       is_grown c.args.options.now grown.text.items grown.core grown.settled grown.crashed grown.healed

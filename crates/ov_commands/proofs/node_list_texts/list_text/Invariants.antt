@@ -1,7 +1,7 @@
 -- The lines so far, followed by those that are left, are all of them.
 use Rattle.std.proofs.Common.{◌≡◌, ◌∷◌, ◌++◌, flat_map, length}
 use Rattle.ov_lines.specs.Lines.{kept_lines}
-use Rattle.ov_commands.proofs.node_lists.list_text.Given as goal
+use Rattle.ov_commands.proofs.node_list_texts.list_text.Given as goal
 
 abbrev pub invariant-loop-line : goal.invariant-loop-line
 invariant-loop-line l =

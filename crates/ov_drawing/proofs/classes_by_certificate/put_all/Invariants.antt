@@ -3,7 +3,7 @@ use Rattle.std.proofs.Common.{◌≡◌, ℕ, drop, Some, if◌then◌else◌}
 use Rattle.std.specs.Ordering.{nat_cmp}
 use Rattle.std.specs.BTreeMap.{get}
 use Rattle.ov_ids.specs.Sets.{has}
-use Rattle.ov_drawing.proofs.node_classes.put_all.Given as goal
+use Rattle.ov_drawing.proofs.classes_by_certificate.put_all.Given as goal
 
 abbrev pub invariant-loop-id : goal.invariant-loop-id
 invariant-loop-id l = (n : ℕ)

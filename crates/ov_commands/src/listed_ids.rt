@@ -6,7 +6,7 @@ ghost use Rattle.ov_commands.specs.Code.Named.{AreNamed, IsNotFound, IsNotNamedB
 ghost use Rattle.ov_commands.specs.declared.command_fault.CommandFault.TheVariants.{Group};
 
 use crate::command_fault::CommandFault;
-use crate::node_lists::NodeLists;
+use crate::node_list_texts::NodeLists;
 use ov_graphfile::{GraphFileFault, GroupFault, Names, ids_of_group, read_named_graph};
 use ov_ids::NodeId;
 use ov_io::shown_name;

@@ -3,7 +3,7 @@ use Rattle.std.proofs.Common.{◌≡◌, ◌≢◌, ℕ, List, ◌∷◌, Bor, O
 use Rattle.std.proofs.lemmas.Str.Pattern.{strip_prefix_char}
 use Rattle.std.specs.Prelude.{MatchOption}
 use Rattle.ov_commands.specs.Naming.{NamesFile}
-use Rattle.ov_commands.proofs.node_lists.path_in.Goals as goal
+use Rattle.ov_commands.proofs.node_list_texts.path_in.Goals as goal
 
 -- where nothing is left, no path stands behind the character
 no_path : (left : Option (Bor (List ℕ))) (argument : List ℕ)
