@@ -31,7 +31,10 @@ pub fn import_asked(
     let mut sink = Sink::new(rt.stdout());
     match file.as_deref() {
         None => import_from(rt, rt.stdin(), None, dump, &mut sink),
-        Some(path) => import_from(rt, opened(rt, path)?, Some(path), dump, &mut sink),
+        Some(path) => {
+            let reader = opened(rt, path)?;
+            import_from(rt, reader, Some(path), dump, &mut sink)
+        }
     }
 }
 
@@ -135,7 +138,10 @@ pub fn graph_asked(rt: &HostRuntime, file: Option<String>) -> Result<u8, Command
     let mut sink = Sink::new(rt.stdout());
     match file.as_deref() {
         None => graph_from(rt, rt.stdin(), None, &mut sink),
-        Some(path) => graph_from(rt, opened(rt, path)?, Some(path), &mut sink),
+        Some(path) => {
+            let reader = opened(rt, path)?;
+            graph_from(rt, reader, Some(path), &mut sink)
+        }
     }
 }
 
