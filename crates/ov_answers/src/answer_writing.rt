@@ -23,7 +23,6 @@ use ov_io::Sink;
 use ov_run_meaning::RunFault;
 use std::alloc::Global;
 use std::io::Write;
-use std::mem;
 use std::thread::Threads;
 
 /// Analyses this graph and this group, and writes what the request asks for. Names are given if lines with names or
@@ -78,9 +77,6 @@ fn tell_with_file<T: Threads + Sync, W: Write, P: Watcher>(
 }
 
 /// Tells the answer for which these hauls suffice, and writes its certificate file behind it.
-///
-/// Once the file is written, the memory of the hauls is not given back: they may have millions of paths, and the system
-/// takes all memory faster when the process ends, which is next.
 fn tell_hauls<T: Threads + Sync, W: Write>(
     rt: &T,
     alloc: Global,
@@ -100,14 +96,7 @@ fn tell_hauls<T: Threads + Sync, W: Write>(
 {
     let placed = place_answer(alloc, graph, group, &hauls)?;
     let answer = begun_answer(alloc, placed.outline(), graph, group, names, request)?;
-    match write_answer(rt, alloc, request.workers, answer, Some(&placed), sink) {
-        Ok(told) => {
-            mem::forget(placed);
-            mem::forget(hauls);
-            Ok(told)
-        }
-        Err(fault) => Err(fault),
-    }
+    write_answer(rt, alloc, request.workers, answer, Some(&placed), sink)
 }
 
 /// Writes the text of an answer, and behind it the certificate file if there is one. The file is written as it is made,
