@@ -44,7 +44,6 @@ impl Model for Checked {
 
 impl Checked {
     ghost use Rattle.std.specs.Prelude.{◌≡◌, ◌↔◌, Some, IsOk, IfOk, IfErr};
-    ghost use Rattle.ov_cert.specs.State.{CheckedState};
     ghost use Rattle.ov_cert.specs.Valid.{IsValid, IsValidForGroup};
     ghost use Rattle.ov_cert.specs.Verdict.{JudgedForAll, JudgedForGroup};
 
