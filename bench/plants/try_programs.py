@@ -2,8 +2,8 @@
 """try_programs.py [CRATE/NAME.edit ..]: plants bugs in the two programs, and says which of their kept inputs differ.
 
 Each edit of overlay/ and overlay_check/ beside this script, or each one named, is applied to a clone of the commit at
-hand. The program is built without proofs, and bin/check-examples, bin/check-corpus, and four groups of
-bin/check-devices, `workers`, `sharing`, `blocks` and `devices`, run it beside the other program, which has no bug. A
+hand. The program is built without proofs, and tests/check-examples, tests/check-corpus, and four groups of
+tests/check-devices, `workers`, `sharing`, `blocks` and `devices`, run it beside the other program, which has no bug. A
 row for each edit says how many lines each of these complains of, up to the first that complains. TAGZIRK_OVERLAY and
 TAGZIRK_OVERLAY_CHECK name the programs without a bug, which may be unproved. A row takes one to five minutes. The
 status is 1 if a bug is not noticed.
@@ -45,7 +45,7 @@ def complaints(tree, programs):
     """What the first check says that complains: its name and its lines on both channels, or None."""
     words = [word for crate, program in programs.items() for word in (OPTIONS[crate], str(program))]
     for check, *groups in CHECKS:
-        run = subprocess.run([tree / "bin" / check, *words, *groups], capture_output=True, text=True)
+        run = subprocess.run([tree / "tests" / check, *words, *groups], capture_output=True, text=True)
         if run.returncode:
             printed = (run.stdout + run.stderr).splitlines()
             said = [line for line in printed if "differ" not in line or " 0 " not in line]

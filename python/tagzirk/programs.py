@@ -67,7 +67,7 @@ def is_program(place: Program) -> bool:
 def unproved(crate: str) -> Optional[str]:
     """The program of a crate that bin/overlay or bin/overlay-check of the checkout keeps, built without a proof of the
     sources as they are when it is first asked for; or None. The script that keeps it says where it is."""
-    key, script = (str(CHECKOUT), crate), CHECKOUT / "bin" / "unproved.py"
+    key, script = (str(CHECKOUT), crate), CHECKOUT / "dev" / "unproved.py"
     if is_program(found_unproved.get(key, "")):
         return found_unproved[key]
     if not script.is_file():

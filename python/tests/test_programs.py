@@ -518,15 +518,15 @@ class StandIns(unittest.TestCase):
     def test_programs_of_a_checkout(self):
         # of one crate, whose program lies where bin/overlay-check keeps it
         source = self.room / "crates" / "overlay_check" / "src" / "main.rt"
-        for folder in source.parent, self.room / "bin", self.room / "crates" / "overlay_check" / "out":
+        for folder in source.parent, *(self.room / it for it in ("bin", "dev", "crates/overlay_check/out")):
             folder.mkdir(parents=True)
         source.write_text("fn main() {}\n")
         (self.room / "crates.txt").write_text("overlay_check:\n")
         for name in "unproved.py", "repository.py", "start-program":
-            (self.room / "bin" / name).write_bytes((CHECKOUT / "bin" / name).read_bytes())
+            (self.room / "dev" / name).write_bytes((CHECKOUT / "dev" / name).read_bytes())
 
-        def of_bin(*words):
-            return subprocess.run([sys.executable, "-B", *words], cwd=self.room / "bin", capture_output=True, text=True)
+        def of_dev(*words):
+            return subprocess.run([sys.executable, "-B", *words], cwd=self.room / "dev", capture_output=True, text=True)
 
         def keep(name):
             folder = self.room / "out" / "unproved" / "overlay_check" / name
@@ -539,13 +539,13 @@ class StandIns(unittest.TestCase):
             with self.assertRaisesRegex(tagzirk.ProgramMissing, "without a proof, by bin/overlay-check"):
                 find("overlay_check", None)
             asked = "import unproved; print(unproved.checksum(unproved.ROOT, 'overlay_check'))"
-            checksum = of_bin("-c", asked).stdout.strip()
+            checksum = of_dev("-c", asked).stdout.strip()
             unproved = keep(checksum)
             self.assertEqual(find("overlay_check", None), unproved)
             self.program("", self.room / "bin" / "overlay-check")
             with mock.patch.dict(os.environ, {"PATH": str(self.room / "bin")}):
                 self.assertEqual(find("overlay_check", None), unproved)
-            started = of_bin("start-program", "overlay_check", "overlay-check")
+            started = of_dev("start-program", "overlay_check", "overlay-check")
             self.assertEqual((started.stdout, "NOT PROVED" in started.stderr), (f"{checksum}\n", True))
             proved = self.program("", self.room / "crates" / "overlay_check" / "out" / "overlay_check")
             self.assertEqual(find("overlay_check", None), str(proved))

@@ -1,4 +1,4 @@
-//! Pieces for which an allocation is refused. `bin/refuse-allocations` refuses each in turn.
+//! Pieces for which an allocation is refused. `dev/refuse-allocations` refuses each in turn.
 ghost use Rattle.ov_graph.specs.Links.{IsGroup};
 
 use crate::drawn::graph;

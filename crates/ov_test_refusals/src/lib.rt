@@ -1,5 +1,5 @@
 //! Stories of worlds, cores, desks, pieces, analyses, files that are written and read, and halls.
-//! `bin/refuse-allocations` refuses each of their allocations in turn.
+//! `dev/refuse-allocations` refuses each of their allocations in turn.
 #![tactic(auto)]
 
 #[cfg(test)]

@@ -1,4 +1,4 @@
-//! Analyses in which an allocation is refused. `bin/refuse-allocations` refuses each in turn.
+//! Analyses in which an allocation is refused. `dev/refuse-allocations` refuses each in turn.
 use crate::crew::crews::{Row, crew_of, gives};
 use crate::crew::graphs::{Family, of_size};
 use ov_cert::Cert;

@@ -1,4 +1,4 @@
-//! Pictures for which an allocation is refused. `bin/refuse-allocations` refuses each in turn.
+//! Pictures for which an allocation is refused. `dev/refuse-allocations` refuses each in turn.
 use crate::picture::square::drawn_square;
 use ov_drawing::{ChosenEntry, Drawing, PictureFault};
 use ov_ids::{NodeId, OutOfMemory};

@@ -1,4 +1,4 @@
-//! Sweeps in which an allocation is refused. `bin/refuse-allocations` refuses each in turn.
+//! Sweeps in which an allocation is refused. `dev/refuse-allocations` refuses each in turn.
 use crate::sweep::command_words::runs_of;
 use crate::sweep::reports::is_reported;
 use ov_sweep_rows::RowFault;

@@ -62,7 +62,7 @@ enum Came {
 }
 
 impl Came {
-    /// As `bin/refuse-allocations` counts it.
+    /// As `dev/refuse-allocations` counts it.
     fn told(self) -> &'static str {
         match self {
             Came::Whole => "whole",

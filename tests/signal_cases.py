@@ -383,7 +383,7 @@ TOOLS = {
     "helgrind": ["--fair-sched=try"],
     "drd": ["--fair-sched=try"],
 }
-SUPPRESSIONS = ROOT / "bin" / "valgrind.supp"
+SUPPRESSIONS = ROOT / "tests" / "valgrind.supp"
 # The status of Valgrind if a tool reports an error, and the most seconds of a run.
 REPORTED, SLOWLY = 99, 600
 

@@ -1,5 +1,5 @@
-"""What the scripts of this folder share: where the repository is, which of its crates uses which, what is built, and
-how many checks the machine has room for."""
+"""What the scripts of bin/, dev/ and tests/ share: where the repository is, which of its crates uses which, what is
+built, and how many checks the machine has room for."""
 
 import ctypes
 import os

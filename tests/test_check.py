@@ -17,11 +17,12 @@ import sys
 import tempfile
 import unittest
 
-import check
+ROOT = pathlib.Path(__file__).resolve().parent.parent
+TOOLS, EXAMPLES = ROOT / "tools", ROOT / "examples"
+CORPUS = ROOT / "bench" / "fuzz" / "corpus" / "certificate.jsonl"
+sys.path.insert(0, str(TOOLS))
+import check  # noqa: E402, from the folder that was just named
 
-TOOLS = pathlib.Path(__file__).resolve().parent
-EXAMPLES = TOOLS.parent / "examples"
-CORPUS = TOOLS.parent / "bench" / "fuzz" / "corpus" / "certificate.jsonl"
 ROW = re.compile(r"\| `([a-z0-9-]+\.json)`[^|]*\| `([^`]+)` \| ([01]) \|")
 HOLDING = ["five-but-one", "path-group-linked", "ring-with-tail-group", "square", "square-group", "two-linked",
            "two-unlinked"]
