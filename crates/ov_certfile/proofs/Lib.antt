@@ -8,6 +8,6 @@ pub mod OneAnswer
 pub mod Rewritten
 pub mod Depth
 pub mod ReadAsWritten
-pub mod Lexed
+pub mod Plain
 pub mod Taking
 pub mod Said

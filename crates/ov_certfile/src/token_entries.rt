@@ -5,11 +5,12 @@ ghost use Rattle.ov_certfile.specs.DataOf.{ids_data, paths_data};
 ghost use Rattle.ov_certfile.specs.Code.Tokens.{TakesValue, TakesPath};
 
 use crate::file_keys::Key;
-use crate::token_cursor::{Stop, TokenCursor};
 use crate::token_fields::{TokenField, take_member};
+use crate::token_stop::Stop;
 use ov_cert::{FanPaths, PairPaths, Paths};
 use ov_ids::NodeId;
 use ov_lists::PathsBuilder;
+use ov_tokens::TokenCursor;
 use std::alloc::Global;
 
 impl TokenField for PairPaths {

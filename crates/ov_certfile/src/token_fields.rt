@@ -10,8 +10,10 @@ ghost use Rattle.ov_certfile.specs.declared.file_keys.Key.TheVariants as key_nam
 use crate::field_reading_and_writing::Field;
 use crate::file_keys::Key;
 use crate::reading::LAST_MOMENT;
-use crate::token_cursor::{Stop, TokenCursor};
+use crate::token_keys::take_key;
+use crate::token_stop::Stop;
 use ov_ids::{NodeId, Seq};
+use ov_tokens::TokenCursor;
 use std::alloc::Global;
 
 /// A field that can be taken off the tokens of a text.
@@ -77,7 +79,7 @@ pub(crate) fn take_member<T: TokenField>(
     ensures taken { IfOk result (λ x. TakesMembers (member (name_of key) (T.as_data x)) cursor.old cursor.new) }
     ensures reads_back { IfOk result (λ x. T.form (T.as_data x) ≡ Some x) }
 {
-    cursor.key(key)?;
+    take_key(cursor, key)?;
     let field = T::take(alloc, cursor)?;
     Ok(field)
 }
@@ -88,7 +90,7 @@ pub(crate) fn take_count(cursor: &mut TokenCursor<'_>, key: Key) -> Result<u32, 
     ensures taken { IfOk result (λ n. TakesMembers (member (name_of key) (whole_data n)) cursor.old cursor.new) }
     ensures reads_back { IfOk result (λ n. count_in (whole_data n) ≡ Some n) }
 {
-    cursor.key(key)?;
+    take_key(cursor, key)?;
     let number = cursor.number()?;
     Ok(number)
 }

@@ -16,12 +16,14 @@ ghost use Rattle.ov_certfile.specs.declared.file_keys.Key.TheVariants as key;
 use crate::file_keys::Key;
 use crate::linked_or_split::Verdict;
 use crate::reading::Filed;
-use crate::token_cursor::{Stop, TokenCursor};
 use crate::token_fields::{take_count, take_member, take_moment};
+use crate::token_keys::{is_at_key, take_key, take_verdict};
+use crate::token_stop::Stop;
 use crate::version::Version;
 use ov_cert::{Cert, FanPaths, Split};
 use ov_graph::{Graph, GraphFault};
 use ov_ids::{NodeId, OutOfMemory, Seq};
+use ov_tokens::TokenCursor;
 use std::alloc::Global;
 
 /// Reads a certificate file that is written as `to_text` writes it, with its keys in the order of their bytes, but for
@@ -120,7 +122,7 @@ fn graph_of(
 fn take_content(alloc: Global, cursor: &mut TokenCursor<'_>) -> Result<Content, Stop>
     ensures { IfOk result (λ c. TakesContent c cursor.old cursor.new) }
 {
-    if cursor.is_at_key(Key::Cut) {
+    if is_at_key(cursor, Key::Cut) {
         take_split(alloc, cursor)
     } else {
         take_linked(alloc, cursor)
@@ -235,7 +237,7 @@ fn take_group(alloc: Global, cursor: &mut TokenCursor<'_>) -> Result<Option<Seq<
     ensures members { IfOk result (λ group. TakesMembers (named_then group) cursor.old cursor.new) }
     ensures reads_back { IfOk result NamedReadsBack }
 {
-    if !cursor.is_at_key(Key::Group) {
+    if !is_at_key(cursor, Key::Group) {
         return Ok(None);
     }
     let group = take_member(alloc, cursor, Key::Group)?;
@@ -249,8 +251,8 @@ fn take_end(cursor: &mut TokenCursor<'_>, verdict: Verdict, version: Version) ->
         (member (name_of key.Verdict) (string (verdict_text verdict))
         (member (name_of key.Version) (whole_data (version_number version)) no_members))) ++ cursor.new) }
 {
-    cursor.key(Key::Verdict)?;
-    cursor.verdict(verdict)?;
+    take_key(cursor, Key::Verdict)?;
+    take_verdict(cursor, verdict)?;
     let number = take_count(cursor, Key::Version)?;
     if number != version.number() {
         return Err(Stop::OtherForm);

@@ -1,25 +1,11 @@
--- The tokens that are left of a text, and what is taken off them.
+-- What is taken off the tokens of a text.
 use Rattle.std.specs.Prelude.{◌≡◌, ◌++◌, ℕ, List, [], ◌∷◌, Some}
 use Rattle.json.specs.Token.{Token}
-use Rattle.json.specs.Lex.{fresh, after_value, after_comma, between, lex, punctuate}
-use Rattle.json.specs.Lex as lexer
 use Rattle.json.specs.Tree.{json_tokens, members_tokens}
 use Rattle.serde_json.specs.Data.{Data, Members}
 use Rattle.serde_json.specs.Written.{outline, members_outline}
 use Rattle.ov_certfile.specs.Forms.{ids_in}
 use Rattle.ov_certfile.specs.DataOf.{ids_data}
-use Rattle.ov_certfile.specs.declared.token_cursor.CursorPlace.{CursorPlace}
-use Rattle.ov_certfile.specs.declared.token_cursor.CursorPlace.TheVariants.{Fresh, AfterValue, AfterComma}
-
--- where a cursor stands among commas and colons
-abbrev pub place_in : CursorPlace → lexer.Place
-place_in Fresh = fresh
-place_in AfterValue = after_value
-place_in AfterComma = after_comma
-
--- the tokens of a text that is left
-abbrev pub tokens_at : CursorPlace → List ℕ → List Token
-tokens_at place text = punctuate (place_in place) (lex between text)
 
 -- the tokens with which a value is written are taken off
 abbrev pub TakesValue : Data → List Token → List Token → Type 0

@@ -1,7 +1,7 @@
 -- white space was passed
 use Rattle.std.proofs.Common.{◌≡◌, length}
 use Rattle.json.specs.Lex.{between, lex}
-use Rattle.ov_certfile.proofs.token_texts.after_space.Given as goal
+use Rattle.ov_tokens.proofs.token_texts.after_space.Given as goal
 
 abbrev pub invariant-loop-byte : goal.invariant-loop-byte
 invariant-loop-byte l = lex between l.rest ≡ lex between l.text

@@ -13,18 +13,12 @@ use Rattle.json.specs.Lex.{lex_byte, fresh, after_value, after_key, may_begin, m
 use Rattle.json.specs.Lex.{punctuate}
 use Rattle.json.specs.Lex as lexer
 use Rattle.json.specs.Print.{escape}
-use Rattle.json.proofs.OnLiterals.{json_on_literals}
 use Rattle.json.proofs.Printed.Strings.{content-escape, lex-escape}
 use Rattle.json.proofs.Printed.Numbers.{lex-number}
 use Rattle.json.proofs.Printed.Decimals.{IsNumber-decimal}
-use Rattle.ov_certfile.specs.Kinds.{name_of, verdict_text}
-use Rattle.ov_certfile.specs.Code.Tokens.{place_in, tokens_at}
-use Rattle.ov_certfile.specs.declared.file_keys.Key.{Key}
-use Rattle.ov_certfile.specs.declared.file_keys.Key.TheVariants as key
-use Rattle.ov_certfile.specs.declared.linked_or_split.Verdict.{Verdict}
-use Rattle.ov_certfile.specs.declared.linked_or_split.Verdict.TheVariants as verdict
-use Rattle.ov_certfile.specs.declared.token_cursor.CursorPlace.{CursorPlace}
-use Rattle.ov_certfile.specs.declared.token_cursor.CursorPlace.TheVariants.{Fresh, AfterValue, AfterComma}
+use Rattle.ov_tokens.specs.Code.Left.{place_in, tokens_at}
+use Rattle.ov_tokens.specs.declared.token_cursor.CursorPlace.{CursorPlace}
+use Rattle.ov_tokens.specs.declared.token_cursor.CursorPlace.TheVariants.{Fresh, AfterValue, AfterComma}
 
 -- ---- lexemes
 
@@ -90,38 +84,6 @@ digit_more n d m x rest after some digit is small byte front =
     ∙ sym (ap (λ t. t ++ after) (decimal_step m ten small ∙ ap₂ (λ a b. decimal a ++ b ∷ []) high low)
     ∙ append_assoc (decimal n) (x ∷ []) after)
 
--- no name of a key has a character that is written otherwise in a text
-name_kept : (k : Key) → escape (name_of k) ≡ name_of k
-unfolding json_on_literals
-name_kept key.K = refl
-name_kept key.Links = refl
-name_kept key.Moment = refl
-name_kept key.Nodes = refl
-name_kept key.Verdict = refl
-name_kept key.Version = refl
-name_kept key.Group = refl
-name_kept key.Cut = refl
-name_kept key.Near = refl
-name_kept key.Far = refl
-name_kept key.Side = refl
-name_kept key.Pairs = refl
-name_kept key.Fans = refl
-name_kept key.I = refl
-name_kept key.J = refl
-name_kept key.Paths = refl
-
-pub name_plain : (s : List ℕ) (k : Key) → s ≡ name_of k → escape s ≡ s
-name_plain s k e = rw e (name_kept k)
-
--- nor has the text of a verdict
-verdict_kept : (v : Verdict) → escape (verdict_text v) ≡ verdict_text v
-unfolding json_on_literals
-verdict_kept verdict.Linked = refl
-verdict_kept verdict.Split = refl
-
-pub verdict_plain : (s : List ℕ) (v : Verdict) → s ≡ verdict_text v → escape s ≡ s
-verdict_plain s v e = rw e (verdict_kept v)
-
 -- ---- tokens
 
 allowed : (b : Bool) (t : Token) (k : lexer.Place → List Token) (next : lexer.Place) → b ≡ true
@@ -169,24 +131,22 @@ number_taken p s old new may e =
     ∙ allowed (may_begin (place_in p)) (Token.number s) (λ n. punctuate n (lex between new)) after_value may
 
 -- a text before a colon is a key
-pub key_taken : (p : CursorPlace) (s name old mid new : List ℕ) → may_begin (place_in p) ≡ true → s ≡ name
+pub key_taken : (p : CursorPlace) (s old mid new : List ℕ) → may_begin (place_in p) ≡ true
     → lex between old ≡ token (Token.string s) ∷ lex between mid → lex between mid ≡ colon ∷ lex between new
-    → tokens_at p old ≡ Token.key name ∷ tokens_at Fresh new
+    → tokens_at p old ≡ Token.key s ∷ tokens_at Fresh new
 unfolding punctuate
-key_taken p s name old mid new may is e f =
+key_taken p s old mid new may e f =
     ap (punctuate (place_in p)) (e ∙ ap (λ ls. token (Token.string s) ∷ ls) f)
     ∙ allowed (may_begin (place_in p)) (Token.key s) (λ n. punctuate n (colon ∷ lex between new)) after_key may
-    ∙ ap (λ t. Token.key t ∷ tokens_at Fresh new) is
 
 -- a text before a comma is a value
-pub text_taken : (p : CursorPlace) (s said old mid new : List ℕ) → may_begin (place_in p) ≡ true → s ≡ said
+pub text_taken : (p : CursorPlace) (s old mid new : List ℕ) → may_begin (place_in p) ≡ true
     → lex between old ≡ token (Token.string s) ∷ lex between mid → lex between mid ≡ comma ∷ lex between new
-    → tokens_at p old ≡ Token.string said ∷ tokens_at AfterComma new
+    → tokens_at p old ≡ Token.string s ∷ tokens_at AfterComma new
 unfolding punctuate
-text_taken p s said old mid new may is e f =
+text_taken p s old mid new may e f =
     ap (punctuate (place_in p)) (e ∙ ap (λ ls. token (Token.string s) ∷ ls) f)
     ∙ allowed (may_begin (place_in p)) (Token.string s) (λ n. punctuate n (comma ∷ lex between new)) after_value may
-    ∙ ap (λ t. Token.string t ∷ tokens_at AfterComma new) is
 
 -- the comma behind a value is passed
 pub comma_passed : (rest more : List ℕ) → lex between rest ≡ comma ∷ lex between more

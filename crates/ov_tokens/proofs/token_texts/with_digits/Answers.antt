@@ -1,7 +1,7 @@
 -- One more digit was read.
 use Rattle.std.proofs.Common.{◌≡◌, ◌∙◌, ◌+◌, ◌*◌, ◌^◌, ◌<◌, arith}
-use Rattle.ov_certfile.proofs.Lexed.{digit_more}
-use Rattle.ov_certfile.proofs.token_texts.with_digits.Goals as goal
+use Rattle.ov_tokens.proofs.Lexed.{digit_more}
+use Rattle.ov_tokens.proofs.token_texts.with_digits.Goals as goal
 
 pub loop-byte-preserved : goal.loop-byte-preserved
 loop-byte-preserved c =

@@ -1,6 +1,6 @@
 -- the digits so far spell the number
 use Rattle.std.proofs.Common.{◌≡◌, ◌<◌, ◌++◌, decimal, length}
-use Rattle.ov_certfile.proofs.token_texts.with_digits.Given as goal
+use Rattle.ov_tokens.proofs.token_texts.with_digits.Given as goal
 
 abbrev pub invariant-loop-byte : goal.invariant-loop-byte
 invariant-loop-byte l = record {

@@ -2,9 +2,9 @@
 use Rattle.std.proofs.Common.{◌≡◌, ◌∙◌, length, sym, ap, arith}
 use Rattle.std.proofs.lemmas.Grind.{common_steps}
 use Rattle.std.proofs.lemmas.List.{nil_from_length}
-use Rattle.ov_certfile.specs.Code.Tokens.{tokens_at}
-use Rattle.ov_certfile.proofs.Lexed.{none_left}
-use Rattle.ov_certfile.proofs.token_cursor.TokenCursor.is_at_end.Goals as goal
+use Rattle.ov_tokens.specs.Code.Left.{tokens_at}
+use Rattle.ov_tokens.proofs.Lexed.{none_left}
+use Rattle.ov_tokens.proofs.token_cursor.TokenCursor.is_at_end.Goals as goal
 
 pub returns-in-AfterValue : goal.returns-in-AfterValue
 returns-in-AfterValue c h =

@@ -1,7 +1,7 @@
 -- The first digit, and those behind it.
 use Rattle.std.proofs.Common.{◌≡◌, ◌∙◌, ◌+◌, arith}
-use Rattle.ov_certfile.proofs.Lexed.{digit_first}
-use Rattle.ov_certfile.proofs.token_texts.number_in.Goals as goal
+use Rattle.ov_tokens.proofs.Lexed.{digit_first}
+use Rattle.ov_tokens.proofs.token_texts.number_in.Goals as goal
 
 pub returns-then-first-eq0 : goal.returns-then-first-eq0
 returns-then-first-eq0 c =

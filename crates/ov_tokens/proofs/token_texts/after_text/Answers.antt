@@ -1,7 +1,7 @@
 -- A quote, the text, and a quote.
 use Rattle.std.proofs.Common.{◌∙◌, ◌++◌, List, ℕ, ap}
-use Rattle.ov_certfile.proofs.Lexed.{text_lexed}
-use Rattle.ov_certfile.proofs.token_texts.after_text.Goals as goal
+use Rattle.ov_tokens.proofs.Lexed.{text_lexed}
+use Rattle.ov_tokens.proofs.token_texts.after_text.Goals as goal
 
 pub returns : goal.returns
 returns c =

@@ -1,44 +1,18 @@
 //! What is left of a JSON text, taken token by token.
-ghost use Rattle.std.specs.Prelude.{◌≡◌, ◌∷◌, [], decimal, IsTrue, IfOk, OnOk};
+ghost use Rattle.std.specs.Prelude.{◌≡◌, ◌∷◌, [], decimal, IsTrue, MatchResult};
 ghost use Rattle.std.specs.Bool.{MatchBool};
 ghost use Rattle.json.specs.Token as json_token;
 ghost use Rattle.json.specs.Lex.{between, lex, after_value, punctuate, tokens, may_begin, may_close};
-ghost use Rattle.ov_certfile.specs.Kinds.{name_of, verdict_text};
-ghost use Rattle.ov_certfile.specs.Code.Tokens.{place_in};
+ghost use Rattle.json.specs.Print.{escape};
+ghost use Rattle.ov_tokens.specs.Code.Left.{place_in};
 
-use crate::file_keys::Key;
-use crate::linked_or_split::Verdict;
 use crate::token_texts::{after_mark, after_space, after_text, ends_word, number_in};
-use ov_ids::OutOfMemory;
-use std::alloc::{AllocError, AllocFailed};
 use std::marker::Model;
 
-/// Why no value was taken.
+/// Another token is next than the one that was asked for; or it is that one in another spelling, as `1e0` is the number
+/// 1. The cursor has taken nothing.
 #[derive(Clone, Copy)]
-pub(crate) enum Stop {
-    /// The text is not in the form that is read token by token.
-    OtherForm,
-    /// An allocation was refused.
-    OutOfMemory,
-}
-
-impl From<OutOfMemory> for Stop {
-    fn from(_error: OutOfMemory) -> Stop {
-        Stop::OutOfMemory
-    }
-}
-
-impl From<AllocError> for Stop {
-    fn from(_error: AllocError) -> Stop {
-        Stop::OutOfMemory
-    }
-}
-
-impl<T: Drop> From<AllocFailed<T>> for Stop {
-    fn from(_error: AllocFailed<T>) -> Stop {
-        Stop::OutOfMemory
-    }
-}
+pub struct OtherToken;
 
 /// Where a cursor stands.
 #[derive(Clone, Copy)]
@@ -69,9 +43,9 @@ impl CursorPlace {
     }
 }
 
-/// What is left of a text. Contracts see its tokens. A call that answers `OtherForm` has taken nothing.
+/// What is left of a JSON text. Contracts see its tokens. Commas, colons and white space go with the token before them.
 #[derive(Drop)]
-pub(crate) struct TokenCursor<'a> {
+pub struct TokenCursor<'a> {
     /// The bytes from the next token on.
     rest: &'a [u8],
     place: CursorPlace,
@@ -80,7 +54,7 @@ pub(crate) struct TokenCursor<'a> {
 impl<'a> Model for TokenCursor<'a> {
     ghost use Rattle.std.specs.Prelude.{List};
     ghost use Rattle.json.specs.Token.{Token, tokens_code};
-    ghost use Rattle.ov_certfile.specs.Code.Tokens.{tokens_at};
+    ghost use Rattle.ov_tokens.specs.Code.Left.{tokens_at};
 
     ghost Value = { List Token };
 
@@ -91,7 +65,7 @@ impl<'a> Model for TokenCursor<'a> {
 
 impl<'a> TokenCursor<'a> {
     /// The whole of a text.
-    pub(crate) fn new(text: &'a str) -> TokenCursor<'a>
+    pub fn new(text: &'a str) -> TokenCursor<'a>
         ensures { result ≡ tokens text.now }
     {
         TokenCursor {
@@ -102,7 +76,7 @@ impl<'a> TokenCursor<'a> {
 
     /// Whether nothing is left.
     #[tactic(auto, using(crate::proofs::Lexed::none_left))]
-    pub(crate) fn is_at_end(&self) -> bool
+    pub fn is_at_end(&self) -> bool
         ensures { IsTrue result → self.now ≡ [] }
     {
         match self.place {
@@ -111,22 +85,24 @@ impl<'a> TokenCursor<'a> {
         }
     }
 
-    /// Whether a key is next.
-    #[tactic(auto, using(crate::proofs::Lexed::name_plain))]
-    pub(crate) fn is_at_key(&self, key: Key) -> bool {
-        after_text(self.rest, key.name()).is_some()
+    /// Whether this text in quotes is next, be it a key or a value. It must have no character that JSON writes with a
+    /// backslash. No clause speaks of the answer, since the call that takes the text tests again.
+    pub fn is_at_text(&self, wanted: &str) -> bool
+        requires { escape wanted.now ≡ wanted.now }
+    {
+        after_text(self.rest, wanted).is_some()
     }
 
     /// Takes the bracket that opens an array.
     #[tactic(auto, using(crate::proofs::Lexed::array_begun))]
-    pub(crate) fn begin_array(&mut self) -> Result<(), Stop>
-        ensures { OnOk result (self.old ≡ json_token.begin_array ∷ self.new) }
+    pub fn begin_array(&mut self) -> Result<(), OtherToken>
+        ensures { MatchResult result (λ _. self.old ≡ json_token.begin_array ∷ self.new) (λ _. self.new ≡ self.old) }
     {
         let Some(rest) = after_mark(self.rest, b'[') else {
-            return Err(Stop::OtherForm);
+            return Err(OtherToken);
         };
         if !self.place.may_begin() {
-            return Err(Stop::OtherForm);
+            return Err(OtherToken);
         }
         self.rest = rest;
         self.place = CursorPlace::Fresh;
@@ -135,14 +111,14 @@ impl<'a> TokenCursor<'a> {
 
     /// Takes the brace that opens an object.
     #[tactic(auto, using(crate::proofs::Lexed::object_begun))]
-    pub(crate) fn begin_object(&mut self) -> Result<(), Stop>
-        ensures { OnOk result (self.old ≡ json_token.begin_object ∷ self.new) }
+    pub fn begin_object(&mut self) -> Result<(), OtherToken>
+        ensures { MatchResult result (λ _. self.old ≡ json_token.begin_object ∷ self.new) (λ _. self.new ≡ self.old) }
     {
         let Some(rest) = after_mark(self.rest, b'{') else {
-            return Err(Stop::OtherForm);
+            return Err(OtherToken);
         };
         if !self.place.may_begin() {
-            return Err(Stop::OtherForm);
+            return Err(OtherToken);
         }
         self.rest = rest;
         self.place = CursorPlace::Fresh;
@@ -152,7 +128,7 @@ impl<'a> TokenCursor<'a> {
     /// Takes the bracket that closes an array, if it is next.
     #[inline(always)]
     #[tactic(auto, using(crate::proofs::Lexed::array_ended))]
-    pub(crate) fn end_array(&mut self) -> bool
+    pub fn end_array(&mut self) -> bool
         ensures { MatchBool result (self.old ≡ json_token.end_array ∷ self.new) (self.new ≡ self.old) }
     {
         let Some(rest) = after_mark(self.rest, b']') else {
@@ -167,71 +143,76 @@ impl<'a> TokenCursor<'a> {
 
     /// Takes the brace that closes an object.
     #[tactic(auto, using(crate::proofs::Lexed::object_ended))]
-    pub(crate) fn end_object(&mut self) -> Result<(), Stop>
-        ensures { OnOk result (self.old ≡ json_token.end_object ∷ self.new) }
+    pub fn end_object(&mut self) -> Result<(), OtherToken>
+        ensures { MatchResult result (λ _. self.old ≡ json_token.end_object ∷ self.new) (λ _. self.new ≡ self.old) }
     {
         let Some(rest) = after_mark(self.rest, b'}') else {
-            return Err(Stop::OtherForm);
+            return Err(OtherToken);
         };
         if !self.place.may_close() {
-            return Err(Stop::OtherForm);
+            return Err(OtherToken);
         }
         self.pass_value(rest);
         Ok(())
     }
 
-    /// Takes a key with its colon.
-    #[tactic(auto, using(crate::proofs::Lexed::key_taken, crate::proofs::Lexed::name_plain))]
-    pub(crate) fn key(&mut self, key: Key) -> Result<(), Stop>
-        ensures { OnOk result (self.old ≡ json_token.key (name_of key) ∷ self.new) }
+    /// Takes a key with its colon. The key must have no character that JSON writes with a backslash.
+    #[tactic(auto, using(crate::proofs::Lexed::key_taken))]
+    pub fn key(&mut self, wanted: &str) -> Result<(), OtherToken>
+        requires { escape wanted.now ≡ wanted.now }
+        ensures { MatchResult result (λ _. self.old ≡ json_token.key wanted.now ∷ self.new) (λ _. self.new ≡ self.old) }
     {
-        let Some(rest) = after_text(self.rest, key.name()) else {
-            return Err(Stop::OtherForm);
+        let Some(rest) = after_text(self.rest, wanted) else {
+            return Err(OtherToken);
         };
         let Some(rest) = after_mark(rest, b':') else {
-            return Err(Stop::OtherForm);
+            return Err(OtherToken);
         };
         if !self.place.may_begin() {
-            return Err(Stop::OtherForm);
+            return Err(OtherToken);
         }
         self.rest = rest;
         self.place = CursorPlace::Fresh;
         Ok(())
     }
 
-    /// Takes the text of a verdict. A comma must follow.
-    #[tactic(auto, using(crate::proofs::Lexed::text_taken, crate::proofs::Lexed::verdict_plain))]
-    pub(crate) fn verdict(&mut self, verdict: Verdict) -> Result<(), Stop>
-        ensures { OnOk result (self.old ≡ json_token.string (verdict_text verdict) ∷ self.new) }
+    /// Takes a text that is a value and has a comma behind it. It must have no character that JSON writes with a
+    /// backslash.
+    #[tactic(auto, using(crate::proofs::Lexed::text_taken))]
+    pub fn text_before_comma(&mut self, wanted: &str) -> Result<(), OtherToken>
+        requires { escape wanted.now ≡ wanted.now }
+        ensures { MatchResult result
+            (λ _. self.old ≡ json_token.string wanted.now ∷ self.new) (λ _. self.new ≡ self.old) }
     {
-        let Some(rest) = after_text(self.rest, verdict.text()) else {
-            return Err(Stop::OtherForm);
+        let Some(rest) = after_text(self.rest, wanted) else {
+            return Err(OtherToken);
         };
         let Some(rest) = after_mark(rest, b',') else {
-            return Err(Stop::OtherForm);
+            return Err(OtherToken);
         };
         if !self.place.may_begin() {
-            return Err(Stop::OtherForm);
+            return Err(OtherToken);
         }
         self.rest = rest;
         self.place = CursorPlace::AfterComma;
         Ok(())
     }
 
-    /// Takes a whole number.
+    /// Takes a whole number that fits 32 bits, written without sign, fraction and exponent.
     #[inline(always)]
     #[tactic(auto, using(crate::proofs::Lexed::number_taken, crate::proofs::Lexed::number_lexed))]
-    pub(crate) fn number(&mut self) -> Result<u32, Stop>
-        ensures { IfOk result (λ n. self.old ≡ json_token.number (decimal n) ∷ self.new) }
+    pub fn number(&mut self) -> Result<u32, OtherToken>
+        ensures { MatchResult result
+            (λ n. self.old ≡ json_token.number (decimal n) ∷ self.new) (λ _. self.new ≡ self.old) }
     {
         let Some((number, rest)) = number_in(self.rest) else {
-            return Err(Stop::OtherForm);
+            return Err(OtherToken);
         };
         if !ends_word(rest) {
-            return Err(Stop::OtherForm);
+            return Err(OtherToken);
         }
         if !self.place.may_begin() {
-            return Err(Stop::OtherForm);
+            return Err(OtherToken);
         }
         self.pass_value(after_space(rest));
         Ok(number)
@@ -257,7 +238,7 @@ impl<'a> TokenCursor<'a> {
 
     /// How many arrays and how many numbers the array that is next has, if it is an array of arrays of numbers. It is
     /// a guess of how much room they need, and nothing rests on it.
-    pub(crate) fn sizes_ahead(&self) -> (usize, usize) {
+    pub fn sizes_ahead(&self) -> (usize, usize) {
         let mut opened: usize = 0;
         let mut closed: usize = 0;
         let mut numbers: usize = 0;

@@ -1,0 +1,2 @@
+-- What only private functions and the proofs use.
+pub mod Left
