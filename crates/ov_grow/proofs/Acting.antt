@@ -5,11 +5,11 @@ use Rattle.ov_net.specs.declared.journal_entry_and_changes.Entry.{Entry}
 use Rattle.ov_snap.specs.Run.{Happened}
 use Rattle.ov_scenario.specs.Scenarios.{IsScenario}
 use Rattle.ov_scenario.specs.declared.scenario.Line.TheVariants as line
-use Rattle.ov_grow.specs.Acts.{act_line, event_of}
+use Rattle.ov_script.specs.Acts.{act_line, event_of}
 use Rattle.ov_grow.specs.BroadcastLog.{marks_after}
-use Rattle.ov_grow.specs.Scripts.{scenario_of}
-use Rattle.ov_grow.specs.WrittenLines.{comment_line, ended}
-use Rattle.ov_grow.specs.declared.recordable_event.Act.{Act}
+use Rattle.ov_script.specs.Scripts.{scenario_of}
+use Rattle.ov_script.specs.WrittenLines.{comment_line, ended}
+use Rattle.ov_script.specs.declared.recordable_event.Act.{Act}
 use Rattle.ov_grow.specs.Recordings.{HasOneLineMore}
 use Rattle.ov_grow.specs.Growth.{Does, Writes}
 use Rattle.ov_grow.specs.Code.Logging.{log_of}

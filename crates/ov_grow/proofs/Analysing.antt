@@ -17,7 +17,7 @@ use Rattle.ov_run_meaning.specs.Subjects.{IsReported, WasAnalysed}
 use Rattle.ov_scenario.specs.declared.scenario.Line.{Line}
 use Rattle.ov_peer.specs.PeerState.{PeerState}
 use Rattle.ov_net.specs.Net.{LivesAs}
-use Rattle.ov_grow.specs.WrittenLines.{analysis_line}
+use Rattle.ov_script.specs.WrittenLines.{analysis_line}
 use Rattle.ov_grow.specs.Recordings.{HasOneLineMore, all_of}
 use Rattle.ov_grow.specs.Growth.{Growth, SomebodyLives, Writes}
 use Rattle.ov_grow.specs.Phases.{IsCutAt, cut_of}

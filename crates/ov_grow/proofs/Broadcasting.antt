@@ -5,7 +5,7 @@ use Rattle.std.proofs.Math.Seq.{drop-cons}
 use Rattle.ov_ids.specs.declared.id.MsgId.{MsgId}
 use Rattle.ov_net.specs.Net.{LivesAs}
 use Rattle.ov_peer.specs.PeerState.{PeerState}
-use Rattle.ov_grow.specs.declared.recordable_event.Act.TheVariants as act
+use Rattle.ov_script.specs.declared.recordable_event.Act.TheVariants as act
 use Rattle.ov_grow.specs.Growth.{Growth, Does}
 use Rattle.ov_grow.specs.Turns.{RunOut}
 use Rattle.ov_grow.specs.Broadcasts.{AtOnce, BroadcastBy, BroadcastsBegin, Fire, FireAt, FireAtEach, FiresIfItRuns}

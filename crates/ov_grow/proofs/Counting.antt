@@ -9,8 +9,8 @@ use Rattle.ov_net.specs.Net.{Net}
 use Rattle.ov_grow.specs.MessageCosts.{cost_of, hops_among, is_gossip, is_graft, is_ihave, prunes_of, round_at, same_id}
 use Rattle.ov_grow.specs.Code.Counting.{counted, counted_all, is_last, last_after, no_counts, no_nodes, once}
 use Rattle.ov_grow.specs.Code.Counting.{reached_all, reached_more}
-use Rattle.ov_grow.specs.declared.broadcast_log.Mark.{Mark}
-use Rattle.ov_grow.specs.declared.broadcast_log.Mark.TheVariants.{Made, Gossip, Ihave, Graft, Prune}
+use Rattle.ov_grow.specs.declared.broadcast_log.BroadcastMark.{BroadcastMark}
+use Rattle.ov_grow.specs.declared.broadcast_log.BroadcastMark.TheVariants.{Made, Gossip, Ihave, Graft, Prune}
 use Rattle.ov_grow.specs.declared.message_cost.MessageCost.{MessageCost}
 use Rattle.ov_grow.specs.declared.message_cost.MessageCounts.{MessageCounts}
 use Rattle.ov_grow.specs.declared.message_cost.NodesReached.{NodesReached}
@@ -22,10 +22,10 @@ assoc : (a b d : ℕ) → a + b + d ≡ a + (b + d)
 assoc a b d = omega arith
 
 -- marks of one kind are counted one by one
-tallied : (count : MessageCounts → ℕ) (is : Mark → Bool) (id : MsgId)
-    → ((last : Option MsgId) (mark : Mark) (c : MessageCounts) → count (counted id last mark c)
+tallied : (count : MessageCounts → ℕ) (is : BroadcastMark → Bool) (id : MsgId)
+    → ((last : Option MsgId) (mark : BroadcastMark) (c : MessageCounts) → count (counted id last mark c)
     ≡ count c + once (is mark))
-    → (last : Option MsgId) (marks : List Mark) (c : MessageCounts)
+    → (last : Option MsgId) (marks : List BroadcastMark) (c : MessageCounts)
     → count (counted_all id last marks c) ≡ count c + count_by is marks
 tallied count is id one last [] c = plus_none (count c)
 tallied count is id one last (mark ∷ more) c =
@@ -35,7 +35,7 @@ tallied count is id one last (mark ∷ more) c =
     ∙ (assoc (count c) (once (is mark)) (count_by is more) ∙ ap (λ n. count c + n) (sym first)))
 
 -- PRUNE, if the broadcast is the last one or is not
-prune_more : (id : MsgId) (last : Bool) (more : List Mark) (n : ℕ)
+prune_more : (id : MsgId) (last : Bool) (more : List BroadcastMark) (n : ℕ)
     → n + once last + prunes_of id last more ≡ n + prunes_of id last (Prune ∷ more)
 prune_more id true more n = omega arith
 prune_more id false more n = omega arith
@@ -43,7 +43,7 @@ prune_more id false more n = omega arith
 none_more : (n p : ℕ) → n + 0 + p ≡ n + p
 none_more n p = omega arith
 
-prunes : (id : MsgId) (last : Option MsgId) (marks : List Mark) (c : MessageCounts)
+prunes : (id : MsgId) (last : Option MsgId) (marks : List BroadcastMark) (c : MessageCounts)
     → (counted_all id last marks c).prune ≡ c.prune + prunes_of id (is_last last id) marks
 prunes id last [] c = plus_none c.prune
 prunes id last (Made other ∷ more) c =
@@ -112,7 +112,7 @@ cost_by id r c = record {
   prune = c.prune;
 }
 
-pub cost_is : (w : Net) (live : List ℕ) (marks : List Mark) (id : MsgId) (r : NodesReached) (c : MessageCounts)
+pub cost_is : (w : Net) (live : List ℕ) (marks : List BroadcastMark) (id : MsgId) (r : NodesReached) (c : MessageCounts)
     → r ≡ reached_all w id live no_nodes → c ≡ counted_all id None marks no_counts
     → cost_by id r c ≡ cost_of w live marks id
 unfolding cost_of

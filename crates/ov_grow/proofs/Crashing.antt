@@ -30,7 +30,7 @@ use Rattle.ov_even.proofs.EvenTest.Splitting.{parted_splits}
 use Rattle.ov_net.specs.Journal.{AreLinks, LivesAfter, changes_of}
 use Rattle.ov_grow_options.specs.Limits.{most_share}
 use Rattle.ov_grow_options.specs.declared.options.GrowOptions.{GrowOptions}
-use Rattle.ov_grow.specs.declared.recordable_event.Act.TheVariants as act
+use Rattle.ov_script.specs.declared.recordable_event.Act.TheVariants as act
 use Rattle.ov_grow.specs.Choices.{IsRandomOrder, later, one_of}
 use Rattle.ov_grow.specs.Growth.{Growth, Does, IsLive, SomebodyLives}
 use Rattle.ov_grow.specs.Rounds.{DoesEach}

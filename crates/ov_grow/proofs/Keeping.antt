@@ -17,7 +17,7 @@ use Rattle.ov_net.specs.Net.{Net, LivesAs}
 use Rattle.ov_net.specs.NetStep.{LiveTakesInput, Received, TakesInput}
 use Rattle.ov_net.specs.declared.journal_entry_and_changes.Change.{Change}
 use Rattle.ov_net.specs.declared.journal_entry_and_changes.Entry.{Entry}
-use Rattle.ov_grow.specs.declared.recordable_event.Act.{Act}
+use Rattle.ov_script.specs.declared.recordable_event.Act.{Act}
 use Rattle.std.proofs.Common.{◌++◌, append_assoc, append-nil}
 use Rattle.ov_net.specs.declared.member.Member.{Member}
 use Rattle.ov_net.specs.declared.member.Member.TheVariants.{Live, Gone}
@@ -25,7 +25,7 @@ use Rattle.rand_pcg.specs.Lcg.{Lcg}
 use Rattle.ov_ids.specs.Members.{Has}
 use Rattle.ov_net.proofs.Journal.Outcomes.{same_live}
 use Rattle.ov_net.proofs.Steps.Places.{has_at, has_remove, inserted_cases, inserted_here}
-use Rattle.ov_grow.specs.declared.recordable_event.Act.TheVariants as act
+use Rattle.ov_script.specs.declared.recordable_event.Act.TheVariants as act
 use Rattle.ov_grow.specs.Choices.{IsRandomOrder, later, one_of}
 use Rattle.ov_grow.specs.Growth.{Growth, Does, IsLive}
 use Rattle.ov_grow.specs.Rounds.{AreLiveInOrder}

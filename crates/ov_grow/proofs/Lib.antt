@@ -2,14 +2,6 @@ pub mod SameSteps
 pub mod Replaying
 pub mod MakingCores
 pub mod Reporting
-pub mod Splitting
-pub mod OneLine
-mod Behind
-pub mod Statements
-pub mod TellingLines
-mod KeepingText
-mod Opening
-mod Appending
 pub mod Ordering
 pub mod Turning
 pub mod Rounding
@@ -23,7 +15,6 @@ pub mod Analysing
 pub mod Ways
 pub mod Logging
 pub mod Counting
-pub mod Totals
 pub mod OneGrowth
 pub mod OnePhase
 pub mod AnyLog
@@ -39,11 +30,3 @@ pub mod LookingOn
 pub mod Made
 pub mod Making
 pub mod Crashing
-pub mod Fitting
-pub mod Degrees
-pub mod Sharing
-pub mod Asking
-pub mod OneShape
-pub mod OneRow
-pub mod OneMessages
-pub mod Batches

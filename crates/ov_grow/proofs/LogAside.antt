@@ -9,24 +9,24 @@ use Rattle.ov_grow.specs.Growing.{GrowsFrom, LogChangesNothing, beginning, begin
 use Rattle.ov_grow.specs.Growth.{Growth}
 use Rattle.ov_grow.specs.Phases.{AreFirst, AreToCrash, Births, CrashNodes, EndsPhase, Heal, IsAnalysedAt, Join}
 use Rattle.ov_grow.specs.Phases.{ReportCrashes, ReportTimes, Settle, crashing, healing, joining, settling, turns_between}
-use Rattle.ov_grow.specs.WrittenLines.{analysis_line, comment_line}
-use Rattle.ov_grow.specs.declared.broadcast_log.Mark.{Mark}
-use Rattle.ov_grow.specs.declared.phase_moment_and_deliveries.Phase.{Phase}
+use Rattle.ov_script.specs.WrittenLines.{analysis_line, comment_line}
+use Rattle.ov_grow.specs.declared.broadcast_log.BroadcastMark.{BroadcastMark}
+use Rattle.ov_grow.specs.declared.phase_moment_and_deliveries.PhaseEnd.{PhaseEnd}
 use Rattle.ov_grow.specs.declared.phase_rules.PhaseRules.{PhaseRules}
-use Rattle.ov_grow.specs.declared.recordable_event.Act.TheVariants as act
+use Rattle.ov_script.specs.declared.recordable_event.Act.TheVariants as act
 use Rattle.ov_grow.proofs.AnyLog.{Also, also_act, also_broadcasts, also_choice, also_each, also_in_order, also_rests}
 use Rattle.ov_grow.proofs.AnyLog.{also_rounds, also_run_out, also_turns, also_way, also_write, logging, same_place}
 
 -- ---- the end of a phase
 
-also_analysis : (moment : ℕ) (l : Option (List Mark)) (s u : Growth) → IsAnalysedAt moment s u
+also_analysis : (moment : ℕ) (l : Option (List BroadcastMark)) (s u : Growth) → IsAnalysedAt moment s u
     → Also (λ a b. IsAnalysedAt moment a b) l s u
 also_analysis moment l s u (t, does, lives, is, writes) =
     let (k, did) = also_act act.Snapshot l s t does in
     let (m, wrote) = also_write (analysis_line moment) k t u writes in
     (m, (logging k t, did, lives, is, wrote))
 
-also_ending : (rules : PhaseRules) (n : ℕ) (phase : Phase) (l : Option (List Mark)) (s u : Growth)
+also_ending : (rules : PhaseRules) (n : ℕ) (phase : PhaseEnd) (l : Option (List BroadcastMark)) (s u : Growth)
     → EndsPhase rules n s phase u → Also (λ a b. EndsPhase rules n a phase b) l s u
 also_ending rules n phase l s u (t, analysed, (ids, broadcasts), is) =
     let (k, first) = also_analysis phase.moment l s t analysed in
@@ -35,7 +35,8 @@ also_ending rules n phase l s u (t, analysed, (ids, broadcasts), is) =
 
 -- ---- the phases
 
-also_births : (rules : PhaseRules) (pace id n : ℕ) (l : Option (List Mark)) (s u : Growth) → Births rules pace id n s u
+also_births : (rules : PhaseRules) (pace id n : ℕ) (l : Option (List BroadcastMark)) (s u : Growth)
+    → Births rules pace id n s u
     → Also (λ a b. Births rules pace id n a b) l s u
 also_births rules pace id zero l s u same = also_rests l s u same
 also_births rules pace id (suc n) l s u (place, t, v, w, turns, chooses, does, more) =
@@ -45,7 +46,8 @@ also_births rules pace id (suc n) l s u (place, t, v, w, turns, chooses, does, m
     let (m, others) = also_births rules pace (id + 1) n h w u more in
     (m, (place, logging k t, logging j v, logging h w, turned, chose, did, others))
 
-also_join : (o : GrowOptions) (l : Option (List Mark)) (s u : Growth) → Join o s u → Also (λ a b. Join o a b) l s u
+also_join : (o : GrowOptions) (l : Option (List BroadcastMark)) (s u : Growth) → Join o s u
+    → Also (λ a b. Join o a b) l s u
 also_join o l s u (t, v, w, says, does, births, out) =
     let (k, said) = also_write (comment_line (codes "join")) l s t says in
     let (j, did) = also_act (act.Boot 1 None) k t v does in
@@ -53,7 +55,8 @@ also_join o l s u (t, v, w, says, does, births, out) =
     let (m, ran) = also_run_out (joining o) h w u out in
     (m, (logging k t, logging j v, logging h w, said, did, born, ran))
 
-also_settling : (o : GrowOptions) (phase : Phase) (l : Option (List Mark)) (s u : Growth) → Settle o s phase u
+also_settling : (o : GrowOptions) (phase : PhaseEnd) (l : Option (List BroadcastMark)) (s u : Growth)
+    → Settle o s phase u
     → Also (λ a b. Settle o a phase b) l s u
 also_settling o phase l s u (t, v, says, rounds, ends) =
     let (k, said) = also_write (comment_line (codes "settle")) l s t says in
@@ -61,13 +64,13 @@ also_settling o phase l s u (t, v, says, rounds, ends) =
     let (m, ended) = also_ending (settling o) o.broadcasts phase j v u ends in
     (m, (logging k t, logging j v, said, shuffled, ended))
 
-also_to_crash : (crash : Crash) (moment : ℕ) (nodes : List ℕ) (l : Option (List Mark)) (s u : Growth)
+also_to_crash : (crash : Crash) (moment : ℕ) (nodes : List ℕ) (l : Option (List BroadcastMark)) (s u : Growth)
     → AreToCrash crash moment s nodes u → Also (λ a b. AreToCrash crash moment a nodes b) l s u
 also_to_crash (Share share) moment nodes l s u (order, are, is) =
     let (m, live) = also_in_order order l s u are in (m, (order, live, is))
 also_to_crash Cut moment nodes l s u (cut, same) = (l, (cut, same_place l s u same))
 
-also_crash : (o : GrowOptions) (moment : ℕ) (phase : Phase) (l : Option (List Mark)) (s u : Growth)
+also_crash : (o : GrowOptions) (moment : ℕ) (phase : PhaseEnd) (l : Option (List BroadcastMark)) (s u : Growth)
     → CrashNodes o moment s phase u → Also (λ a b. CrashNodes o moment a phase b) l s u
 also_crash o moment phase l s u (nodes, t, v, w, says, are, each, ends) =
     let (k, said) = also_write (comment_line (codes "crash")) l s t says in
@@ -76,7 +79,7 @@ also_crash o moment phase l s u (nodes, t, v, w, says, are, each, ends) =
     let (m, ended) = also_ending (crashing o) o.broadcasts phase h w u ends in
     (m, (nodes, logging k t, logging j v, logging h w, said, those, all, ended))
 
-also_first : (l : Option (List Mark)) (s : Growth) (node crashed : ℕ) → AreFirst s node crashed
+also_first : (l : Option (List BroadcastMark)) (s : Growth) (node crashed : ℕ) → AreFirst s node crashed
     → AreFirst (logging l s) node crashed
 also_first l s node crashed first = record {
   has = first.has;
@@ -84,7 +87,7 @@ also_first l s node crashed first = record {
   first_crashed = first.first_crashed;
 }
 
-also_reports : (rules : PhaseRules) (n : ℕ) (l : Option (List Mark)) (s u : Growth) → ReportTimes rules n s u
+also_reports : (rules : PhaseRules) (n : ℕ) (l : Option (List BroadcastMark)) (s u : Growth) → ReportTimes rules n s u
     → Also (λ a b. ReportTimes rules n a b) l s u
 also_reports rules zero l s u (none, same) = (l, (none, same_place l s u same))
 also_reports rules (suc n) l s u (node, crashed, t, v, first, does, out, more) =
@@ -93,11 +96,11 @@ also_reports rules (suc n) l s u (node, crashed, t, v, first, does, out, more) =
     let (m, others) = also_reports rules n j v u more in
     (m, (node, crashed, logging k t, logging j v, also_first l s node crashed first, did, ran, others))
 
-also_reported : (rules : PhaseRules) (l : Option (List Mark)) (s u : Growth) → ReportCrashes rules s u
+also_reported : (rules : PhaseRules) (l : Option (List BroadcastMark)) (s u : Growth) → ReportCrashes rules s u
     → Also (λ a b. ReportCrashes rules a b) l s u
 also_reported rules l s u (n, times) = let (m, told) = also_reports rules n l s u times in (m, (n, told))
 
-also_healing : (o : GrowOptions) (phase : Phase) (l : Option (List Mark)) (s u : Growth) → Heal o s phase u
+also_healing : (o : GrowOptions) (phase : PhaseEnd) (l : Option (List BroadcastMark)) (s u : Growth) → Heal o s phase u
     → Also (λ a b. Heal o a phase b) l s u
 also_healing o phase l s u (t, v, w, says, are, rounds, ends) =
     let (k, said) = also_write (comment_line (codes "heal")) l s t says in
@@ -110,8 +113,8 @@ also_healing o phase l s u (t, v, w, says, are, rounds, ends) =
 -- ---- all of growing
 
 -- what is grown from where b stands is grown also if the log there is another, or none
-also_grows : (l : Option (List Mark)) (b : Growth) (o : GrowOptions) (text : List ℕ) (world : WorldState)
-    (settled crashed healed : Phase) → GrowsFrom b o text world settled crashed healed
+also_grows : (l : Option (List BroadcastMark)) (b : Growth) (o : GrowOptions) (text : List ℕ) (world : WorldState)
+    (settled crashed healed : PhaseEnd) → GrowsFrom b o text world settled crashed healed
     → GrowsFrom (logging l b) o text world settled crashed healed
 also_grows l b o text world settled crashed healed grows =
     let (k, joined) = also_join o l b grows.s grows.join in

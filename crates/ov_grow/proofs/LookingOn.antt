@@ -19,7 +19,7 @@ use Rattle.ov_net.specs.declared.member.Member.{Member}
 use Rattle.ov_net.specs.declared.member.Member.TheVariants.{Live, Gone}
 use Rattle.ov_net.proofs.Journal.After.{holds_cases, holds_told}
 use Rattle.ov_grow.specs.declared.phase_rules.PhaseRules.{PhaseRules}
-use Rattle.ov_grow.specs.declared.recordable_event.Act.TheVariants as act
+use Rattle.ov_script.specs.declared.recordable_event.Act.TheVariants as act
 use Rattle.ov_grow.specs.Growth.{Growth, AreLive, Does}
 use Rattle.ov_grow.specs.Phases.{IsCrashedNeighbour}
 use Rattle.ov_grow.specs.Turns.{RunOut}

@@ -16,7 +16,7 @@ use Rattle.std.proofs.Common.{◌++◌, ◌<◌, append_assoc, length}
 use Rattle.ov_plum.specs.PlumState.{most_broadcasts}
 use Rattle.ov_net.specs.Journal as journal
 use Rattle.ov_net.specs.World.{Stands}
-use Rattle.ov_grow.specs.declared.recordable_event.Act.TheVariants as act
+use Rattle.ov_script.specs.declared.recordable_event.Act.TheVariants as act
 use Rattle.ov_grow.specs.Growth.{Growth, Does, IsLive, SomebodyLives}
 use Rattle.ov_grow.specs.Turns.{RunOut}
 use Rattle.ov_grow.specs.Rounds.{DoesEach, Round, Rounds}
@@ -26,7 +26,7 @@ use Rattle.ov_grow.specs.Phases.{AreTold, EndsPhase, IsAnalysedAt, ReportCrashes
 use Rattle.ov_grow.specs.Code.Standing.{AllLive, Goes, HaveMade, MayMake, StillLive, growth_of}
 use Rattle.ov_grow.specs.declared.fault.GrowFault.{GrowFault}
 use Rattle.ov_grow.specs.declared.growth_in_progress.Growing.{Growing}
-use Rattle.ov_grow.specs.declared.phase_moment_and_deliveries.Phase.{Phase}
+use Rattle.ov_grow.specs.declared.phase_moment_and_deliveries.PhaseEnd.{PhaseEnd}
 use Rattle.ov_grow.specs.declared.phase_rules.PhaseRules.{PhaseRules}
 use Rattle.ov_grow.proofs.Keeping.{Keeps, keeps_same, keeps_trans, lives_still, shuffle_keeps, snapshot_keeps}
 use Rattle.ov_grow.proofs.Keeping.{report_keeps, timer_keeps, turns_keep}
@@ -144,14 +144,14 @@ analysed_keeps m s u (t, did, lives, is, writes) =
     keeps_trans s t u (snapshot_keeps s t did) (keeps_same t u (ap (λ g. g.world) writes))
 
 -- the end of a phase
-pub ending_made : (rules : PhaseRules) (n : ℕ) (s u : Growth) (phase : Phase) → EndsPhase rules n s phase u
+pub ending_made : (rules : PhaseRules) (n : ℕ) (s u : Growth) (phase : PhaseEnd) → EndsPhase rules n s phase u
     → MakesMost n s u
 ending_made rules n s u phase (t, analysed, (ids, broadcasts), count) =
     makes_then 0 n n s t u (omega arith) (makes_none s t (analysed_keeps phase.moment s t analysed))
     (broadcasts_made rules n t u ids broadcasts)
 
 -- some node lives at the end of a phase
-pub ending_live : (rules : PhaseRules) (n : ℕ) (s u : Growth) (phase : Phase) → EndsPhase rules n s phase u
+pub ending_live : (rules : PhaseRules) (n : ℕ) (s u : Growth) (phase : PhaseEnd) → EndsPhase rules n s phase u
     → SomebodyLives u
 ending_live rules n s u phase (t, (v, did, (a, lives), is, writes), (ids, broadcasts), count) =
     let same : t.world ≡ v.world = ap (λ g. g.world) writes in (
@@ -250,7 +250,7 @@ heal_keeps detect rules n s t v u same told rounds =
     (keeps_trans t v u (told_all_keep detect rules t v told) (rounds_keep rules n v u rounds))
 
 -- when a phase has ended some node lives
-pub ended_live : (rules : PhaseRules) (n : ℕ) (b u : Growing) (result : Result Phase GrowFault)
+pub ended_live : (rules : PhaseRules) (n : ℕ) (b u : Growing) (result : Result PhaseEnd GrowFault)
     → IfOk result (λ phase. Goes (λ s x. EndsPhase rules n s phase x) b u)
     → IfOk result (λ phase. SomebodyLives (growth_of u))
 ended_live rules n b u result ended = IfOk-weaker result
@@ -258,7 +258,7 @@ ended_live rules n b u result ended = IfOk-weaker result
     (λ phase ends. ending_live rules n (growth_of b) (growth_of u) phase ends.way) ended
 
 -- and each has made as many broadcasts as before, and those of the phase, at most
-pub ended_made : (rules : PhaseRules) (n k most : ℕ) (b u : Growing) (result : Result Phase GrowFault)
+pub ended_made : (rules : PhaseRules) (n k most : ℕ) (b u : Growing) (result : Result PhaseEnd GrowFault)
     → k + n ≤ most → HaveMade k (growth_of b)
     → IfOk result (λ phase. Goes (λ s x. EndsPhase rules n s phase x) b u)
     → IfOk result (λ phase. HaveMade most (growth_of u))

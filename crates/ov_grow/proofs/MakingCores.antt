@@ -3,7 +3,7 @@ use Rattle.std.proofs.Common.{◌≡◌, List, [], ◌∷◌, ◌++◌, refl, sy
 use Rattle.ov_ids.specs.ParamsState.{ParamsState}
 use Rattle.ov_snap.specs.CoreState.{CoreState, opening_core}
 use Rattle.ov_scenario.specs.declared.scenario.Line.{Line}
-use Rattle.ov_grow.specs.Scripts.{ScriptState}
+use Rattle.ov_script.specs.Scripts.{ScriptState}
 use Rattle.ov_grow.specs.Code.KeptRecording.{MadeBy}
 use Rattle.ov_grow.specs.Replay.{AcceptsAll, AcceptsLine}
 

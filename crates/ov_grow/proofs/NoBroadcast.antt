@@ -2,7 +2,7 @@
 use Rattle.std.proofs.Common.{◌≡◌, ◌<◌, ◌+◌, ℕ, zero, suc, Bool, true, false, List, Option, length, drop, get_or}
 use Rattle.std.proofs.Common.{inl, inr, subst}
 use Rattle.ov_ids.specs.declared.id.MsgId.{MsgId}
-use Rattle.ov_grow.specs.declared.recordable_event.Act.TheVariants as act
+use Rattle.ov_script.specs.declared.recordable_event.Act.TheVariants as act
 use Rattle.ov_grow.specs.Growth.{Growth, AreLive, Does}
 use Rattle.ov_grow.specs.Turns.{RunOut}
 use Rattle.std.specs.Prelude.{MatchBool}

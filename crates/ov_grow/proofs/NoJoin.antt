@@ -2,8 +2,8 @@
 use Rattle.std.proofs.Common.{◌≡◌, ℕ, suc, ◌+◌, ◌-◌, List, Some, None, sym, subst}
 use Rattle.std.specs.Prelude.{codes}
 use Rattle.ov_grow_options.specs.declared.options.GrowOptions.{GrowOptions}
-use Rattle.ov_grow.specs.WrittenLines.{comment_line}
-use Rattle.ov_grow.specs.declared.recordable_event.Act.TheVariants as act
+use Rattle.ov_script.specs.WrittenLines.{comment_line}
+use Rattle.ov_script.specs.declared.recordable_event.Act.TheVariants as act
 use Rattle.ov_grow.specs.Growth.{Growth, Chooses, Does, Writes}
 use Rattle.ov_grow.specs.Turns.{RunOut, TurnsUpTo}
 use Rattle.ov_grow.specs.Rounds.{AreLiveInOrder, DoesEach, Round}

@@ -21,8 +21,8 @@ use Rattle.ov_snap.proofs.Moments.{moment_new, moment_within}
 use Rattle.ov_run_meaning.specs.Subjects.{AnalysisJudged, IsReported}
 use Rattle.ov_grow.specs.Recordings.{all_of}
 use Rattle.ov_grow_options.specs.declared.options.GrowOptions.{GrowOptions}
-use Rattle.ov_grow.specs.WrittenLines.{comment_line}
-use Rattle.ov_grow.specs.declared.recordable_event.Act.TheVariants as act
+use Rattle.ov_script.specs.WrittenLines.{comment_line}
+use Rattle.ov_script.specs.declared.recordable_event.Act.TheVariants as act
 use Rattle.ov_grow.specs.Growth.{Growth, Does, SomebodyLives, Writes}
 use Rattle.ov_grow.specs.Turns.{RunOut}
 use Rattle.ov_grow.specs.Rounds.{DoesEach, Rounds}
@@ -34,7 +34,7 @@ use Rattle.ov_grow.specs.Code.Standing.{Goes, IsFresh, IsNoWay, growth_of}
 use Rattle.ov_grow.specs.declared.fault.GrowFault.{GrowFault}
 use Rattle.ov_grow.specs.declared.fault.GrowFault.TheVariants.{OutOfMemory}
 use Rattle.ov_grow.specs.declared.growth_in_progress.Growing.{Growing}
-use Rattle.ov_grow.specs.declared.phase_moment_and_deliveries.Phase.{Phase}
+use Rattle.ov_grow.specs.declared.phase_moment_and_deliveries.PhaseEnd.{PhaseEnd}
 use Rattle.ov_grow.specs.declared.phase_rules.PhaseRules.{PhaseRules}
 use Rattle.ov_grow.proofs.Going.{IsOn, no_way_by, on_nowhere}
 use Rattle.ov_grow.proofs.OneGrowth.{one_act}
@@ -102,29 +102,29 @@ no_way_analysis b t fault did (inr nobody) = inr (λ u (m, (x, does, lives, is, 
 -- a phase can't end, as there is no analysis
 pub no_way_ending : (rules : PhaseRules) (n : ℕ) (b : Growing) (fault : GrowFault)
     → IsNoWay (λ s u. (m : ℕ) × IsAnalysedAt m s u) b fault
-    → IsNoWay (λ s u. (phase : Phase) × EndsPhase rules n s phase u) b fault
+    → IsNoWay (λ s u. (phase : PhaseEnd) × EndsPhase rules n s phase u) b fault
 no_way_ending rules n b fault none =
-    no_way_by (λ s u. (m : ℕ) × IsAnalysedAt m s u) (λ s u. (phase : Phase) × EndsPhase rules n s phase u) b b fault
+    no_way_by (λ s u. (m : ℕ) × IsAnalysedAt m s u) (λ s u. (phase : PhaseEnd) × EndsPhase rules n s phase u) b b fault
     (λ u (phase, (t, analysed, broadcasts, count)). (t, (phase.moment, analysed))) none
 
 -- a phase can't end, as there are no broadcasts
 pub no_way_analysed : (rules : PhaseRules) (n m : ℕ) (b t : Growing) (fault : GrowFault)
     → Goes (λ s u. IsAnalysedAt m s u) b t
     → IsNoWay (λ s u. (ids : List MsgId) × Broadcasts rules n s ids u) t fault
-    → IsNoWay (λ s u. (phase : Phase) × EndsPhase rules n s phase u) b fault
+    → IsNoWay (λ s u. (phase : PhaseEnd) × EndsPhase rules n s phase u) b fault
 no_way_analysed rules n m b t fault analysed none =
     no_way_by (λ s u. (ids : List MsgId) × Broadcasts rules n s ids u)
-    (λ s u. (phase : Phase) × EndsPhase rules n s phase u) t b fault
+    (λ s u. (phase : PhaseEnd) × EndsPhase rules n s phase u) t b fault
     (λ u (phase, ends).
     (u, (ending_rest rules n m (growth_of b) (growth_of t) u phase analysed.way ends).1)) none
 
 -- the end of a phase, under these rules and with so many broadcasts
 ends_by : (rules others : PhaseRules) (k n : ℕ) (t : Growing) (fault : GrowFault) → rules ≡ others → k ≡ n
-    → IsNoWay (λ s u. (phase : Phase) × EndsPhase rules k s phase u) t fault
-    → IsNoWay (λ s u. (phase : Phase) × EndsPhase others n s phase u) t fault
+    → IsNoWay (λ s u. (phase : PhaseEnd) × EndsPhase rules k s phase u) t fault
+    → IsNoWay (λ s u. (phase : PhaseEnd) × EndsPhase others n s phase u) t fault
 ends_by rules others k n t fault by many none =
-    subst (λ m. IsNoWay (λ s u. (phase : Phase) × EndsPhase others m s phase u) t fault) many
-    (subst (λ r. IsNoWay (λ s u. (phase : Phase) × EndsPhase r k s phase u) t fault) by none)
+    subst (λ m. IsNoWay (λ s u. (phase : PhaseEnd) × EndsPhase others m s phase u) t fault) many
+    (subst (λ r. IsNoWay (λ s u. (phase : PhaseEnd) × EndsPhase r k s phase u) t fault) by none)
 
 -- the same of rounds
 rounds_by : (rules others : PhaseRules) (k n : ℕ) (s u : Growth) → rules ≡ others → k ≡ n → Rounds rules k s u
@@ -135,9 +135,9 @@ rounds_by rules others k n s u by many rounds =
 -- the overlay can't settle, as there are no such rounds
 pub no_way_settle : (o : GrowOptions) (rules : PhaseRules) (n : ℕ) (b t : Growing) (fault : GrowFault)
     → rules ≡ settling o → n ≡ o.rounds → Goes (λ s x. Writes s (comment_line (codes "settle")) x) b t
-    → IsNoWay (Rounds rules n) t fault → IsNoWay (λ s u. (phase : Phase) × Settle o s phase u) b fault
+    → IsNoWay (Rounds rules n) t fault → IsNoWay (λ s u. (phase : PhaseEnd) × Settle o s phase u) b fault
 no_way_settle o rules n b t fault by many says none =
-    no_way_by (Rounds rules n) (λ s u. (phase : Phase) × Settle o s phase u) t b fault
+    no_way_by (Rounds rules n) (λ s u. (phase : PhaseEnd) × Settle o s phase u) t b fault
     (λ u (phase, settle).
     let (v, rounds, ends) = settle_follows o (growth_of b) (growth_of t) u phase says.way settle in
     (v, rounds_by (settling o) rules o.rounds n (growth_of t) v (sym by) (sym many) rounds)) none
@@ -146,11 +146,11 @@ no_way_settle o rules n b t fault by many says none =
 pub no_way_settled : (o : GrowOptions) (rules : PhaseRules) (n k : ℕ) (b t v : Growing) (fault : GrowFault)
     → rules ≡ settling o → n ≡ o.rounds → k ≡ o.broadcasts
     → Goes (λ s x. Writes s (comment_line (codes "settle")) x) b t → Goes (Rounds rules n) t v
-    → IsNoWay (λ s u. (phase : Phase) × EndsPhase rules k s phase u) v fault
-    → IsNoWay (λ s u. (phase : Phase) × Settle o s phase u) b fault
+    → IsNoWay (λ s u. (phase : PhaseEnd) × EndsPhase rules k s phase u) v fault
+    → IsNoWay (λ s u. (phase : PhaseEnd) × Settle o s phase u) b fault
 no_way_settled o rules n k b t v fault by many each says rounds none =
-    no_way_by (λ s u. (phase : Phase) × EndsPhase (settling o) o.broadcasts s phase u)
-    (λ s u. (phase : Phase) × Settle o s phase u) v b fault
+    no_way_by (λ s u. (phase : PhaseEnd) × EndsPhase (settling o) o.broadcasts s phase u)
+    (λ s u. (phase : PhaseEnd) × Settle o s phase u) v b fault
     (λ u (phase, settle). (
       u,
       (
@@ -165,9 +165,9 @@ no_way_settled o rules n k b t v fault by many each says rounds none =
 pub no_way_crash : (o : GrowOptions) (m : ℕ) (nodes those : List ℕ) (b t v : Growing) (fault : GrowFault)
     → those ≡ nodes → Goes (λ s x. Writes s (comment_line (codes "crash")) x) b t
     → Goes (λ s x. AreToCrash o.crash m s nodes x) t v → IsNoWay (DoesEach act.Crash those) v fault
-    → IsNoWay (λ s u. (phase : Phase) × CrashNodes o m s phase u) b fault
+    → IsNoWay (λ s u. (phase : PhaseEnd) × CrashNodes o m s phase u) b fault
 no_way_crash o m nodes those b t v fault same says are none =
-    no_way_by (DoesEach act.Crash nodes) (λ s u. (phase : Phase) × CrashNodes o m s phase u) v b fault
+    no_way_by (DoesEach act.Crash nodes) (λ s u. (phase : PhaseEnd) × CrashNodes o m s phase u) v b fault
     (λ u (phase, crash).
     let (w, each, ends) =
     crash_follows o m nodes (growth_of b) (growth_of t) (growth_of v) u phase says.way are.way crash in
@@ -178,11 +178,11 @@ pub no_way_crashed : (o : GrowOptions) (m : ℕ) (rules : PhaseRules) (k : ℕ) 
     (fault : GrowFault) → rules ≡ crashing o → k ≡ o.broadcasts → those ≡ nodes
     → Goes (λ s x. Writes s (comment_line (codes "crash")) x) b t
     → Goes (λ s x. AreToCrash o.crash m s nodes x) t v → Goes (DoesEach act.Crash those) v w
-    → IsNoWay (λ s u. (phase : Phase) × EndsPhase rules k s phase u) w fault
-    → IsNoWay (λ s u. (phase : Phase) × CrashNodes o m s phase u) b fault
+    → IsNoWay (λ s u. (phase : PhaseEnd) × EndsPhase rules k s phase u) w fault
+    → IsNoWay (λ s u. (phase : PhaseEnd) × CrashNodes o m s phase u) b fault
 no_way_crashed o m rules k nodes those b t v w fault by each same says are all none =
-    no_way_by (λ s u. (phase : Phase) × EndsPhase (crashing o) o.broadcasts s phase u)
-    (λ s u. (phase : Phase) × CrashNodes o m s phase u) w b fault
+    no_way_by (λ s u. (phase : PhaseEnd) × EndsPhase (crashing o) o.broadcasts s phase u)
+    (λ s u. (phase : PhaseEnd) × CrashNodes o m s phase u) w b fault
     (λ u (phase, crash). (
       u,
       (
@@ -233,9 +233,9 @@ no_way_told detect rules b fault fails none =
 -- the overlay can't heal, as nodes can't be told of crashes
 pub no_way_heal : (o : GrowOptions) (rules : PhaseRules) (b t : Growing) (fault : GrowFault) → rules ≡ healing o
     → Goes (λ s x. Writes s (comment_line (codes "heal")) x) b t → IsNoWay (AreTold o.detect rules) t fault
-    → IsNoWay (λ s u. (phase : Phase) × Heal o s phase u) b fault
+    → IsNoWay (λ s u. (phase : PhaseEnd) × Heal o s phase u) b fault
 no_way_heal o rules b t fault by says none =
-    no_way_by (AreTold o.detect (healing o)) (λ s u. (phase : Phase) × Heal o s phase u) t b fault
+    no_way_by (AreTold o.detect (healing o)) (λ s u. (phase : PhaseEnd) × Heal o s phase u) t b fault
     (λ u (phase, heal).
     let (v, w, told, rounds, ends) = heal_follows o (growth_of b) (growth_of t) u phase says.way heal in
     (v, told)) (subst (λ r. IsNoWay (AreTold o.detect r) t fault) by none)
@@ -244,9 +244,9 @@ no_way_heal o rules b t fault by says none =
 pub no_way_mended : (o : GrowOptions) (rules : PhaseRules) (n : ℕ) (b t v : Growing) (fault : GrowFault)
     → rules ≡ healing o → n ≡ o.heal → Goes (λ s x. Writes s (comment_line (codes "heal")) x) b t
     → Goes (AreTold o.detect rules) t v → IsNoWay (Rounds rules n) v fault
-    → IsNoWay (λ s u. (phase : Phase) × Heal o s phase u) b fault
+    → IsNoWay (λ s u. (phase : PhaseEnd) × Heal o s phase u) b fault
 no_way_mended o rules n b t v fault by many says told none =
-    no_way_by (Rounds rules n) (λ s u. (phase : Phase) × Heal o s phase u) v b fault
+    no_way_by (Rounds rules n) (λ s u. (phase : PhaseEnd) × Heal o s phase u) v b fault
     (λ u (phase, heal).
     let (w, rounds, ends) = reported_follows o (growth_of b) (growth_of t) (growth_of v) u phase says.way
     (subst (λ r. AreTold o.detect r (growth_of t) (growth_of v)) by told.way) heal in
@@ -256,11 +256,11 @@ no_way_mended o rules n b t v fault by many says told none =
 pub no_way_healed : (o : GrowOptions) (rules : PhaseRules) (n k : ℕ) (b t v w : Growing) (fault : GrowFault)
     → rules ≡ healing o → n ≡ o.heal → k ≡ o.broadcasts
     → Goes (λ s x. Writes s (comment_line (codes "heal")) x) b t → Goes (AreTold o.detect rules) t v
-    → Goes (Rounds rules n) v w → IsNoWay (λ s u. (phase : Phase) × EndsPhase rules k s phase u) w fault
-    → IsNoWay (λ s u. (phase : Phase) × Heal o s phase u) b fault
+    → Goes (Rounds rules n) v w → IsNoWay (λ s u. (phase : PhaseEnd) × EndsPhase rules k s phase u) w fault
+    → IsNoWay (λ s u. (phase : PhaseEnd) × Heal o s phase u) b fault
 no_way_healed o rules n k b t v w fault by many each says told rounds none =
-    no_way_by (λ s u. (phase : Phase) × EndsPhase (healing o) o.broadcasts s phase u)
-    (λ s u. (phase : Phase) × Heal o s phase u) w b fault
+    no_way_by (λ s u. (phase : PhaseEnd) × EndsPhase (healing o) o.broadcasts s phase u)
+    (λ s u. (phase : PhaseEnd) × Heal o s phase u) w b fault
     (λ u (phase, heal). (
       u,
       (

@@ -9,9 +9,9 @@ use Rattle.ov_net.specs.Refusals.{IsRefusal}
 use Rattle.ov_net.specs.declared.fault.NetFault.{NetFault}
 use Rattle.ov_net.specs.declared.fault.NetFault.TheVariants as net_fault
 use Rattle.ov_net.proofs.Steps.Refusing.{refused_for_memory}
-use Rattle.ov_grow.specs.Acts.{event_of}
-use Rattle.ov_grow.specs.declared.recordable_event.Act.{Act}
-use Rattle.ov_grow.specs.declared.recordable_event.Act.TheVariants as act
+use Rattle.ov_script.specs.Acts.{event_of}
+use Rattle.ov_script.specs.declared.recordable_event.Act.{Act}
+use Rattle.ov_script.specs.declared.recordable_event.Act.TheVariants as act
 use Rattle.ov_grow.specs.Choices.{after_chance, comes_true}
 use Rattle.ov_grow.specs.Faults.{of_event}
 use Rattle.ov_grow.specs.Growth.{Growth, Does}

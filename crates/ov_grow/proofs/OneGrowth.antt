@@ -14,10 +14,10 @@ use Rattle.ov_net.proofs.OneStep.OfWorld.{one_step}
 use Rattle.ov_scenario.proofs.Scenarios.OneScenario.{one_scenario}
 use Rattle.ov_scenario.specs.declared.scenario.Line.{Line}
 use Rattle.ov_scenario.specs.declared.scenario.Line.TheVariants as line
-use Rattle.ov_grow.specs.Acts.{event_of}
+use Rattle.ov_script.specs.Acts.{event_of}
 use Rattle.ov_grow.specs.BroadcastLog.{marks_after}
-use Rattle.ov_grow.specs.declared.recordable_event.Act.{Act}
-use Rattle.ov_grow.specs.declared.recordable_event.Act.TheVariants as act
+use Rattle.ov_script.specs.declared.recordable_event.Act.{Act}
+use Rattle.ov_script.specs.declared.recordable_event.Act.TheVariants as act
 use Rattle.ov_grow.specs.Choices.{IsRandomOrder, one_of, later}
 use Rattle.ov_grow.specs.Growth.{Growth, AsksLast, AreLive, Chooses, Does, Tries, Writes}
 use Rattle.ov_grow.specs.Turns.{Arrives, HasFailed, HasNoPackets, IsDelivered, IsTurnOf, MayBeRepeated, RunOut}

@@ -17,9 +17,9 @@ use Rattle.ov_net.specs.declared.journal_entry_and_changes.Entry.{Entry}
 use Rattle.ov_grow_options.specs.declared.options.Crash.{Crash}
 use Rattle.ov_grow_options.specs.declared.options.Crash.TheVariants.{Share, Cut}
 use Rattle.ov_grow_options.specs.declared.options.GrowOptions.{GrowOptions}
-use Rattle.ov_grow.specs.declared.recordable_event.Act.{Act}
-use Rattle.ov_grow.specs.declared.recordable_event.Act.TheVariants as act
-use Rattle.ov_grow.specs.WrittenLines.{analysis_line, comment_line}
+use Rattle.ov_script.specs.declared.recordable_event.Act.{Act}
+use Rattle.ov_script.specs.declared.recordable_event.Act.TheVariants as act
+use Rattle.ov_script.specs.WrittenLines.{analysis_line, comment_line}
 use Rattle.ov_grow.specs.Choices.{IsRandomOrder}
 use Rattle.ov_grow.specs.Growth.{Growth, AreLive, Chooses, Does, IsFirstOf, Writes}
 use Rattle.ov_grow.specs.Turns.{RunOut, TurnsUpTo}
@@ -32,7 +32,7 @@ use Rattle.ov_grow.specs.Phases.{deliveries_in, healing, joining, settling}
 use Rattle.ov_grow.specs.Phases.{turns_between}
 use Rattle.ov_net.specs.World.{WorldState}
 use Rattle.ov_grow.specs.Growing.{GrowsFrom, OneGrowth, beginning}
-use Rattle.ov_grow.specs.declared.phase_moment_and_deliveries.Phase.{Phase}
+use Rattle.ov_grow.specs.declared.phase_moment_and_deliveries.PhaseEnd.{PhaseEnd}
 use Rattle.ov_grow.specs.declared.phase_rules.PhaseRules.{PhaseRules}
 use Rattle.ov_grow.proofs.OneGrowth.{one_act, one_choice, one_live, one_order, one_run_out, one_turns, one_write}
 
@@ -316,17 +316,17 @@ one_analysis moment also s u v (t, did, live, is, writes) (x, does, lives, same,
           wrote)),
     )
 
-same_phase : (p q : Phase) → p.moment ≡ q.moment → p.deliveries ≡ q.deliveries → p ≡ q
+same_phase : (p q : PhaseEnd) → p.moment ≡ q.moment → p.deliveries ≡ q.deliveries → p ≡ q
 same_phase p q moment deliveries = ap₂ (λ m d. record { moment = m; deliveries = d }) moment deliveries
 
 -- after the analysis there are broadcasts
-pub ending_rest : (rules : PhaseRules) (n m : ℕ) (s t u : Growth) (q : Phase) → IsAnalysedAt m s t
+pub ending_rest : (rules : PhaseRules) (n m : ℕ) (s t u : Growth) (q : PhaseEnd) → IsAnalysedAt m s t
     → EndsPhase rules n s q u → (m ≡ q.moment) × ((ids : List MsgId) × Broadcasts rules n t ids u)
 ending_rest rules n m s t u q analysed (x, also, (ids, others), counts) =
     let first = one_analysis m q.moment s t x analysed also in
     (first.0, (ids, subst (λ g. Broadcasts rules n g ids u) (sym first.1) others))
 
-one_ending : (rules : PhaseRules) (n : ℕ) (s u v : Growth) (p q : Phase) → EndsPhase rules n s p u
+one_ending : (rules : PhaseRules) (n : ℕ) (s u v : Growth) (p q : PhaseEnd) → EndsPhase rules n s p u
     → EndsPhase rules n s q v
     → (p ≡ q) × (u ≡ v)
 one_ending rules n s u v p q (t, analysed, (ids, broadcasts), count) (x, also, (others, made), counts) =
@@ -402,7 +402,7 @@ one_join o s u v (t, w, z, says, did, births, out) other =
     one_run_out (joining o) z u v out (join_rest o s t w z v says did births other)
 
 -- after the comment there are rounds
-pub settle_follows : (o : GrowOptions) (s t u : Growth) (q : Phase) → Writes s (comment_line (codes "settle")) t
+pub settle_follows : (o : GrowOptions) (s t u : Growth) (q : PhaseEnd) → Writes s (comment_line (codes "settle")) t
     → Settle o s q u
     → (v : Growth) × Rounds (settling o) o.rounds t v × EndsPhase (settling o) o.broadcasts v q u
 settle_follows o s t u q says (x, v, said, rounds, ends) =
@@ -410,20 +410,20 @@ settle_follows o s t u q says (x, v, said, rounds, ends) =
     (v, subst (λ g. Rounds (settling o) o.rounds g v) first rounds, ends)
 
 -- after the rounds the phase ends
-pub settle_rest : (o : GrowOptions) (s t v u : Growth) (q : Phase) → Writes s (comment_line (codes "settle")) t
+pub settle_rest : (o : GrowOptions) (s t v u : Growth) (q : PhaseEnd) → Writes s (comment_line (codes "settle")) t
     → Rounds (settling o) o.rounds t v → Settle o s q u → EndsPhase (settling o) o.broadcasts v q u
 settle_rest o s t v u q says rounds settle =
     let (w, also, ends) = settle_follows o s t u q says settle in
     subst (λ g. EndsPhase (settling o) o.broadcasts g q u)
     (one_rounds (settling o) o.rounds t w v also rounds) ends
 
-pub one_settling : (o : GrowOptions) (s u v : Growth) (p q : Phase) → Settle o s p u → Settle o s q v
+pub one_settling : (o : GrowOptions) (s u v : Growth) (p q : PhaseEnd) → Settle o s p u → Settle o s q v
     → (p ≡ q) × (u ≡ v)
 one_settling o s u v p q (t, w, says, rounds, ends) other =
     one_ending (settling o) o.broadcasts w u v p q ends (settle_rest o s t w v q says rounds other)
 
 -- when it is known which nodes are to crash, each of them does
-pub crash_follows : (o : GrowOptions) (m : ℕ) (nodes : List ℕ) (s t v u : Growth) (q : Phase)
+pub crash_follows : (o : GrowOptions) (m : ℕ) (nodes : List ℕ) (s t v u : Growth) (q : PhaseEnd)
     → Writes s (comment_line (codes "crash")) t → AreToCrash o.crash m t nodes v → CrashNodes o m s q u
     → (w : Growth) × DoesEach act.Crash nodes v w × EndsPhase (crashing o) o.broadcasts w q u
 crash_follows o m nodes s t v u q says are (those, x, y, w, said, also, each, ends) =
@@ -432,14 +432,15 @@ crash_follows o m nodes s t v u q says are (those, x, y, w, said, also, each, en
     (w, subst (λ g. DoesEach act.Crash nodes g w) one.1 (subst (λ xs. DoesEach act.Crash xs y w) one.0 each), ends)
 
 -- after the crashes the phase ends
-pub crash_rest : (o : GrowOptions) (m : ℕ) (nodes : List ℕ) (s t v w u : Growth) (q : Phase)
+pub crash_rest : (o : GrowOptions) (m : ℕ) (nodes : List ℕ) (s t v w u : Growth) (q : PhaseEnd)
     → Writes s (comment_line (codes "crash")) t → AreToCrash o.crash m t nodes v → DoesEach act.Crash nodes v w
     → CrashNodes o m s q u → EndsPhase (crashing o) o.broadcasts w q u
 crash_rest o m nodes s t v w u q says are each crash =
     let (x, all, ends) = crash_follows o m nodes s t v u q says are crash in
     subst (λ g. EndsPhase (crashing o) o.broadcasts g q u) (one_each act.Crash nodes v x w all each) ends
 
-pub one_crash : (o : GrowOptions) (m : ℕ) (s u v : Growth) (p q : Phase) → CrashNodes o m s p u → CrashNodes o m s q v
+pub one_crash : (o : GrowOptions) (m : ℕ) (s u v : Growth) (p q : PhaseEnd) → CrashNodes o m s p u
+    → CrashNodes o m s q v
     → (p ≡ q) × (u ≡ v)
 one_crash o m s u v p q (nodes, t, w, z, says, are, each, ends) other =
     one_ending (crashing o) o.broadcasts z u v p q ends (crash_rest o m nodes s t w z v q says are each other)
@@ -499,7 +500,7 @@ one_told_all true rules s u v same also = same ∙ sym also
 one_told_all false rules s u v (n, reports) other = one_reports rules n s u v reports other
 
 -- after the comment nodes are told of crashes
-pub heal_follows : (o : GrowOptions) (s t u : Growth) (q : Phase) → Writes s (comment_line (codes "heal")) t
+pub heal_follows : (o : GrowOptions) (s t u : Growth) (q : PhaseEnd) → Writes s (comment_line (codes "heal")) t
     → Heal o s q u
     → (v : Growth) × (w : Growth)
     × AreTold o.detect (healing o) t v × Rounds (healing o) o.heal v w × EndsPhase (healing o) o.broadcasts w q u
@@ -508,7 +509,7 @@ heal_follows o s t u q says (x, v, w, said, told, rounds, ends) =
     (v, w, subst (λ g. AreTold o.detect (healing o) g v) first told, rounds, ends)
 
 -- after that there are rounds
-pub reported_follows : (o : GrowOptions) (s t v u : Growth) (q : Phase) → Writes s (comment_line (codes "heal")) t
+pub reported_follows : (o : GrowOptions) (s t v u : Growth) (q : PhaseEnd) → Writes s (comment_line (codes "heal")) t
     → AreTold o.detect (healing o) t v → Heal o s q u
     → (w : Growth) × Rounds (healing o) o.heal v w × EndsPhase (healing o) o.broadcasts w q u
 reported_follows o s t v u q says told heal =
@@ -517,20 +518,20 @@ reported_follows o s t v u q says told heal =
     (w, subst (λ g. Rounds (healing o) o.heal g w) (sym one) rounds, ends)
 
 -- after the rounds the phase ends
-pub heal_rest : (o : GrowOptions) (s t v w u : Growth) (q : Phase) → Writes s (comment_line (codes "heal")) t
+pub heal_rest : (o : GrowOptions) (s t v w u : Growth) (q : PhaseEnd) → Writes s (comment_line (codes "heal")) t
     → AreTold o.detect (healing o) t v → Rounds (healing o) o.heal v w → Heal o s q u
     → EndsPhase (healing o) o.broadcasts w q u
 heal_rest o s t v w u q says told rounds heal =
     let (x, also, ends) = reported_follows o s t v u q says told heal in
     subst (λ g. EndsPhase (healing o) o.broadcasts g q u) (one_rounds (healing o) o.heal v x w also rounds) ends
 
-pub one_healing : (o : GrowOptions) (s u v : Growth) (p q : Phase) → Heal o s p u → Heal o s q v → (p ≡ q) × (u ≡ v)
+pub one_healing : (o : GrowOptions) (s u v : Growth) (p q : PhaseEnd) → Heal o s p u → Heal o s q v → (p ≡ q) × (u ≡ v)
 one_healing o s u v p q (t, w, k, says, reports, rounds, ends) other =
     one_ending (healing o) o.broadcasts k u v p q ends (heal_rest o s t w k v q says reports rounds other)
 
 -- two overlays that are grown from where b stands are the same, and growing stands at the same places after each phase
 pub record AreOne (b : Growth) (o : GrowOptions) (text other : List ℕ) (world beside : WorldState)
-    (settled crashed healed settles crashes heals : Phase) (g : GrowsFrom b o text world settled crashed healed)
+    (settled crashed healed settles crashes heals : PhaseEnd) (g : GrowsFrom b o text world settled crashed healed)
     (h : GrowsFrom b o other beside settles crashes heals) : Type 0
   where
     pub texts : text ≡ other
@@ -543,7 +544,7 @@ pub record AreOne (b : Growth) (o : GrowOptions) (text other : List ℕ) (world 
     pub at_heal : g.u ≡ h.u
 
 pub one_from : (b : Growth) (o : GrowOptions) (text other : List ℕ) (world beside : WorldState)
-    (settled crashed healed settles crashes heals : Phase) (g : GrowsFrom b o text world settled crashed healed)
+    (settled crashed healed settles crashes heals : PhaseEnd) (g : GrowsFrom b o text world settled crashed healed)
     (h : GrowsFrom b o other beside settles crashes heals)
     → AreOne b o text other world beside settled crashed healed settles crashes heals g h
 one_from b o text other world beside settled crashed healed settles crashes heals g h =

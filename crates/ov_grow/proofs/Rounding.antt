@@ -1,7 +1,7 @@
 -- Rounds of shuffles, and one act for each of several nodes.
 use Rattle.std.proofs.Common.{◌≡◌, ◌<◌, ◌≤◌, ◌+◌, ℕ, zero, suc, List, [], ◌∷◌, length, drop, get_or, refl, sym}
 use Rattle.std.proofs.Common.{subst, arith, drop-cons, ◌∙◌, ap}
-use Rattle.ov_grow.specs.declared.recordable_event.Act.{Act}
+use Rattle.ov_script.specs.declared.recordable_event.Act.{Act}
 use Rattle.ov_grow.specs.Growth.{Growth, Does}
 use Rattle.ov_grow.specs.Rounds.{DoesEach, Round, Rounds}
 use Rattle.ov_grow.specs.declared.phase_rules.PhaseRules.{PhaseRules}

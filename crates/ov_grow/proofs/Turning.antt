@@ -7,9 +7,9 @@ use Rattle.ov_ids.proofs.Stepping.{step_none}
 use Rattle.ov_net.specs.Limits.{most_entries}
 use Rattle.ov_net.specs.Refusals.{EventJudged}
 use Rattle.ov_net.specs.declared.fault.NetFault.TheVariants.{TooManyEntries}
-use Rattle.ov_grow.specs.Acts.{event_of}
-use Rattle.ov_grow.specs.declared.recordable_event.Act.{Act}
-use Rattle.ov_grow.specs.declared.recordable_event.Act.TheVariants as act
+use Rattle.ov_script.specs.Acts.{event_of}
+use Rattle.ov_script.specs.declared.recordable_event.Act.{Act}
+use Rattle.ov_script.specs.declared.recordable_event.Act.TheVariants as act
 use Rattle.ov_grow_options.specs.declared.options.Order.{Order}
 use Rattle.ov_grow_options.specs.declared.options.Order.TheVariants.{Random, Oldest}
 use Rattle.ov_grow.specs.Growth.{Growth, Does, Tries}

@@ -6,8 +6,8 @@ use Rattle.rand_pcg.specs.Lcg.{Lcg}
 use Rattle.ov_ids.specs.declared.id.MsgId.{MsgId}
 use Rattle.ov_snap.specs.CoreState.{KeepsReports}
 use Rattle.ov_grow_options.specs.declared.options.GrowOptions.{GrowOptions}
-use Rattle.ov_grow.specs.WrittenLines.{comment_line}
-use Rattle.ov_grow.specs.declared.recordable_event.Act.TheVariants as act
+use Rattle.ov_script.specs.WrittenLines.{comment_line}
+use Rattle.ov_script.specs.declared.recordable_event.Act.TheVariants as act
 use Rattle.ov_grow.specs.Choices.{after_chance, comes_true}
 use Rattle.ov_grow.specs.Growth.{Growth, AreLive, Chooses, Does, Writes}
 use Rattle.ov_grow.specs.Turns.{Arrives, IsTurnOf, MayBeRepeated, RunOut, Turn, TurnsUpTo}
@@ -19,7 +19,7 @@ use Rattle.ov_grow.specs.Phases.{AreTold, ReportCrashes, Settle, crashing, deliv
 use Rattle.ov_grow.specs.Phases.{turns_between}
 use Rattle.ov_grow.specs.Code.Standing.{Goes, growth_of}
 use Rattle.ov_grow.specs.declared.growth_in_progress.Growing.{Growing}
-use Rattle.ov_grow.specs.declared.phase_moment_and_deliveries.Phase.{Phase}
+use Rattle.ov_grow.specs.declared.phase_moment_and_deliveries.PhaseEnd.{PhaseEnd}
 use Rattle.ov_grow.specs.declared.phase_rules.PhaseRules.{PhaseRules}
 use Rattle.ov_grow.proofs.Going.{kept_trans, tried}
 use Rattle.ov_grow.proofs.Turning.{AsLong, Longer, as_long_by, does_longer, entries, longer_by}
@@ -266,7 +266,7 @@ join_goes o rules pace nodes who b t v w u by at all one says did births out = r
 }
 
 -- the overlay settles
-pub settle_goes : (o : GrowOptions) (rules : PhaseRules) (n k : ℕ) (phase : Phase) (b t v u : Growing)
+pub settle_goes : (o : GrowOptions) (rules : PhaseRules) (n k : ℕ) (phase : PhaseEnd) (b t v u : Growing)
     → rules ≡ settling o → n ≡ o.rounds → k ≡ o.broadcasts
     → Goes (λ s x. Writes s (comment_line (codes "settle")) x) b t → Goes (Rounds rules n) t v
     → Goes (λ s x. EndsPhase rules k s phase x) v u → Goes (λ s x. Settle o s phase x) b u
@@ -285,7 +285,7 @@ settle_goes o rules n k phase b t v u by many each says rounds ends = record {
 }
 
 -- nodes crash
-pub crash_goes : (o : GrowOptions) (settled : ℕ) (rules : PhaseRules) (k : ℕ) (nodes those : List ℕ) (phase : Phase)
+pub crash_goes : (o : GrowOptions) (settled : ℕ) (rules : PhaseRules) (k : ℕ) (nodes those : List ℕ) (phase : PhaseEnd)
     (b t v w u : Growing) → rules ≡ crashing o → k ≡ o.broadcasts → those ≡ nodes
     → Goes (λ s x. Writes s (comment_line (codes "crash")) x) b t → Goes (λ s x. AreToCrash o.crash settled s nodes
     x) t v
@@ -320,7 +320,7 @@ reports_goes rules node crashed b t v u first did out more = record {
 }
 
 -- the overlay heals
-pub heal_goes : (o : GrowOptions) (rules : PhaseRules) (n k : ℕ) (phase : Phase) (b t v w u : Growing)
+pub heal_goes : (o : GrowOptions) (rules : PhaseRules) (n k : ℕ) (phase : PhaseEnd) (b t v w u : Growing)
     → rules ≡ healing o → n ≡ o.heal → k ≡ o.broadcasts
     → Goes (λ s x. Writes s (comment_line (codes "heal")) x) b t → Goes (AreTold o.detect rules) t v
     → Goes (Rounds rules n) v w → Goes (λ s x. EndsPhase rules k s phase x) w u

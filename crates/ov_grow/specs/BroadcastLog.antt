@@ -12,12 +12,12 @@ use Rattle.ov_net.specs.declared.event.Event.{Event}
 use Rattle.ov_net.specs.declared.event.Event.TheVariants as event
 use Rattle.ov_net.specs.declared.member.Member.{Member}
 use Rattle.ov_net.specs.declared.member.Member.TheVariants.{Live}
-use Rattle.ov_grow.specs.declared.broadcast_log.Mark.{Mark}
-use Rattle.ov_grow.specs.declared.broadcast_log.Mark.TheVariants as mark
+use Rattle.ov_grow.specs.declared.broadcast_log.BroadcastMark.{BroadcastMark}
+use Rattle.ov_grow.specs.declared.broadcast_log.BroadcastMark.TheVariants as mark
 
 -- what the log tells of a message that was sent and says this: that it is GOSSIP, IHAVE or GRAFT, with the id of the
 -- broadcast, or PRUNE; nothing of other messages
-abbrev pub mark_of : Body → Option Mark
+abbrev pub mark_of : Body → Option BroadcastMark
 mark_of (says.Gossip id round payload) = Some (mark.Gossip id)
 mark_of (says.IHave id) = Some (mark.Ihave id)
 mark_of (says.Graft id) = Some (mark.Graft id)
@@ -25,7 +25,7 @@ mark_of says.Prune = Some mark.Prune
 mark_of other = None
 
 -- what the log tells of these packets that were sent, in their order
-abbrev pub sent_marks : List (ℕ × Message) → List Mark
+abbrev pub sent_marks : List (ℕ × Message) → List BroadcastMark
 sent_marks [] = []
 sent_marks (packet ∷ more) = option_to_list (mark_of packet.1.body) ++ sent_marks more
 
@@ -48,12 +48,12 @@ made_by (event.Broadcast node payload) w = next_id node (map.get w.nodes node)
 made_by other w = None
 
 -- what stays in the log at an event: nothing at a snapshot
-abbrev pub marks_kept : Event → List Mark → List Mark
+abbrev pub marks_kept : Event → List BroadcastMark → List BroadcastMark
 marks_kept event.Snapshot marks = []
 marks_kept other marks = marks
 
 -- the log after an event by which the world w became u
-abbrev pub marks_after : Event → Net → Net → List Mark → List Mark
+abbrev pub marks_after : Event → Net → Net → List BroadcastMark → List BroadcastMark
 marks_after what w u marks =
     marks_kept what marks
     ++ (option_to_list (option_map mark.Made (made_by what w)) ++ sent_marks (sent_by what w.packets u.packets))

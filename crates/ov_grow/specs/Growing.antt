@@ -2,7 +2,7 @@
 -- here.
 use Rattle.std.specs.Prelude.{◌≡◌, ◌⊎◌, ℕ, Bool, if◌then◌else◌, List, [], Some, None}
 use Rattle.ov_net.specs.World.{WorldState, opening_world}
-use Rattle.ov_grow.specs.Scripts.{opening}
+use Rattle.ov_script.specs.Scripts.{opening}
 use Rattle.ov_grow_options.specs.CommandLine.{command_line}
 use Rattle.ov_grow_options.specs.declared.options.GrowOptions.{GrowOptions}
 use Rattle.ov_grow.specs.Choices.{choices_of}
@@ -11,7 +11,7 @@ use Rattle.ov_grow.specs.Growth.{Growth}
 use Rattle.ov_grow.specs.Phases.{Join, Settle, CrashNodes, Heal}
 use Rattle.ov_grow.specs.declared.fault.GrowFault.{GrowFault}
 use Rattle.ov_grow.specs.declared.fault.GrowFault.TheVariants.{OutOfMemory}
-use Rattle.ov_grow.specs.declared.phase_moment_and_deliveries.Phase.{Phase}
+use Rattle.ov_grow.specs.declared.phase_moment_and_deliveries.PhaseEnd.{PhaseEnd}
 
 -- where growing begins: with the command as a comment, the parameters and the seed, and a world in which nothing
 -- happened. No log of broadcasts is kept
@@ -30,7 +30,7 @@ begins logged o = record (beginning o) { log = if logged then Some [] else None 
 -- from where b stands an overlay is grown with these options by the scenario of this text, which makes this world:
 -- nodes join, the overlay settles, nodes crash, and the overlay heals. There growing stands at s, t, v and u
 pub record GrowsFrom (b : Growth) (o : GrowOptions) (text : List ℕ) (world : WorldState)
-    (settled crashed healed : Phase) : Type 0
+    (settled crashed healed : PhaseEnd) : Type 0
   where
     pub s : Growth
     pub t : Growth
@@ -44,13 +44,13 @@ pub record GrowsFrom (b : Growth) (o : GrowOptions) (text : List ℕ) (world : W
     pub world_is : world ≡ u.world
 
 -- with these options an overlay is grown by the scenario of this text, which makes this world
-abbrev pub Grows : GrowOptions → List ℕ → WorldState → Phase → Phase → Phase → Type 0
+abbrev pub Grows : GrowOptions → List ℕ → WorldState → PhaseEnd → PhaseEnd → PhaseEnd → Type 0
 Grows o text world settled crashed healed = GrowsFrom (beginning o) o text world settled crashed healed
 
 -- no scenario grows an overlay with these options from where b stands
 abbrev pub CantBeGrownFrom : Growth → GrowOptions → Type 0
 CantBeGrownFrom b o =
-    (text : List ℕ) (world : WorldState) (settled crashed healed : Phase)
+    (text : List ℕ) (world : WorldState) (settled crashed healed : PhaseEnd)
     → ¬ GrowsFrom b o text world settled crashed healed
 
 -- no scenario grows an overlay with these options
@@ -75,7 +75,7 @@ IsGrowRefusal o fault = IsGrowRefusalFrom (beginning o) o fault
 abbrev pub OneGrowth : Type 0
 OneGrowth =
     (o : GrowOptions) (text other : List ℕ) (world beside : WorldState)
-    (settled crashed healed settles crashes heals : Phase)
+    (settled crashed healed settles crashes heals : PhaseEnd)
     → Grows o text world settled crashed healed → Grows o other beside settles crashes heals
     → (text ≡ other) × (world ≡ beside) × (settled ≡ settles) × (crashed ≡ crashes) × (healed ≡ heals)
 
@@ -83,6 +83,6 @@ OneGrowth =
 -- exactly if it is grown so when no log is kept
 abbrev pub LogChangesNothing : Type 0
 LogChangesNothing =
-    (logged : Bool) (o : GrowOptions) (text : List ℕ) (world : WorldState) (settled crashed healed : Phase)
+    (logged : Bool) (o : GrowOptions) (text : List ℕ) (world : WorldState) (settled crashed healed : PhaseEnd)
     → (GrowsFrom (begins logged o) o text world settled crashed healed → Grows o text world settled crashed healed)
     × (Grows o text world settled crashed healed → GrowsFrom (begins logged o) o text world settled crashed healed)

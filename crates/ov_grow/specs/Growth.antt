@@ -12,11 +12,11 @@ use Rattle.ov_scenario.specs.Scenarios.{IsScenario}
 use Rattle.ov_scenario.specs.declared.scenario.Line.{Line}
 use Rattle.ov_scenario.specs.declared.scenario.Line.TheVariants as line
 use Rattle.ov_scenario.specs.declared.scenario.Scenario.{Scenario}
-use Rattle.ov_grow.specs.Acts.{act_line, event_of}
+use Rattle.ov_script.specs.Acts.{act_line, event_of}
 use Rattle.ov_grow.specs.BroadcastLog.{marks_after}
-use Rattle.ov_grow.specs.WrittenLines.{ended}
-use Rattle.ov_grow.specs.declared.broadcast_log.Mark.{Mark}
-use Rattle.ov_grow.specs.declared.recordable_event.Act.{Act}
+use Rattle.ov_script.specs.WrittenLines.{ended}
+use Rattle.ov_grow.specs.declared.broadcast_log.BroadcastMark.{BroadcastMark}
+use Rattle.ov_script.specs.declared.recordable_event.Act.{Act}
 use Rattle.ov_grow.specs.Choices.{one_of, comes_true, after_chance, later}
 
 -- the scenario that was written so far, the world that it makes, the choices that are left, and what the log of
@@ -25,7 +25,7 @@ pub record Growth : Type 0 where
   pub text : List ℕ
   pub world : WorldState
   pub choices : Lcg
-  pub log : Option (List Mark)
+  pub log : Option (List BroadcastMark)
 
 -- the last line that the scenario of this text asks to run is this one
 abbrev pub AsksLast : List ℕ → Line → Type 0

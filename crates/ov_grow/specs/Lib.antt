@@ -2,9 +2,6 @@ pub mod Replay
 pub mod Alike
 pub mod Recordings
 pub mod Theorems
-pub mod Acts
-pub mod WrittenLines
-pub mod Scripts
 pub mod Faults
 pub mod Choices
 pub mod BroadcastLog
@@ -15,9 +12,5 @@ pub mod Broadcasts
 pub mod Phases
 pub mod Growing
 pub mod MessageCosts
-pub mod PhaseCosts
-pub mod Rows
-pub mod MessageRows
-pub mod Sweeps
-pub mod SweepFaults
+pub mod GrowingWithLog
 pub mod Code

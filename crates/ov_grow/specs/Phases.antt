@@ -14,13 +14,13 @@ use Rattle.ov_net.specs.declared.journal_entry_and_changes.Entry.{Entry}
 use Rattle.ov_grow_options.specs.declared.options.Crash.{Crash}
 use Rattle.ov_grow_options.specs.declared.options.Crash.TheVariants.{Share, Cut}
 use Rattle.ov_grow_options.specs.declared.options.GrowOptions.{GrowOptions}
-use Rattle.ov_grow.specs.WrittenLines.{analysis_line, comment_line}
-use Rattle.ov_grow.specs.declared.recordable_event.Act.TheVariants as act
+use Rattle.ov_script.specs.WrittenLines.{analysis_line, comment_line}
+use Rattle.ov_script.specs.declared.recordable_event.Act.TheVariants as act
 use Rattle.ov_grow.specs.Growth.{Growth, Does, Writes, Chooses, SomebodyLives}
 use Rattle.ov_grow.specs.Turns.{TurnsUpTo, RunOut}
 use Rattle.ov_grow.specs.Rounds.{AreLiveInOrder, DoesEach, Rounds}
 use Rattle.ov_grow.specs.Broadcasts.{Broadcasts}
-use Rattle.ov_grow.specs.declared.phase_moment_and_deliveries.Phase.{Phase}
+use Rattle.ov_grow.specs.declared.phase_moment_and_deliveries.PhaseEnd.{PhaseEnd}
 use Rattle.ov_grow.specs.declared.phase_rules.PhaseRules.{PhaseRules}
 
 -- how many of these entries tell that a node delivered a message
@@ -38,7 +38,7 @@ IsAnalysedAt moment s u =
 
 -- a phase ends: a snapshot is taken and analysed, and there are so many broadcasts. The deliveries of the phase are
 -- those after the snapshot
-abbrev pub EndsPhase : PhaseRules → ℕ → Growth → Phase → Growth → Type 0
+abbrev pub EndsPhase : PhaseRules → ℕ → Growth → PhaseEnd → Growth → Type 0
 EndsPhase rules broadcasts s phase u =
     (t : Growth)
     × IsAnalysedAt phase.moment s t
@@ -98,7 +98,7 @@ Join o s u =
     × RunOut (joining o) w u
 
 -- the overlay settles
-abbrev pub Settle : GrowOptions → Growth → Phase → Growth → Type 0
+abbrev pub Settle : GrowOptions → Growth → PhaseEnd → Growth → Type 0
 Settle o s phase u =
     (t : Growth) × (v : Growth)
     × Writes s (comment_line (codes "settle")) t
@@ -126,7 +126,7 @@ AreToCrash (Share share) settled s nodes u = AreShareOfLive share s nodes u
 AreToCrash Cut settled s nodes u = IsCutAt s.world.journal settled nodes × (u ≡ s)
 
 -- nodes crash
-abbrev pub CrashNodes : GrowOptions → ℕ → Growth → Phase → Growth → Type 0
+abbrev pub CrashNodes : GrowOptions → ℕ → Growth → PhaseEnd → Growth → Type 0
 CrashNodes o settled s phase u =
     (nodes : List ℕ) × (t : Growth) × (v : Growth) × (w : Growth)
     × Writes s (comment_line (codes "crash")) t
@@ -169,7 +169,7 @@ abbrev pub AreTold : Bool → PhaseRules → Growth → Growth → Type 0
 AreTold detect rules s u = MatchBool detect (u ≡ s) (ReportCrashes rules s u)
 
 -- the overlay heals
-abbrev pub Heal : GrowOptions → Growth → Phase → Growth → Type 0
+abbrev pub Heal : GrowOptions → Growth → PhaseEnd → Growth → Type 0
 Heal o s phase u =
     (t : Growth) × (v : Growth) × (w : Growth)
     × Writes s (comment_line (codes "heal")) t

@@ -4,8 +4,8 @@ use Rattle.std.specs.Prelude.{◌≡◌, ℕ, List, [], ◌∷◌, ◌++◌, Non
 use Rattle.ov_snap.specs.CoreState.{CoreState}
 use Rattle.ov_scenario.specs.declared.scenario.Line.{Line}
 use Rattle.ov_scenario.specs.declared.scenario.Subject.{Subject}
-use Rattle.ov_grow.specs.Scripts.{ScriptState}
-use Rattle.ov_grow.specs.WrittenLines.{ended}
+use Rattle.ov_script.specs.Scripts.{ScriptState}
+use Rattle.ov_script.specs.WrittenLines.{ended}
 
 -- the script, in which no room is counted, and the core
 pub record RecordingState : Type 0 where

@@ -1,8 +1,8 @@
 -- Rounds of shuffles. s is before, and u after. Chosen here.
 use Rattle.std.specs.Prelude.{◌≡◌, ℕ, zero, suc, List, [], ◌∷◌}
 use Rattle.rand_pcg.specs.Lcg.{Lcg}
-use Rattle.ov_grow.specs.declared.recordable_event.Act.{Act}
-use Rattle.ov_grow.specs.declared.recordable_event.Act.TheVariants as act
+use Rattle.ov_script.specs.declared.recordable_event.Act.{Act}
+use Rattle.ov_script.specs.declared.recordable_event.Act.TheVariants as act
 use Rattle.ov_grow.specs.Choices.{IsRandomOrder}
 use Rattle.ov_grow.specs.Growth.{Growth, Does, AreLive}
 use Rattle.ov_grow.specs.Turns.{RunOut}

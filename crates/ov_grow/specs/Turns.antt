@@ -4,7 +4,7 @@ use Rattle.ov_grow_options.specs.declared.options.Order.{Order}
 use Rattle.ov_grow_options.specs.declared.options.Order.TheVariants.{Random, Oldest}
 use Rattle.ov_wire.specs.declared.message.Message.{Message}
 use Rattle.ov_net.specs.Net.{IsGone}
-use Rattle.ov_grow.specs.declared.recordable_event.Act.TheVariants as act
+use Rattle.ov_script.specs.declared.recordable_event.Act.TheVariants as act
 use Rattle.ov_grow.specs.Growth.{Growth, Does, Chooses, Tries, IsLive}
 use Rattle.ov_grow.specs.declared.phase_rules.PhaseRules.{PhaseRules}
 

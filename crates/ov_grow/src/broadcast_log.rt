@@ -1,22 +1,22 @@
 ghost use Rattle.std.specs.Prelude.{◌≡◌, ◌++◌, [], Some, None, OnOk, IfOk, drop, length, option_map, if◌then◌else◌};
 ghost use Rattle.std.specs.Option.{option_to_list};
 ghost use Rattle.ov_net.specs.Net.{Net};
-ghost use Rattle.ov_grow.specs.Acts.{event_of};
+ghost use Rattle.ov_script.specs.Acts.{event_of};
 ghost use Rattle.ov_grow.specs.BroadcastLog.{made_by, mark_of, marks_after, marks_kept, sent_marks};
 ghost use Rattle.ov_grow.specs.Code.Logging.{first_new};
-ghost use Rattle.ov_grow.specs.declared.broadcast_log.Mark.TheVariants as told;
+ghost use Rattle.ov_grow.specs.declared.broadcast_log.BroadcastMark.TheVariants as told;
 
 use crate::core_recorded_as_script::Recording;
-use crate::recordable_event::Act;
 use ov_ids::{MsgId, OutOfMemory};
 use ov_lists::BlockList;
 use ov_net::Packet;
+use ov_script::Act;
 use ov_wire::Body;
 use std::alloc::Global;
 
 /// What the log of broadcasts tells.
 #[derive(Clone, Copy)]
-pub(crate) enum Mark {
+pub(crate) enum BroadcastMark {
     /// A broadcast was made.
     Made(MsgId),
     /// A node sent GOSSIP with this id.
@@ -33,7 +33,7 @@ pub(crate) enum Mark {
 #[derive(Drop)]
 pub(crate) struct BroadcastLog {
     pub(crate) kept: bool,
-    pub(crate) marks: Vec<Mark>,
+    pub(crate) marks: Vec<BroadcastMark>,
 }
 
 impl BroadcastLog {
@@ -75,7 +75,7 @@ impl BroadcastLog {
 }
 
 /// Empties the marks at a snapshot.
-fn forget(marks: &mut Vec<Mark>, act: &Act)
+fn forget(marks: &mut Vec<BroadcastMark>, act: &Act)
     ensures { marks.new.items ≡ marks_kept (event_of act.now) marks.old.items }
 {
     match act {
@@ -98,18 +98,18 @@ fn new_from(act: &Act, before: usize, after: usize) -> usize
 }
 
 /// Puts the mark of a broadcast that was made, if one was.
-fn push_made(marks: &mut Vec<Mark>, made: Option<MsgId>) -> Result<(), OutOfMemory>
+fn push_made(marks: &mut Vec<BroadcastMark>, made: Option<MsgId>) -> Result<(), OutOfMemory>
     ensures { OnOk result (marks.new.items ≡ marks.old.items ++ option_to_list (option_map told.Made made)) }
 {
     if let Some(id) = made {
-        marks.push(Mark::Made(id))?;
+        marks.push(BroadcastMark::Made(id))?;
     }
     Ok(())
 }
 
 /// Puts the marks of the packets from a place on.
 fn push_sent(
-    marks: &mut Vec<Mark>,
+    marks: &mut Vec<BroadcastMark>,
     alloc: Global,
     packets: &BlockList<Packet>,
     from: usize,
@@ -126,7 +126,7 @@ fn push_sent(
 }
 
 /// Puts a mark, if there is one.
-fn push_mark(marks: &mut Vec<Mark>, mark: Option<Mark>) -> Result<(), OutOfMemory>
+fn push_mark(marks: &mut Vec<BroadcastMark>, mark: Option<BroadcastMark>) -> Result<(), OutOfMemory>
     ensures { OnOk result (marks.new.items ≡ marks.old.items ++ option_to_list mark) }
 {
     if let Some(mark) = mark {
@@ -136,7 +136,7 @@ fn push_mark(marks: &mut Vec<Mark>, mark: Option<Mark>) -> Result<(), OutOfMemor
 }
 
 /// What the log tells of a packet that was sent. OutOfMemory (99) is returned if an allocation was refused.
-fn mark_of_packet(alloc: Global, packet: &Packet) -> Result<Option<Mark>, OutOfMemory>
+fn mark_of_packet(alloc: Global, packet: &Packet) -> Result<Option<BroadcastMark>, OutOfMemory>
     ensures { IfOk result (λ mark. mark ≡ mark_of packet.now.1.body) }
 {
     match ov_wire::decode(alloc, packet.bytes()) {
@@ -146,14 +146,14 @@ fn mark_of_packet(alloc: Global, packet: &Packet) -> Result<Option<Mark>, OutOfM
 }
 
 /// What the log tells of a message that says this.
-fn mark_in(body: &Body) -> Option<Mark>
+fn mark_in(body: &Body) -> Option<BroadcastMark>
     ensures { result ≡ mark_of body.now }
 {
     match body {
-        Body::Gossip { id, .. } => Some(Mark::Gossip(*id)),
-        Body::IHave { id } => Some(Mark::Ihave(*id)),
-        Body::Graft { id } => Some(Mark::Graft(*id)),
-        Body::Prune => Some(Mark::Prune),
+        Body::Gossip { id, .. } => Some(BroadcastMark::Gossip(*id)),
+        Body::IHave { id } => Some(BroadcastMark::Ihave(*id)),
+        Body::Graft { id } => Some(BroadcastMark::Graft(*id)),
+        Body::Prune => Some(BroadcastMark::Prune),
         Body::Join | Body::ForwardJoin { .. } | Body::Joined | Body::Neighbor { .. } => None,
         Body::NeighborReply { .. } | Body::Disconnect => None,
         Body::Shuffle { .. } | Body::ShuffleReply { .. } => None,

@@ -12,8 +12,8 @@ ghost use Rattle.ov_grow.specs.Code.Standing.{AllLive, Goes, IsNoWay, MayMake, g
 use crate::fault::GrowFault;
 use crate::growth_in_progress::Growing;
 use crate::phase_rules::PhaseRules;
-use crate::recordable_event::Act;
 use ov_ids::{MsgId, NodeId};
+use ov_script::Act;
 
 impl Growing {
     /// So many broadcasts, one by one or at once, until no packet is on its way and no timer of their messages runs.

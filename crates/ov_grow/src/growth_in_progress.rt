@@ -3,11 +3,11 @@ ghost use Rattle.std.specs.FinMap as map;
 ghost use Rattle.ov_net.specs.Limits.{most_packets};
 ghost use Rattle.ov_net.specs.Net.{IsGone};
 ghost use Rattle.ov_grow.specs.Replay.{Replays};
-ghost use Rattle.ov_grow.specs.WrittenLines.{comment_line};
+ghost use Rattle.ov_script.specs.WrittenLines.{comment_line};
 ghost use Rattle.ov_grow.specs.Growth.{AreLive, Does, IsLive, Writes};
 ghost use Rattle.ov_grow.specs.Growing.{begins};
 ghost use Rattle.ov_grow.specs.BroadcastLog.{made_by, next_id};
-ghost use Rattle.ov_grow.specs.Acts.{event_of};
+ghost use Rattle.ov_script.specs.Acts.{event_of};
 ghost use Rattle.ov_grow.specs.Code.Standing.{Goes, IsNoWay, IsRefusedAct, growth_of};
 ghost use Rattle.ov_grow.specs.declared.fault.GrowFault.TheVariants.{OutOfMemory as out_of_memory};
 
@@ -15,10 +15,10 @@ use crate::broadcast_log::BroadcastLog;
 use crate::core_recorded_as_script::{Recorded, Recording};
 use crate::fault::GrowFault;
 use crate::random_choices::Choices;
-use crate::recordable_event::Act;
 use ov_grow_options::GrowOptions;
 use ov_ids::{MsgId, NodeId, OutOfMemory};
 use ov_net::World;
+use ov_script::Act;
 use std::alloc::Global;
 
 /// An overlay that grows: the recording of its steps so far, the choices that are left, and the log of broadcasts, if

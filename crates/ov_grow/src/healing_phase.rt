@@ -12,12 +12,12 @@ ghost use Rattle.ov_grow.specs.Code.Standing.{TakeNoCrashed, TakesNoCrashed, gro
 
 use crate::fault::GrowFault;
 use crate::growth_in_progress::Growing;
-use crate::phase_moment_and_deliveries::Phase;
+use crate::phase_moment_and_deliveries::PhaseEnd;
 use crate::phase_rules::PhaseRules;
-use crate::recordable_event::Act;
 use ov_grow_options::GrowOptions;
 use ov_ids::NodeId;
 use ov_net::Change;
+use ov_script::Act;
 
 /// A live node that has a crashed node in its active view.
 #[derive(Clone, Copy)]
@@ -32,12 +32,12 @@ struct Found {
 
 impl Growing {
     /// The overlay heals. Some node must live.
-    pub(crate) fn heal(&mut self, options: &GrowOptions) -> Result<Phase, GrowFault>
+    pub(crate) fn heal(&mut self, options: &GrowOptions) -> Result<PhaseEnd, GrowFault>
         requires live { SomebodyLives (growth_of self.old) }
         requires made { HaveMade (most_rounds + most_rounds) (growth_of self.old) }
         ensures goes { IfOk result (λ phase. Goes (λ s u. Heal options.now s phase u) self.old self.new) }
         ensures answered { IfOk result (λ phase. IsAnswered self.new.recording.core phase.moment) }
-        ensures refused { IfErr result (IsNoWay (λ s u. (phase : Phase) × Heal options.now s phase u) self.old) }
+        ensures refused { IfErr result (IsNoWay (λ s u. (phase : PhaseEnd) × Heal options.now s phase u) self.old) }
         ensures full { IfErr result IsFull }
     {
         let rules = PhaseRules::healing(options);

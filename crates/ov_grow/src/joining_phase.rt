@@ -8,9 +8,9 @@ ghost use Rattle.ov_grow.specs.Code.Standing.{AreBorn, Goes, IsNoWay, growth_of}
 use crate::fault::GrowFault;
 use crate::growth_in_progress::Growing;
 use crate::phase_rules::PhaseRules;
-use crate::recordable_event::Act;
 use ov_grow_options::{GrowOptions, Pace};
 use ov_ids::NodeId;
+use ov_script::Act;
 
 /// The most turns between two births, if no other number is asked for. (Chosen here.)
 const MOST_TURNS: u32 = 1000;

@@ -1,32 +1,33 @@
 ghost use Rattle.std.specs.Prelude.{◌≡◌, ◌+◌, IfOk};
-ghost use Rattle.ov_grow.specs.Code.Counting.{one_more, reached_more, sent_of};
+ghost use Rattle.ov_grow.specs.MessageCosts.{sent_of};
+ghost use Rattle.ov_grow.specs.Code.Counting.{one_more, reached_more};
 
 use ov_ids::{MsgId, OutOfMemory};
 
 /// What a broadcast cost.
 #[derive(Clone, Copy)]
-pub(crate) struct MessageCost {
+pub struct MessageCost {
     /// The id of its message.
-    pub(crate) id: MsgId,
+    pub id: MsgId,
     /// How many nodes live.
-    pub(crate) live: u32,
+    pub live: u32,
     /// How many of them hold the message.
-    pub(crate) delivered: u32,
+    pub delivered: u32,
     /// The largest round with which one holds it.
-    pub(crate) hops: u32,
+    pub hops: u32,
     /// How many GOSSIP with its id were sent.
-    pub(crate) gossip: u32,
+    pub gossip: u32,
     /// How many IHAVE with its id.
-    pub(crate) ihave: u32,
+    pub ihave: u32,
     /// How many GRAFT with its id.
-    pub(crate) graft: u32,
+    pub graft: u32,
     /// How many PRUNE while no other broadcast was made.
-    pub(crate) prune: u32,
+    pub prune: u32,
 }
 
 impl MessageCost {
     /// How many messages of a kind were sent.
-    pub(crate) fn sent(&self, kind: CountedKind) -> u32
+    pub fn sent(&self, kind: CountedKind) -> u32
         ensures { result ≡ sent_of kind self.now }
     {
         match kind {
@@ -40,7 +41,7 @@ impl MessageCost {
 
 /// A kind of message that is counted.
 #[derive(Clone, Copy)]
-pub(crate) enum CountedKind {
+pub enum CountedKind {
     Gossip,
     Ihave,
     Graft,

@@ -2,9 +2,9 @@ ghost use Rattle.std.specs.Prelude.{◌≡◌, List, IfOk, None, map};
 ghost use Rattle.ov_grow.specs.MessageCosts.{AreCosts, cost_of, made_in, round_at};
 ghost use Rattle.ov_grow.specs.Code.Counting.{counted_all, no_counts, no_nodes, reached_all};
 ghost use Rattle.ov_grow.specs.Code.Standing.{growth_of};
-ghost use Rattle.ov_grow.specs.declared.broadcast_log.Mark.{Mark as Told};
+ghost use Rattle.ov_grow.specs.declared.broadcast_log.BroadcastMark.{BroadcastMark as Told};
 
-use crate::broadcast_log::Mark;
+use crate::broadcast_log::BroadcastMark;
 use crate::growth_in_progress::Growing;
 use crate::message_cost::{MessageCost, MessageCounts, NodesReached};
 use crate::message_counts::{counts_at, message_counts};
@@ -24,14 +24,18 @@ impl Growing {
     }
 
     /// What the broadcasts cost that these marks tell of, among these live nodes.
-    fn costs_told(&self, live: &[NodeId], marks: &[Mark]) -> Result<Vec<MessageCost>, OutOfMemory>
+    fn costs_told(
+        &self,
+        live: &[NodeId],
+        marks: &[BroadcastMark],
+    ) -> Result<Vec<MessageCost>, OutOfMemory>
         ensures { IfOk result (λ costs. costs.items
             ≡ map (cost_of self.now.recording.core.world.net live.now marks.now) (made_in marks.now)) }
     {
         let counts = message_counts(self.alloc, marks)?;
         let mut costs = Vec::new(self.alloc);
         for mark in marks {
-            if let Mark::Made(id) = mark {
+            if let BroadcastMark::Made(id) = mark {
                 costs.push(self.message_cost(live, *id, counts_at(&counts, id))?)?;
             }
         }

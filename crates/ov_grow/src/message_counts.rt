@@ -2,9 +2,9 @@ ghost use Rattle.std.specs.Prelude.{◌≡◌, OnOk, IfOk, None, if◌then◌els
 ghost use Rattle.ov_ids.specs.declared.id.MsgId.{MsgId as Id};
 ghost use Rattle.ov_grow.specs.MessageCosts.{same_id};
 ghost use Rattle.ov_grow.specs.Code.Counting.{counted, counted_all, counts_at, last_after, no_counts, one_more};
-ghost use Rattle.ov_grow.specs.declared.broadcast_log.Mark.TheVariants.{Prune as prune};
+ghost use Rattle.ov_grow.specs.declared.broadcast_log.BroadcastMark.TheVariants.{Prune as prune};
 
-use crate::broadcast_log::Mark;
+use crate::broadcast_log::BroadcastMark;
 use crate::message_cost::{CountedKind, MessageCounts};
 use ov_ids::{MsgId, OutOfMemory};
 use std::alloc::Global;
@@ -13,7 +13,7 @@ use std::collections::BTreeMap;
 /// How many messages these marks tell of for each broadcast.
 pub(crate) fn message_counts(
     alloc: Global,
-    marks: &[Mark],
+    marks: &[BroadcastMark],
 ) -> Result<BTreeMap<MsgId, MessageCounts>, OutOfMemory>
     ensures { IfOk result (λ counts. (id : Id) → counts_at counts id ≡ counted_all id None marks.now no_counts) }
 {
@@ -30,16 +30,16 @@ pub(crate) fn message_counts(
 fn count(
     counts: &mut BTreeMap<MsgId, MessageCounts>,
     last: &Option<MsgId>,
-    mark: Mark,
+    mark: BroadcastMark,
 ) -> Result<(), OutOfMemory>
     ensures { OnOk result ((id : Id) → counts_at counts.new id ≡ counted id last.now mark (counts_at counts.old id)) }
 {
     match mark {
-        Mark::Made(_) => Ok(()),
-        Mark::Gossip(id) => add(counts, &id, CountedKind::Gossip),
-        Mark::Ihave(id) => add(counts, &id, CountedKind::Ihave),
-        Mark::Graft(id) => add(counts, &id, CountedKind::Graft),
-        Mark::Prune => add_prune(counts, last),
+        BroadcastMark::Made(_) => Ok(()),
+        BroadcastMark::Gossip(id) => add(counts, &id, CountedKind::Gossip),
+        BroadcastMark::Ihave(id) => add(counts, &id, CountedKind::Ihave),
+        BroadcastMark::Graft(id) => add(counts, &id, CountedKind::Graft),
+        BroadcastMark::Prune => add_prune(counts, last),
     }
 }
 
@@ -81,11 +81,14 @@ pub(crate) fn counts_at(counts: &BTreeMap<MsgId, MessageCounts>, id: &MsgId) -> 
 }
 
 /// The last broadcast that was made, after a mark more.
-fn last_after(last: &Option<MsgId>, mark: &Mark) -> Option<MsgId>
+fn last_after(last: &Option<MsgId>, mark: &BroadcastMark) -> Option<MsgId>
     ensures { result ≡ last_after last.now mark.now }
 {
     match mark {
-        Mark::Made(id) => Some(*id),
-        Mark::Gossip(_) | Mark::Ihave(_) | Mark::Graft(_) | Mark::Prune => *last,
+        BroadcastMark::Made(id) => Some(*id),
+        BroadcastMark::Gossip(_)
+        | BroadcastMark::Ihave(_)
+        | BroadcastMark::Graft(_)
+        | BroadcastMark::Prune => *last,
     }
 }

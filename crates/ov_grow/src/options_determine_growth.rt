@@ -1,6 +1,4 @@
 ghost use Rattle.ov_grow.specs.Growing.{LogChangesNothing, OneGrowth};
-ghost use Rattle.ov_grow.specs.MessageRows.{OneMessages};
-ghost use Rattle.ov_grow.specs.Rows.{OneRow};
 
 /// The options alone decide what is grown: the text, the world and the phases.
 pub fn one_growth()
@@ -11,14 +9,4 @@ pub fn one_growth()
 /// keeps none.
 pub fn log_changes_nothing()
     ensures { LogChangesNothing }
-{}
-
-/// For given measures the options alone decide the row.
-pub fn one_row()
-    ensures { OneRow }
-{}
-
-/// The options alone decide the rows of broadcasts.
-pub fn one_messages()
-    ensures { OneMessages }
 {}

@@ -5,8 +5,8 @@ ghost use Rattle.ov_grow.specs.Replay.{Replays};
 ghost use Rattle.ov_grow.specs.Growing.{Grows, IsGrowRefusal};
 
 use crate::fault::GrowFault;
-use crate::logged_overlay_growing::grow_logged;
-use crate::phase_moment_and_deliveries::Phase;
+use crate::growing_with_broadcast_log::grow_logged;
+use crate::phase_moment_and_deliveries::PhaseEnd;
 use ov_grow_options::GrowOptions;
 use ov_snap::Core;
 use std::alloc::Global;
@@ -18,11 +18,11 @@ pub struct Grown {
     /// The core that the scenario makes.
     pub core: Core,
     /// How the phase ended in which the overlay settled.
-    pub settled: Phase,
+    pub settled: PhaseEnd,
     /// How the phase ended in which nodes crashed.
-    pub crashed: Phase,
+    pub crashed: PhaseEnd,
     /// How the phase ended in which the overlay healed.
-    pub healed: Phase,
+    pub healed: PhaseEnd,
 }
 
 impl Drop for Grown {

@@ -7,10 +7,10 @@ ghost use Rattle.ov_grow.specs.Code.Standing.{Fails, Goes, IsNoWay, IsTold, MayB
 use crate::fault::GrowFault;
 use crate::growth_in_progress::Growing;
 use crate::phase_rules::PhaseRules;
-use crate::recordable_event::Act;
 use ov_grow_options::Order;
 use ov_ids::{NodeId, OutOfMemory};
 use ov_net::Packet;
+use ov_script::Act;
 use std::alloc::Global;
 
 impl Growing {

@@ -1,6 +1,6 @@
 ghost use Rattle.std.specs.Prelude.{◌≡◌, ◌≤◌, ◌⊎◌, ℕ, drop, length, IfErr, IfOk, OnOk};
-ghost use Rattle.ov_grow.specs.WrittenLines.{analysis_line};
-ghost use Rattle.ov_grow.specs.declared.recordable_event.Act.TheVariants as act;
+ghost use Rattle.ov_script.specs.WrittenLines.{analysis_line};
+ghost use Rattle.ov_script.specs.declared.recordable_event.Act.TheVariants as act;
 ghost use Rattle.ov_grow.specs.Faults.{IsFull};
 ghost use Rattle.ov_grow.specs.Growth.{Does, SomebodyLives, Writes};
 ghost use Rattle.ov_grow.specs.Phases.{EndsPhase, IsAnalysedAt, deliveries_in};
@@ -9,9 +9,9 @@ ghost use Rattle.ov_grow.specs.declared.fault.GrowFault.TheVariants.{OutOfMemory
 
 use crate::fault::GrowFault;
 use crate::growth_in_progress::Growing;
-use crate::phase_moment_and_deliveries::Phase;
+use crate::phase_moment_and_deliveries::PhaseEnd;
 use crate::phase_rules::PhaseRules;
-use crate::recordable_event::Act;
+use ov_script::Act;
 
 impl Growing {
     /// A phase ends: a snapshot is taken and analysed, and then there are so many broadcasts. Some node must live.
@@ -19,20 +19,20 @@ impl Growing {
         &mut self,
         broadcasts: u32,
         rules: &PhaseRules,
-    ) -> Result<Phase, GrowFault>
+    ) -> Result<PhaseEnd, GrowFault>
         requires live { SomebodyLives (growth_of self.old) }
         requires made { MayMake broadcasts (growth_of self.old) }
         ensures ends { IfOk result (λ phase. Goes (λ s u. EndsPhase rules.now broadcasts s phase u) self.old self.new) }
         ensures answered { IfOk result (λ phase. IsAnswered self.new.recording.core phase.moment) }
         ensures lasting { IfOk result (λ phase. StillLive phase.moment (growth_of self.new)) }
         ensures refused { IfErr result
-            (IsNoWay (λ s u. (phase : Phase) × EndsPhase rules.now broadcasts s phase u) self.old) }
+            (IsNoWay (λ s u. (phase : PhaseEnd) × EndsPhase rules.now broadcasts s phase u) self.old) }
         ensures full { IfErr result IsFull }
     {
         let moment = self.analyse_now()?;
         self.broadcasts(broadcasts, rules)?;
         let deliveries = self.deliveries_after(moment);
-        Ok(Phase { moment, deliveries })
+        Ok(PhaseEnd { moment, deliveries })
     }
 
     /// Takes a snapshot and analyses it. The moment is returned. Some node must live.

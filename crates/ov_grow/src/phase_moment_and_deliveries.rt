@@ -1,6 +1,6 @@
 /// How a phase ended.
 #[derive(Clone, Copy, Debug, PartialEq, Eq)]
-pub struct Phase {
+pub struct PhaseEnd {
     /// The moment of the snapshot, of which a report is filed.
     pub moment: u32,
     /// How many deliveries there were after it.

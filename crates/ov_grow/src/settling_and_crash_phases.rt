@@ -1,5 +1,5 @@
 ghost use Rattle.std.specs.Prelude.{◌+◌, IfErr, IfOk, OnOk};
-ghost use Rattle.ov_grow.specs.declared.recordable_event.Act.TheVariants as act;
+ghost use Rattle.ov_script.specs.declared.recordable_event.Act.TheVariants as act;
 ghost use Rattle.ov_grow_options.specs.Limits.{most_rounds};
 ghost use Rattle.ov_grow.specs.Faults.{IsFull};
 ghost use Rattle.ov_grow.specs.Growth.{SomebodyLives};
@@ -9,16 +9,16 @@ ghost use Rattle.ov_grow.specs.Code.Standing.{Goes, HaveMade, IsAnswered, IsNoWa
 
 use crate::fault::GrowFault;
 use crate::growth_in_progress::Growing;
-use crate::phase_moment_and_deliveries::Phase;
+use crate::phase_moment_and_deliveries::PhaseEnd;
 use crate::phase_rules::PhaseRules;
-use crate::recordable_event::Act;
 use ov_cert::Cert;
 use ov_grow_options::{Crash, GrowOptions, Share};
 use ov_ids::{NodeId, OutOfMemory};
+use ov_script::Act;
 
 impl Growing {
     /// The overlay settles. Some node must live, and none may have made a broadcast.
-    pub(crate) fn settle(&mut self, options: &GrowOptions) -> Result<Phase, GrowFault>
+    pub(crate) fn settle(&mut self, options: &GrowOptions) -> Result<PhaseEnd, GrowFault>
         requires live { SomebodyLives (growth_of self.old) }
         requires made { HaveMade 0 (growth_of self.old) }
         ensures goes { IfOk result (λ phase. Goes (λ s u. Settle options.now s phase u) self.old self.new) }
@@ -26,7 +26,7 @@ impl Growing {
         ensures live { OnOk result (SomebodyLives (growth_of self.new)) }
         ensures made { OnOk result (HaveMade most_rounds (growth_of self.new)) }
         ensures lasting { IfOk result (λ phase. StillLive phase.moment (growth_of self.new)) }
-        ensures refused { IfErr result (IsNoWay (λ s u. (phase : Phase) × Settle options.now s phase u) self.old) }
+        ensures refused { IfErr result (IsNoWay (λ s u. (phase : PhaseEnd) × Settle options.now s phase u) self.old) }
         ensures full { IfErr result IsFull }
     {
         let rules = PhaseRules::settling(options);
@@ -37,7 +37,11 @@ impl Growing {
 
     /// Nodes crash. A report of the moment at which the overlay had settled must be filed, and who lived then must
     /// live.
-    pub(crate) fn crash(&mut self, settled: u32, options: &GrowOptions) -> Result<Phase, GrowFault>
+    pub(crate) fn crash(
+        &mut self,
+        settled: u32,
+        options: &GrowOptions,
+    ) -> Result<PhaseEnd, GrowFault>
         requires answered { IsAnswered self.old.recording.core settled }
         requires live { SomebodyLives (growth_of self.old) }
         requires made { HaveMade most_rounds (growth_of self.old) }
@@ -47,7 +51,7 @@ impl Growing {
         ensures live { OnOk result (SomebodyLives (growth_of self.new)) }
         ensures made { OnOk result (HaveMade (most_rounds + most_rounds) (growth_of self.new)) }
         ensures refused { IfErr result
-            (IsNoWay (λ s u. (phase : Phase) × CrashNodes options.now settled s phase u) self.old) }
+            (IsNoWay (λ s u. (phase : PhaseEnd) × CrashNodes options.now settled s phase u) self.old) }
         ensures full { IfErr result IsFull }
     {
         let rules = PhaseRules::crashing(options);

@@ -1,5 +1,5 @@
 ghost use Rattle.std.specs.Prelude.{IfErr, IfOk, OnOk};
-ghost use Rattle.ov_grow.specs.declared.recordable_event.Act.TheVariants as act;
+ghost use Rattle.ov_script.specs.declared.recordable_event.Act.TheVariants as act;
 ghost use Rattle.ov_grow.specs.Faults.{IsFull};
 ghost use Rattle.ov_grow.specs.Rounds.{AreLiveInOrder, DoesEach, Round, Rounds};
 ghost use Rattle.ov_grow.specs.Code.Standing.{AllLive, Goes, IsNoWay, growth_of};
@@ -7,8 +7,8 @@ ghost use Rattle.ov_grow.specs.Code.Standing.{AllLive, Goes, IsNoWay, growth_of}
 use crate::fault::GrowFault;
 use crate::growth_in_progress::Growing;
 use crate::phase_rules::PhaseRules;
-use crate::recordable_event::Act;
 use ov_ids::{NodeId, OutOfMemory};
+use ov_script::Act;
 
 impl Growing {
     /// So many rounds of shuffles.

@@ -6,10 +6,10 @@ use Rattle.ov_grow_options.specs.declared.options.GrowOptions.{GrowOptions}
 use Rattle.ov_net.proofs.Steps.Places.{at_has}
 use Rattle.ov_sweep_rows.specs.declared.costs_and_shape.Measures.{Measures}
 use Rattle.ov_sweep_rows.specs.declared.row.Row.{Row}
-use Rattle.ov_grow.specs.Rows.{IsRowOf}
-use Rattle.ov_grow.specs.Sweeps.{AreFirstRowsOf, EndsWith, IsSweepOf, WereTaken}
-use Rattle.ov_grow.specs.declared.sweep_fault.SweepFault.{SweepFault}
-use Rattle.ov_grow.specs.declared.sweep_fault.SweepFault.TheVariants.{Run, Write, OutOfMemory}
+use Rattle.ov_sweep.specs.Rows.{IsRowOf}
+use Rattle.ov_sweep.specs.Sweeps.{AreFirstRowsOf, EndsWith, IsSweepOf, WereTaken}
+use Rattle.ov_sweep.specs.declared.sweep_fault.SweepFault.{SweepFault}
+use Rattle.ov_sweep.specs.declared.sweep_fault.SweepFault.TheVariants.{Run, Write, OutOfMemory}
 use Rattle.ov_grow_commands.specs.KeptRows.{AreGrown, needs_rows}
 use Rattle.ov_grow_commands.specs.Code.Keeping.{kept_rows}
 

@@ -1,8 +1,8 @@
 -- The faults of `overlay grow` and `overlay sweep`.
 use Rattle.std.specs.Prelude.{ℕ}
 use Rattle.ov_grow.specs.Faults.{number_of}
-use Rattle.ov_grow.specs.declared.sweep_fault.SweepFault.{SweepFault}
-use Rattle.ov_grow.specs.declared.sweep_fault.SweepFault.TheVariants as sweep
+use Rattle.ov_sweep.specs.declared.sweep_fault.SweepFault.{SweepFault}
+use Rattle.ov_sweep.specs.declared.sweep_fault.SweepFault.TheVariants as sweep
 use Rattle.ov_sweep_rows.specs.declared.row_fault.RowFault.{RowFault}
 use Rattle.ov_sweep_rows.specs.declared.row_fault.RowFault.TheVariants as row
 use Rattle.ov_grow_commands.specs.declared.grow_command_fault.GrowCommandFault.{GrowCommandFault}

@@ -3,7 +3,7 @@ use Rattle.std.specs.Prelude.{◌≡◌, ℕ, List, [], ◌∷◌, ◌++◌, Opt
 use Rattle.std.specs.Io.KnownBytes.{Appends}
 use Rattle.ov_grow_options.specs.declared.options.GrowOptions.{GrowOptions}
 use Rattle.ov_grow.specs.Growing.{Grows, IsGrowRefusal}
-use Rattle.ov_grow.specs.declared.phase_moment_and_deliveries.Phase.{Phase}
+use Rattle.ov_grow.specs.declared.phase_moment_and_deliveries.PhaseEnd.{PhaseEnd}
 use Rattle.ov_io.specs.Device.{AppendsPrefixOf}
 use Rattle.ov_grow.specs.Replay.{Replays}
 use Rattle.ov_snap.specs.CoreState.{CoreState}
@@ -13,9 +13,9 @@ use Rattle.ov_grow_commands.specs.declared.grow_command_fault.GrowCommandFault.T
 -- with these options an overlay is grown by the scenario of this text, which replays its core
 pub record IsGrownBy (o : GrowOptions) (text : List ℕ) : Type 0 where
   pub core : CoreState
-  pub settled : Phase
-  pub crashed : Phase
-  pub healed : Phase
+  pub settled : PhaseEnd
+  pub crashed : PhaseEnd
+  pub healed : PhaseEnd
   pub grows : Grows o text core.world settled crashed healed
   pub replays : Replays text core
 

@@ -4,7 +4,7 @@ use Rattle.ov_arguments.specs.declared.sweep_request.Printed.{Printed}
 use Rattle.ov_arguments.specs.declared.sweep_request.Printed.TheVariants.{Answer, Summary}
 use Rattle.ov_arguments.specs.declared.sweep_request.SweepRequest.{SweepRequest}
 use Rattle.ov_ids.specs.Members.{Has}
-use Rattle.ov_grow.specs.Rows.{IsRowOf}
+use Rattle.ov_sweep.specs.Rows.{IsRowOf}
 use Rattle.ov_sweep_rows.specs.declared.costs_and_shape.Measures.{Measures}
 use Rattle.ov_sweep_rows.specs.declared.row.Row.{Row}
 

@@ -4,9 +4,10 @@ ghost use Rattle.ov_grow_commands.specs.declared.grow_command_fault.GrowCommandF
 ghost use Rattle.ov_grow_commands.specs.declared.grow_command_fault.GrowCommandFault.TheVariants.{Growing};
 ghost use Rattle.ov_grow_commands.specs.declared.grow_command_fault.GrowCommandFault.TheVariants.{Write as write_failed};
 
-use ov_grow::{GrowFault, SweepFault};
+use ov_grow::GrowFault;
 use ov_ids::OutOfMemory;
 use ov_io::WriteFault;
+use ov_sweep::SweepFault;
 use std::alloc::{AllocError, AllocFailed};
 use std::fmt::{Display, Formatter, Result as Printed, Write};
 

@@ -1,13 +1,13 @@
 ghost use Rattle.std.specs.Prelude.{◌≡◌, ◌<◌, [], IfErr, OnOk};
 ghost use Rattle.ov_io.specs.Device.{most_faults};
-ghost use Rattle.ov_grow.specs.Sweeps.{WereGiven};
+ghost use Rattle.ov_sweep.specs.Sweeps.{WereGiven};
 ghost use Rattle.ov_grow_commands.specs.KeptRows.{asked_measures, needs_rows};
 ghost use Rattle.ov_grow_commands.specs.Code.Keeping.{IsOfNoRun, kept_rows};
 
 use crate::sweep_progress::RunProgress;
 use ov_arguments::{Printed, SweepRequest};
-use ov_grow::{RowTaker, SweepFault};
 use ov_io::Sink;
+use ov_sweep::{RowTaker, SweepFault};
 use ov_sweep_rows::{Measures, Row, RowForm, header_text, row_text};
 use std::alloc::Global;
 use std::io::Write;

@@ -6,11 +6,10 @@ use Rattle.ov_ids.specs.declared.id.MsgId.{MsgId}
 use Rattle.ov_plum.specs.Ids.{id_cmp}
 use Rattle.ov_net.specs.Net.{Net}
 use Rattle.ov_grow.specs.MessageCosts.{is_gossip, is_graft, is_ihave, round_at, same_id}
-use Rattle.ov_grow.specs.declared.broadcast_log.Mark.{Mark}
-use Rattle.ov_grow.specs.declared.broadcast_log.Mark.TheVariants.{Made, Prune}
+use Rattle.ov_grow.specs.declared.broadcast_log.BroadcastMark.{BroadcastMark}
+use Rattle.ov_grow.specs.declared.broadcast_log.BroadcastMark.TheVariants.{Made, Prune}
 use Rattle.ov_grow.specs.declared.message_cost.CountedKind.{CountedKind}
 use Rattle.ov_grow.specs.declared.message_cost.CountedKind.TheVariants as kind
-use Rattle.ov_grow.specs.declared.message_cost.MessageCost.{MessageCost}
 use Rattle.ov_grow.specs.declared.message_cost.MessageCounts.{MessageCounts}
 use Rattle.ov_grow.specs.declared.message_cost.NodesReached.{NodesReached}
 
@@ -28,7 +27,7 @@ is_last None id = false
 is_last (Some last) id = same_id last id
 
 -- the last broadcast that was made, after a mark more
-abbrev pub last_after : Option MsgId → Mark → Option MsgId
+abbrev pub last_after : Option MsgId → BroadcastMark → Option MsgId
 last_after last (Made id) = Some id
 last_after last other = last
 
@@ -44,12 +43,12 @@ abbrev pub once : Bool → ℕ
 once so = if so then 1 else 0
 
 -- whether a mark tells of PRUNE while the broadcast with this id is the last one that was made
-abbrev pub is_prune_of : MsgId → Option MsgId → Mark → Bool
+abbrev pub is_prune_of : MsgId → Option MsgId → BroadcastMark → Bool
 is_prune_of id last Prune = is_last last id
 is_prune_of id last other = false
 
 -- what was counted of the broadcast with this id, after a mark more
-abbrev pub counted : MsgId → Option MsgId → Mark → MessageCounts → MessageCounts
+abbrev pub counted : MsgId → Option MsgId → BroadcastMark → MessageCounts → MessageCounts
 counted id last mark c = record {
   gossip = c.gossip + once (is_gossip id mark);
   ihave = c.ihave + once (is_ihave id mark);
@@ -58,7 +57,7 @@ counted id last mark c = record {
 }
 
 -- the same after all these marks
-abbrev pub counted_all : MsgId → Option MsgId → List Mark → MessageCounts → MessageCounts
+abbrev pub counted_all : MsgId → Option MsgId → List BroadcastMark → MessageCounts → MessageCounts
 counted_all id last [] c = c
 counted_all id last (mark ∷ more) c = counted_all id (last_after last mark) more (counted id last mark c)
 
@@ -78,10 +77,3 @@ reached_more round r = record {
 abbrev pub reached_all : Net → MsgId → List ℕ → NodesReached → NodesReached
 reached_all w id [] r = r
 reached_all w id (node ∷ more) r = reached_all w id more (reached_more (round_at w node id) r)
-
--- how many messages of a kind a broadcast cost
-abbrev pub sent_of : CountedKind → MessageCost → ℕ
-sent_of kind.Gossip c = c.gossip
-sent_of kind.Ihave c = c.ihave
-sent_of kind.Graft c = c.graft
-sent_of kind.Prune c = c.prune

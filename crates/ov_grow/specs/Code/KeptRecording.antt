@@ -3,8 +3,8 @@ use Rattle.std.specs.Prelude.{refl}
 use Rattle.std.specs.Coded.{Coded, code_by, coded×}
 use Rattle.ov_snap.specs.CoreState.{CoreState, opening_core}
 use Rattle.ov_snap.specs.Code.Codes.{core_code}
-use Rattle.ov_grow.specs.Scripts.{ScriptState}
-use Rattle.ov_grow.specs.contracts.scenario_written_line_by_line.Script as script
+use Rattle.ov_script.specs.Scripts.{ScriptState}
+use Rattle.ov_script.specs.contracts.scenario_written_line_by_line.Script as script
 use Rattle.ov_grow.specs.Recordings.{RecordingState, without_room}
 use Rattle.ov_grow.specs.Replay.{AcceptsAll}
 

@@ -3,10 +3,10 @@ use Rattle.std.specs.Prelude.{ℕ, ◌-◌, if◌then◌else◌, List, Option, S
 use Rattle.ov_net.specs.declared.event.Event.{Event}
 use Rattle.ov_net.specs.declared.event.Event.TheVariants as event
 use Rattle.ov_grow.specs.declared.broadcast_log.BroadcastLog.{BroadcastLog}
-use Rattle.ov_grow.specs.declared.broadcast_log.Mark.{Mark}
+use Rattle.ov_grow.specs.declared.broadcast_log.BroadcastMark.{BroadcastMark}
 
 -- the log, if one is kept
-abbrev pub log_of : BroadcastLog → Option (List Mark)
+abbrev pub log_of : BroadcastLog → Option (List BroadcastMark)
 log_of l = if l.kept then Some l.marks.items else None
 
 -- the place of the first packet that was sent by an event, if so many were on their way before it, and so many after it

@@ -20,10 +20,10 @@ use Rattle.ov_snap.specs.ReportState.{ReportState}
 use Rattle.ov_snap.specs.Snapshots.{IsMoment}
 use Rattle.ov_run_meaning.specs.Subjects.{IsReported}
 use Rattle.ov_grow.specs.Recordings.{all_of}
-use Rattle.ov_grow.specs.Acts.{event_of}
+use Rattle.ov_script.specs.Acts.{event_of}
 use Rattle.ov_grow.specs.Code.Logging.{log_of}
-use Rattle.ov_grow.specs.declared.recordable_event.Act.{Act}
-use Rattle.ov_grow.specs.declared.recordable_event.Act.TheVariants as act
+use Rattle.ov_script.specs.declared.recordable_event.Act.{Act}
+use Rattle.ov_script.specs.declared.recordable_event.Act.TheVariants as act
 use Rattle.ov_grow.specs.Faults.{of_event}
 use Rattle.ov_grow.specs.Growth.{Growth, Does, IsLive}
 use Rattle.ov_grow.specs.Phases.{IsCrashedNeighbour}

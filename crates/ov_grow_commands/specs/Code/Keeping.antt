@@ -2,8 +2,8 @@
 use Rattle.std.specs.Prelude.{◌≡◌, ◌⊎◌, List, Option, Some, None, if◌then◌else◌}
 use Rattle.ov_arguments.specs.declared.sweep_request.SweepRequest.{SweepRequest}
 use Rattle.ov_grow_commands.specs.KeptRows.{needs_rows}
-use Rattle.ov_grow.specs.declared.sweep_fault.SweepFault.{SweepFault}
-use Rattle.ov_grow.specs.declared.sweep_fault.SweepFault.TheVariants.{Write, OutOfMemory}
+use Rattle.ov_sweep.specs.declared.sweep_fault.SweepFault.{SweepFault}
+use Rattle.ov_sweep.specs.declared.sweep_fault.SweepFault.TheVariants.{Write, OutOfMemory}
 use Rattle.ov_sweep_rows.specs.declared.row.Row.{Row}
 
 -- the rows that were given, if they are needed at the end and so were kept

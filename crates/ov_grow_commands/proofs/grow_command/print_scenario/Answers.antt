@@ -5,7 +5,7 @@ use Rattle.std.specs.Io.KnownBytes.{Appends}
 use Rattle.ov_io.specs.Device.{AppendsPrefixOf}
 use Rattle.ov_grow_options.specs.declared.options.GrowOptions.{GrowOptions}
 use Rattle.ov_grow.specs.Growing.{Grows}
-use Rattle.ov_grow.specs.declared.phase_moment_and_deliveries.Phase.{Phase}
+use Rattle.ov_grow.specs.declared.phase_moment_and_deliveries.PhaseEnd.{PhaseEnd}
 use Rattle.ov_grow.specs.Replay.{Replays}
 use Rattle.ov_snap.specs.CoreState.{CoreState}
 use Rattle.ov_grow_commands.specs.Growing.{IsGrownBy, WasPrinted}
@@ -13,7 +13,7 @@ use Rattle.ov_grow_commands.specs.declared.grow_command_fault.GrowCommandFault.{
 use Rattle.ov_grow_commands.proofs.grow_command.print_scenario.Goals as goal
 
 -- what was grown is grown by its text
-is_grown : (o : GrowOptions) (text : List ℕ) (core : CoreState) (settled crashed healed : Phase)
+is_grown : (o : GrowOptions) (text : List ℕ) (core : CoreState) (settled crashed healed : PhaseEnd)
     → Grows o text core.world settled crashed healed → Replays text core → IsGrownBy o text
 is_grown o text core settled crashed healed grows replays = record {
   core = core;

@@ -3,7 +3,7 @@ use Rattle.std.proofs.Common.{List, ℕ, subst}
 use Rattle.ov_net.specs.declared.event.Event.{Event}
 use Rattle.ov_scenario.specs.declared.scenario.Line.TheVariants as line
 use Rattle.ov_snap.specs.Run.{Happened}
-use Rattle.ov_grow.specs.Acts.{event_of}
+use Rattle.ov_script.specs.Acts.{event_of}
 use Rattle.ov_grow.proofs.MakingCores.{made_more, made_room}
 use Rattle.ov_grow.proofs.core_recorded_as_script.Recording.act.Goals as goal
 

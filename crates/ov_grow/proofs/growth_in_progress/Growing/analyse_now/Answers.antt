@@ -1,5 +1,5 @@
 use Rattle.std.proofs.Common.{ℕ}
-use Rattle.ov_grow.specs.WrittenLines.{analysis_line}
+use Rattle.ov_script.specs.WrittenLines.{analysis_line}
 use Rattle.ov_grow.specs.Phases.{IsAnalysedAt}
 use Rattle.ov_grow.specs.Code.Standing.{IsNoWay, growth_of}
 use Rattle.ov_grow.proofs.Analysing.{lived_before}

@@ -1,6 +1,6 @@
 use Rattle.std.proofs.Common.{◌≡◌, ◌<◌, ◌≤◌, ◌+◌, ◌-◌, ◌∙◌, suc, Some, refl, sym, arith, subst}
 use Rattle.ov_net.specs.Limits.{most_world_nodes}
-use Rattle.ov_grow.specs.declared.recordable_event.Act.TheVariants as act
+use Rattle.ov_script.specs.declared.recordable_event.Act.TheVariants as act
 use Rattle.ov_grow.specs.Growth.{Does}
 use Rattle.ov_grow.specs.Turns.{TurnsUpTo}
 use Rattle.ov_grow.specs.Phases.{Births}

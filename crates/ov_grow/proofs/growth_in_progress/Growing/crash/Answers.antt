@@ -3,7 +3,7 @@ use Rattle.std.proofs.lemmas.Result.{IfErr-weaker, IfOk-weaker}
 use Rattle.ov_grow.specs.Phases.{CrashNodes, EndsPhase}
 use Rattle.ov_grow.specs.Code.Standing.{Goes, HaveMade, IsNoWay, MayCrash, StillLive, growth_of}
 use Rattle.ov_grow.specs.declared.fault.GrowFault.TheVariants.{OutOfMemory}
-use Rattle.ov_grow.specs.declared.phase_moment_and_deliveries.Phase.{Phase}
+use Rattle.ov_grow.specs.declared.phase_moment_and_deliveries.PhaseEnd.{PhaseEnd}
 use Rattle.ov_grow.proofs.Analysing.{answered_kept}
 use Rattle.ov_grow.proofs.Going.{passes_on}
 use Rattle.ov_grow.proofs.NoPhase.{no_way_crash, no_way_crashed}
@@ -24,19 +24,19 @@ to_crash-requires-clause-answered c = answered_kept c.args.self.now.recording.co
 
 pub returns-in_err-comment-clause-refused : goal.returns-in_err-comment-clause-refused
 returns-in_err-comment-clause-refused c =
-    passes_on (IsNoWay (λ s u. (phase : Phase) × CrashNodes c.args.options.now c.args.settled s phase u)
+    passes_on (IsNoWay (λ s u. (phase : PhaseEnd) × CrashNodes c.args.options.now c.args.settled s phase u)
     c.args.self.now) c.from_residual.result c.in_err-comment.field-0.0
     c.from_residual.ensures.1 (inl c.in_err-comment.ensures.refused)
 
 pub returns-in_err-nodes-clause-refused : goal.returns-in_err-nodes-clause-refused
 returns-in_err-nodes-clause-refused c =
-    passes_on (IsNoWay (λ s u. (phase : Phase) × CrashNodes c.args.options.now c.args.settled s phase u)
+    passes_on (IsNoWay (λ s u. (phase : PhaseEnd) × CrashNodes c.args.options.now c.args.settled s phase u)
     c.args.self.now) c.from_residual-in_err-nodes.result OutOfMemory c.from_residual-in_err-nodes.ensures.1 (inl refl)
 
 pub returns-in_err-crash_each-clause-refused : goal.returns-in_err-crash_each-clause-refused
 returns-in_err-crash_each-clause-refused c =
     let fault = c.in_err-crash_each.field-0.0 in
-    passes_on (IsNoWay (λ s u. (phase : Phase) × CrashNodes c.args.options.now c.args.settled s phase u)
+    passes_on (IsNoWay (λ s u. (phase : PhaseEnd) × CrashNodes c.args.options.now c.args.settled s phase u)
     c.args.self.now) c.from_residual-in_err-crash_each.result fault c.from_residual-in_err-crash_each.ensures.1
     (no_way_crash c.args.options.now c.args.settled c.in_ok-nodes.nodes.items c.deref.result.now c.args.self.now
     c.comment.new.self c.to_crash.new.self fault c.deref.ensures.value c.in_ok-comment.ensures.goes

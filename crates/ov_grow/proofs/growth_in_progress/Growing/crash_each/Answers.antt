@@ -1,5 +1,5 @@
 use Rattle.std.proofs.Common.{◌≡◌, ◌<◌, ◌≤◌, ◌+◌, length, drop, get_or, arith}
-use Rattle.ov_grow.specs.declared.recordable_event.Act.TheVariants as act
+use Rattle.ov_script.specs.declared.recordable_event.Act.TheVariants as act
 use Rattle.ov_grow.specs.Growth.{Does}
 use Rattle.ov_grow.specs.Rounds.{DoesEach}
 use Rattle.ov_grow.specs.Code.Standing.{AllLive, IsNoWay, growth_of}

@@ -1,7 +1,7 @@
 use Rattle.std.proofs.Common.{arith}
 use Rattle.ov_grow.specs.Phases.{EndsPhase}
 use Rattle.ov_grow.specs.Code.Standing.{IsNoWay, growth_of}
-use Rattle.ov_grow.specs.declared.phase_moment_and_deliveries.Phase.{Phase}
+use Rattle.ov_grow.specs.declared.phase_moment_and_deliveries.PhaseEnd.{PhaseEnd}
 use Rattle.ov_grow.proofs.Analysing.{answered_kept}
 use Rattle.ov_grow.proofs.Going.{passes_on}
 use Rattle.ov_grow.proofs.NoPhase.{no_way_analysed, no_way_ending}
@@ -20,14 +20,14 @@ deliveries_after-deliveries-requires c =
 pub returns-in_err-moment-clause-refused : goal.returns-in_err-moment-clause-refused
 returns-in_err-moment-clause-refused c =
     let fault = c.in_err-moment.field-0.0 in
-    passes_on (IsNoWay (λ s u. (phase : Phase) × EndsPhase c.args.rules.now c.args.broadcasts s phase u)
+    passes_on (IsNoWay (λ s u. (phase : PhaseEnd) × EndsPhase c.args.rules.now c.args.broadcasts s phase u)
     c.args.self.now) c.from_residual.result fault c.from_residual.ensures.1
     (no_way_ending c.args.rules.now c.args.broadcasts c.args.self.now fault c.in_err-moment.ensures.refused)
 
 pub returns-in_err-broadcasts-clause-refused : goal.returns-in_err-broadcasts-clause-refused
 returns-in_err-broadcasts-clause-refused c =
     let fault = c.in_err-broadcasts.field-0.0 in
-    passes_on (IsNoWay (λ s u. (phase : Phase) × EndsPhase c.args.rules.now c.args.broadcasts s phase u)
+    passes_on (IsNoWay (λ s u. (phase : PhaseEnd) × EndsPhase c.args.rules.now c.args.broadcasts s phase u)
     c.args.self.now) c.from_residual-in_err-broadcasts.result fault c.from_residual-in_err-broadcasts.ensures.1
     (no_way_analysed c.args.rules.now c.args.broadcasts c.in_ok-moment.moment c.args.self.now
     c.analyse_now.new.self fault c.in_ok-moment.ensures.goes c.in_err-broadcasts.ensures.refused)

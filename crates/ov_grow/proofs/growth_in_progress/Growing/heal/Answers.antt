@@ -2,7 +2,7 @@ use Rattle.std.proofs.Common.{inl}
 use Rattle.std.proofs.lemmas.Result.{IfErr-weaker, IfOk-weaker}
 use Rattle.ov_grow.specs.Phases.{EndsPhase, Heal}
 use Rattle.ov_grow.specs.Code.Standing.{Goes, IsNoWay, growth_of}
-use Rattle.ov_grow.specs.declared.phase_moment_and_deliveries.Phase.{Phase}
+use Rattle.ov_grow.specs.declared.phase_moment_and_deliveries.PhaseEnd.{PhaseEnd}
 use Rattle.ov_grow.proofs.Going.{passes_on}
 use Rattle.ov_grow.proofs.NoPhase.{no_way_heal, no_way_healed, no_way_mended}
 use Rattle.ov_grow.proofs.Ways.{heal_goes}
@@ -15,14 +15,14 @@ use Rattle.ov_grow.proofs.growth_in_progress.Growing.heal.Goals as goal
 
 pub returns-in_err-comment-clause-refused : goal.returns-in_err-comment-clause-refused
 returns-in_err-comment-clause-refused c =
-    passes_on (IsNoWay (λ s u. (phase : Phase) × Heal c.args.options.now s phase u) c.args.self.now)
+    passes_on (IsNoWay (λ s u. (phase : PhaseEnd) × Heal c.args.options.now s phase u) c.args.self.now)
     c.from_residual.result c.in_err-comment.field-0.0 c.from_residual.ensures.1
     (inl c.in_err-comment.ensures.refused)
 
 pub returns-in_err-tell_crashes-clause-refused : goal.returns-in_err-tell_crashes-clause-refused
 returns-in_err-tell_crashes-clause-refused c =
     let fault = c.in_err-tell_crashes.field-0.0 in
-    passes_on (IsNoWay (λ s u. (phase : Phase) × Heal c.args.options.now s phase u) c.args.self.now)
+    passes_on (IsNoWay (λ s u. (phase : PhaseEnd) × Heal c.args.options.now s phase u) c.args.self.now)
     c.from_residual-in_err-tell_crashes.result fault c.from_residual-in_err-tell_crashes.ensures.1
     (no_way_heal c.args.options.now c.healing-rules.result c.args.self.now c.comment.new.self fault
     c.healing-rules.ensures c.in_ok-comment.ensures.goes c.in_err-tell_crashes.ensures.refused)
@@ -30,7 +30,7 @@ returns-in_err-tell_crashes-clause-refused c =
 pub returns-in_err-rounds-clause-refused : goal.returns-in_err-rounds-clause-refused
 returns-in_err-rounds-clause-refused c =
     let fault = c.in_err-rounds.field-0.0 in
-    passes_on (IsNoWay (λ s u. (phase : Phase) × Heal c.args.options.now s phase u) c.args.self.now)
+    passes_on (IsNoWay (λ s u. (phase : PhaseEnd) × Heal c.args.options.now s phase u) c.args.self.now)
     c.from_residual-in_err-rounds.result fault c.from_residual-in_err-rounds.ensures.1
     (no_way_mended c.args.options.now c.healing-rules.result c.count.result c.args.self.now c.comment.new.self
     c.tell_crashes.new.self fault c.healing-rules.ensures c.count.ensures.value c.in_ok-comment.ensures.goes

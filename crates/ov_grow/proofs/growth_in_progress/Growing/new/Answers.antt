@@ -1,5 +1,5 @@
 use Rattle.std.proofs.Common.{◌≡◌, ap, subst, ◌∙◌}
-use Rattle.ov_grow.specs.Scripts.{opening}
+use Rattle.ov_script.specs.Scripts.{opening}
 use Rattle.ov_grow.specs.Growing.{begins}
 use Rattle.ov_grow.proofs.OneGrowth.{same_growth}
 use Rattle.ov_grow.proofs.growth_in_progress.Growing.new.Goals as goal

@@ -1,5 +1,5 @@
 use Rattle.std.proofs.Common.{refl, subst, inl, inr}
-use Rattle.ov_grow.specs.declared.recordable_event.Act.TheVariants as act
+use Rattle.ov_script.specs.declared.recordable_event.Act.TheVariants as act
 use Rattle.ov_snap.specs.CoreState.{IsSound}
 use Rattle.ov_grow.specs.Faults.{of_event}
 use Rattle.ov_grow.specs.Growth.{Does}

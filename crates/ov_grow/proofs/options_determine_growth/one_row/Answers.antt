@@ -1,5 +1,0 @@
-use Rattle.ov_grow.proofs.OneRow.{one_row}
-use Rattle.ov_grow.proofs.options_determine_growth.one_row.Goals as goal
-
-pub returns : goal.returns
-returns c = one_row

@@ -1,6 +1,0 @@
--- All runs so far were done.
-use Rattle.ov_grow.specs.Code.Shares.{AreDone}
-use Rattle.ov_grow.proofs.overlay_batch_growing.do_runs.Given as goal
-
-abbrev pub invariant-loop : goal.invariant-loop
-invariant-loop l = AreDone l.fn.measures l.fn.batch l.done.items

@@ -1,6 +1,0 @@
-use Rattle.ov_grow.proofs.Totals.{totals}
-use Rattle.ov_grow.proofs.phase_costs.phase_costs.Goals as goal
-
-pub returns : goal.returns
-returns c = totals c.args.costs.now _ _ _ _ _ _ c.in_ok-total.ensures c.in_ok-total-2.ensures c.in_ok-total-3.ensures
-    c.in_ok-total-4.ensures c.in_ok-mean_hops.ensures c.in_ok-mean_redundancy.ensures

@@ -1,0 +1,8 @@
+pub mod Splitting
+pub mod OneLine
+mod Behind
+pub mod Statements
+pub mod TellingLines
+mod KeepingText
+mod Opening
+mod Appending

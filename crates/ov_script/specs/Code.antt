@@ -1,0 +1,4 @@
+-- What views, invariants of types, private contracts and proofs use. A reader of the public contracts need not rely
+-- on it.
+pub mod Kept
+pub mod Writing

@@ -1,0 +1,4 @@
+pub mod Acts
+pub mod WrittenLines
+pub mod Scripts
+pub mod Code

@@ -1,0 +1,9 @@
+pub mod Totals
+pub mod Fitting
+pub mod Degrees
+pub mod Sharing
+pub mod Asking
+pub mod OneShape
+pub mod OneRow
+pub mod OneMessages
+pub mod Batches
