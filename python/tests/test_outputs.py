@@ -133,9 +133,9 @@ class InFolders(Commands):
         edges, days = self.file("net.edges", PATH), self.room / "days"
         self.hosts.rename(self.file("days/one", "a b\n").replace("one", "two"))
         for words, place, told in (
-            (["report", days / "two"], days / "two" / "new", f"a file in {days / 'two'}, all of which are read: remove"),
-            (["history", days], days / "two" / "new", f"a file in {days / 'two'}, all of which are read: remove"),
-            (["history", days], days / "new", f"a file in {days}, all of which are read: remove"),
+            (["report", days / "two"], days / "two" / "new", f"a file in {days / 'two'}, all of which are read"),
+            (["history", days], days / "two" / "new", f"a file in {days / 'two'}, all of which are read"),
+            (["history", days], days / "new", f"a file in {days}, all of which are read: remove it"),
             (["diff", "--html", edges, days / "one"], days / "one", f"{days / 'one'}, which is read: name another"),
             (["import", edges], edges, f"{edges}, which is read: name another file behind >"),
         ):
