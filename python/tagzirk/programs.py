@@ -26,7 +26,7 @@ REFUSED = re.compile(r"(?:line \d+: )?refused (\d+)")
 found_unproved: Dict[Tuple[str, str], str] = {}
 # The programs that run, begun by any thread, and whether none is to begin any more.
 running: Set["subprocess.Popen[bytes]"] = set()
-starting, ending = threading.RLock(), threading.Event()
+ending = threading.Event()
 # How many characters of a text are put into a file at once.
 BLOCK = 1 << 20
 # No line of an answer has so many bytes: 2,048 ids of ten digits, and some words.
@@ -99,8 +99,7 @@ def call(program: str, words: Sequence[str], data: Data, output: Optional[IO[byt
             process.kill()
             raise
         finally:
-            with starting:
-                running.discard(process)
+            running.discard(process)
     if process.returncode < 0:
         raise ProgramFailed(f"{program} was ended by signal {-process.returncode}")
     told, err = ((it or b"").decode(errors="backslashreplace") for it in printed)
@@ -110,23 +109,24 @@ def call(program: str, words: Sequence[str], data: Data, output: Optional[IO[byt
 def started(command: Sequence[str], data: Data, out: Union[int, IO[bytes]]) -> "subprocess.Popen[bytes]":
     """A program that runs, unless all are to end."""
     given = subprocess.PIPE if isinstance(data, bytes) else data
-    with starting:
-        if ending.is_set():
-            raise ProgramFailed(f"{command[0]} was not started, since this command is to end")
-        try:
-            process = subprocess.Popen(command, stdin=given, stdout=out, stderr=subprocess.PIPE)
-        except OSError as why:
-            raise ProgramMissing(f"{command[0]} could not be started: {why.strerror}") from None
-        running.add(process)
+    if ending.is_set():
+        raise ProgramFailed(f"{command[0]} was not started, since this command is to end")
+    try:
+        process = subprocess.Popen(command, stdin=given, stdout=out, stderr=subprocess.PIPE)
+    except OSError as why:
+        raise ProgramMissing(f"{command[0]} could not be started: {why.strerror}") from None
+    running.add(process)
+    if ending.is_set():
+        # the end came while it was begun, and did not know of it
+        process.kill()
     return process
 
 
 def end_all() -> None:
     """Ends all programs that run, and lets no other one begin."""
     ending.set()
-    with starting:
-        for process in running:
-            process.kill()
+    for process in list(running):
+        process.kill()
 
 
 def refuse(line: str, reason: str) -> NoReturn:

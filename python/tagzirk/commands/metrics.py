@@ -16,13 +16,17 @@ class Label(argparse.Action):
     """Takes in a label. A second one of its name would take its place, and so is refused."""
 
     def __call__(
-        self, parser: argparse.ArgumentParser, words: argparse.Namespace, label: Any, option: Optional[str] = None
+        self,
+        parser: argparse.ArgumentParser,
+        namespace: argparse.Namespace,
+        values: Any,
+        option_string: Optional[str] = None,
     ) -> None:
-        name, value = label
-        before = vars(words)[self.dest]
+        name, value = values
+        before = vars(namespace)[self.dest]
         if name in before:
             raise argparse.ArgumentError(self, f"there are two values of {name}, {before[name]} and {value}")
-        setattr(words, self.dest, {**before, name: value})
+        setattr(namespace, self.dest, {**before, name: value})
 
 
 def add(commands: Commands, parents: Parents) -> None:

@@ -145,8 +145,9 @@ def options_of(words: argparse.Namespace) -> Options:
 
 
 def places_of(words: argparse.Namespace) -> List[str]:
-    """The files of the dump, or standard input, none of which is where standard output goes."""
-    demand_apart(words.files)
+    """The files of the dump, or standard input. Standard output goes to no file that is read."""
+    racks = vars(words).get("racks")
+    demand_apart([*words.files, racks] if racks else words.files)
     return words.files or ["-"]
 
 
