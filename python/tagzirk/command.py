@@ -15,6 +15,7 @@ from . import slips
 from .commands import collecting, diff, each, history, importing, mending, metrics, report, status
 from .commands.words import READS, common_words, fault, told
 from .errors import TagzirkError, in_words
+from .programs import end_all
 from .proofs import versions
 
 # The commands, in the order in which help shows them.
@@ -101,6 +102,7 @@ def ended_in_order() -> Iterator[None]:
         return
 
     def end(number: int, _: object) -> NoReturn:
+        end_all()
         raise SystemExit(128 + number)
 
     before = signal.signal(signal.SIGTERM, end)

@@ -4,6 +4,7 @@ from __future__ import annotations
 
 import itertools
 from dataclasses import dataclass
+from functools import partial
 from typing import Any, Dict, Generic, Iterable, List, Mapping, Optional, Sequence, Set, Tuple
 
 from .bits import Bits, Hosts
@@ -67,13 +68,9 @@ def each(
     [('R1', 0)]
     """
     named: NamedGraph[Node] = graph if isinstance(graph, NamedGraph) else named_graph(graph)
-    bits = Bits(named)
-
-    def ask(of: NamedGraph[Any], members: Optional[List[int]] = None) -> Report[Any]:
-        return analysed(of, members, overlay=overlay, overlay_check=overlay_check)
-
+    ask = partial(analysed, overlay=overlay, overlay_check=overlay_check)
+    bits, numbers = Bits(named), {}  # type: Bits, Dict[Hosts, Number]
     crashes = crashes_of(named, bits, racks)
-    numbers: Dict[Hosts, Number] = {}
     base, at_once = number_in(report or ask(named)), workers or processors()
     if is_of_pairs:
         demand_few_pairs(crashes)

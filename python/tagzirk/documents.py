@@ -6,7 +6,7 @@ from typing import Any, Dict, List, NamedTuple, Optional, Tuple
 
 from .asked import Asked
 from .errors import BadDump
-from .hosts import Entry, enter_all
+from .hosts import Entry, enter_all, peers_as_text
 from .linked import MOST_DEEP, nodes_beside, objects_in, place_of
 from .values import (
     LINK_ENDS,
@@ -30,6 +30,8 @@ from .values import (
 # What the links of a graph of nodes and links are called.
 LINK_KEYS = ("links", "edges")
 GRAPH_KEYS = (*LINK_KEYS, "adjacency")
+# Keys of each graph that Graphviz writes as JSON. Its ends are numbers, and clusters stand among its nodes.
+OF_GRAPHVIZ = {"_subgraph_cnt", "directed", "strict"}
 
 
 class Ends(NamedTuple):
@@ -98,6 +100,8 @@ def views_of(value: Any, asked: Asked = Asked()) -> Views:
     >>> graph.kind, graph.value
     ('a graph of nodes and links', {'a': ['b'], 'b': ['a']})
     """
+    if isinstance(value, dict) and OF_GRAPHVIZ <= set(value):
+        raise BadDump("it is what `dot -Tjson` writes: give the DOT that it was made of, or what `dot -Tplain` writes")
     demand_there(value, asked)
     if asked.links:
         return of_links_below(value, asked)
@@ -190,9 +194,13 @@ def key_around(value: Dict[str, Any]) -> Optional[str]:
         beside = next(key for key in nested if key != around)
         raise BadDump(f"below {around} stand hosts or links, and {beside} stands beside it: give {around} alone")
     inner = value[nested[0]] if len(nested) == 1 and not around else None
+    is_of_objects = isinstance(inner, list) and bool(inner) and all(isinstance(it, dict) for it in inner)
+    told = next(filter(None, map(peers_as_text, inner or ())), None) if is_of_objects else None
+    if told:
+        raise BadDump(f"below {nested[0]}, {told}")
     if inner is not None and nested[0] == "nodes":
         raise BadDump(f"it has nodes, and neither {one_of(GRAPH_KEYS)}, nor peers of each node")
-    if isinstance(inner, list) and inner and all(isinstance(it, dict) for it in inner):
+    if is_of_objects:
         raise BadDump(
             f"its one list, {nested[0]}, has objects without {one_of(PEER_KEYS)}, so nobody lists anybody; if they are "
             f"links, say --links {nested[0]} --columns FROM,TO by their fields"

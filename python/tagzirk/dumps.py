@@ -21,6 +21,7 @@ from .hosts import SeveralLists
 from .limits import GZIP
 from .notes import Line, commented, lines_in, notes_on
 from .only import only_graph, only_views, plain_views
+from .outputs import files_in
 from .programs import Program, call, find, refuse
 from .contents import of_contents
 from .taken import taken_of
@@ -60,8 +61,8 @@ OF_DOT = ("in place of a subgraph", "an HTML text", "several words to DOT")
 
 
 class Options(NamedTuple):
-    """How a dump is to become a graph: as `overlay import` has it, and as a form, a field or columns are asked for. With
-    patterns in `only`, hosts with such names are looked at alone."""
+    """How a dump is to become a graph: as `overlay import` has it, and as a form, a field or columns are asked for.
+    With patterns in `only`, hosts with such names are looked at alone."""
 
     either: bool = False
     entries: bool = False
@@ -159,7 +160,7 @@ def files_at(place: str) -> List[pathlib.Path]:
     """The file of this name, or the files in the folder of this name but hidden ones."""
     if not os.path.isdir(place):
         return [pathlib.Path(place)]
-    inner = sorted(it for it in pathlib.Path(place).iterdir() if it.is_file() and it.name[0] != ".")
+    inner = files_in(place)
     if not inner:
         raise BadDump(f"{place}: the folder has no files")
     return inner
@@ -202,6 +203,11 @@ def read_dump(
         except (BadDump, LibraryMissing, Refused) as why:
             what = None if data.startswith(GZIP) else of_contents(data, is_surely=False)
             raise BadDump(f"{place} is no dump: it is {what}") if what else named_error(why, str(place)) from None
+    return dump_of_hosts(places, options, overlay)
+
+
+def dump_of_hosts(places: Sequence[str], options: Options, overlay: Optional[Program]) -> Dump:
+    """Reads a dump of several files or a folder, each file of one host."""
     files = contents_of(places)
     name = places[0] if len(places) == 1 else f"{len(files)} files"
     demand_used(options.asked, "each file has the peers of one host", "by", "peers", "up")
@@ -258,12 +264,7 @@ def dump_of(
     data, told = text_of(data, options.asked.skip)
     notes = [f"{name}: {it}" for it in told]
     if is_graph_taken and not options.asked.form and GRAPH_FILE.match(data.decode(errors="replace")):
-        # overlay says what is wrong with it; what it accepts is read here
-        demand_used(options.asked, "it is a graph file", "skip")
-        ended = call(find("overlay", overlay), ["analyse"], data)
-        if ended.status != 0:
-            refuse(*ended.err.partition("\n")[::2])
-        return with_only(Dump(name, data.decode(errors="backslashreplace"), tuple(notes), None, None), options.only)
+        return of_graph_file(data, name, options, notes, overlay)
     form = options.asked.form or form_of(data.decode("utf-8-sig", "replace"), name)
     demand_used(options.asked, f"it has the form {form}", "form", "skip", "up", *TAKEN.get(form, ("by",)))
     views = listings_of(data, name, options.asked)
@@ -285,6 +286,15 @@ def dump_of(
         dump = of_views(views, name, options, [*notes, f"{name} was read as {views.kind}"], overlay)
     text = decoded(data) if form != "json" else ""
     return with_notes(dump, lines_in(text) if form in OF_LINES else [], text)
+
+
+def of_graph_file(data: bytes, name: str, options: Options, notes: List[str], overlay: Optional[Program]) -> Dump:
+    """The dump that a graph file is. overlay says what is wrong with it; what it accepts is read here."""
+    demand_used(options.asked, "it is a graph file", "skip")
+    ended = call(find("overlay", overlay), ["analyse"], data)
+    if ended.status != 0:
+        refuse(*ended.err.partition("\n")[::2])
+    return with_only(Dump(name, data.decode(errors="backslashreplace"), tuple(notes), None, None), options.only)
 
 
 def with_only(dump: Dump, patterns: Sequence[str]) -> Dump:

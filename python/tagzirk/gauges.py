@@ -127,9 +127,9 @@ def metrics(
     overlay: Optional[Program] = None,
     overlay_check: Optional[Program] = None,
 ) -> Metrics:
-    """The metrics of a dump. One that can't be read, or whose answer is not confirmed, has the metric
-    `tagzirk_dump_read 0`, and none that could pass for a good one. Of several files, or of a folder, the oldest file
-    says how old the dump is; standard input does not say it. `labels` are put on each metric.
+    """The metrics of a dump, each with the `labels`. One that can't be read, or whose answer is not confirmed, has the
+    metric `tagzirk_dump_read 0`, and none that could pass for a good one. Of several files, or of a folder, the oldest
+    says how old the dump is; standard input does not.
 
     >>> import pathlib, tempfile
     >>> with tempfile.TemporaryDirectory() as room:
@@ -146,9 +146,7 @@ def metrics(
     values = {"tagzirk_dump_read": 0.0, "tagzirk_run_timestamp_seconds": float(int(time.time()))}
     named = dict(labels or {})
     try:
-        changed = last_change(places)
-        if changed is not None:
-            values["tagzirk_dump_timestamp_seconds"] = float(int(changed))
+        values.update(time_of(places))
         dump = read_dump(places, options, overlay=overlay)
         graph = dump.graph
         report = analysed(graph, overlay=overlay, overlay_check=overlay_check)
@@ -158,8 +156,14 @@ def metrics(
         # whatever a dump does, an alarm must hear of it
         return Metrics(values, fault=in_words(why), labels=named)
     values.update(tagzirk_dump_read=1.0, **numbers(dump, graph, report))
-    hosts = {shown(host): number for host, number in stale.items()}
-    return Metrics(values, tuple(map(shown, report.cut)), "", named, hosts, proved, tuple(doubts_in(dump.notes)))
+    hosts, doubts = {shown(host): number for host, number in stale.items()}, tuple(doubts_in(dump.notes))
+    return Metrics(values, tuple(map(shown, report.cut)), "", named, hosts, proved, doubts)
+
+
+def time_of(places: Sequence[str]) -> Dict[str, float]:
+    """When that file of a dump was last changed which is oldest, if there is one."""
+    changed = last_change(places)
+    return {} if changed is None else {"tagzirk_dump_timestamp_seconds": float(int(changed))}
 
 
 def numbers(dump: Dump, graph: NamedGraph[str], report: Report[str]) -> Dict[str, float]:

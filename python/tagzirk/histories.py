@@ -133,9 +133,8 @@ def history(
     overlay_check: Optional[Program] = None,
     progress: Optional[Progress] = None,
 ) -> List[Moment]:
-    """What each dump says, in the order in which they were taken. A dump that can't be read is told with its fault.
-
-    The time is that in the file's name, if every name says one, and else when the file was last changed.
+    """What each dump says, in the order in which they were taken: by the times in the files' names, if every name says
+    one, and else by their last changes. A dump that can't be read is told with its fault.
 
     >>> import pathlib, tempfile
     >>> with tempfile.TemporaryDirectory() as room:
@@ -153,15 +152,15 @@ def history(
         file, time = taken
         try:
             dump = read_dump([file], options, overlay=overlay)
-            graph = dump.graph
             # a dump that says what an earlier one said is not analysed again
-            report = answers.get(dump.graph_file) or analysed(graph, overlay=overlay, overlay_check=overlay_check)
+            graph, known = dump.graph, answers.get(dump.graph_file)
+            report = known or analysed(graph, overlay=overlay, overlay_check=overlay_check)
             answers[dump.graph_file] = report
         except Exception as why:
             # a moment that can't be read is a row too
             return Moment(time, file, fault=in_words(why))
-        sizes, doubts = (len(graph.ids), len(graph.links)), tuple(doubts_in(dump.notes))
-        return Moment(time, file, *sizes, report.k, report.cut, dump.one_sided, dump.without_entry, doubts=doubts)
+        numbers = len(graph.ids), len(graph.links), report.k, report.cut, dump.one_sided, dump.without_entry
+        return Moment(time, file, *numbers, doubts=tuple(doubts_in(dump.notes)))
 
     times = sorted(times_of(files).items(), key=lambda it: (it[1] is None, it[1].timestamp() if it[1] else 0))
     return list(each_at_once(moment, times, workers or processors(), "dump", progress))

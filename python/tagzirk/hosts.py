@@ -6,7 +6,7 @@ from typing import Any, Dict, List, NamedTuple, Optional, Sequence, Set
 
 from .asked import Asked
 from .errors import BadDump
-from .values import PEER_KEYS, Said, Scalar, Views, is_list_of_names, items_of, one_of, said_of, short
+from .values import PEER_KEYS, Said, Scalar, Views, is_list_of_names, items_of, key_in, one_of, said_of, short
 
 
 class SeveralLists(BadDump):
@@ -157,7 +157,21 @@ def without_peers(entry: Entry, lists: Dict[str, Any]) -> str:
     keys = [key for key, it in lists.items() if isinstance(it, (list, dict)) and it]
     told_keys = f"; --peers KEY takes another key, as {one_of(keys[:6])}, and --links KEY takes links below one"
     more = told_keys if keys else ""
+    text = next(filter(None, map(peers_as_text, (entry.value, *entry.value.values()))), None)
+    if text:
+        return f"of the host {entry.name}, {text}{more}"
     return f"the host {entry.name} should have the list {one_of(PEER_KEYS)}, and it has {told}{more}"
+
+
+def peers_as_text(value: Any) -> Optional[str]:
+    """What is told of an object that has a text or a number where its list of peers should stand; None if it has none.
+
+    >>> peers_as_text({"name": "a", "neighbors": "b,c"})
+    "neighbors is 'b,c', and should be a list of names"
+    """
+    key = key_in(value, PEER_KEYS) if isinstance(value, dict) else None
+    is_one = key is not None and isinstance(value[key], (str, int, float))
+    return f"{key} is {short(value[key])}, and should be a list of names" if is_one else None
 
 
 def demand_one_list(said: Sequence[Lists], asked: Asked) -> None:

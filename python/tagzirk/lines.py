@@ -11,6 +11,7 @@ from .errors import BadDump
 from .graph_files import Graph
 from .matrices import graph6_of, matrix_graph, matrix_of
 from .neighbours import is_adjacency, is_metis, lgl, metis, multiline, of_adjacency
+from .registers import demand_links
 from .rows import LIST, NUMBER, Row, rows_of, unquoted
 from .tables import of_table, table_of
 from .values import Scalar, Views
@@ -57,6 +58,7 @@ def of_lines(text: str, form: Optional[str] = None, columns: Optional[str] = Non
         return of_adjacency(rows)
     if form == "weighted":
         return of_weighted(rows)
+    demand_links([words_of(row) for row in rows])
     konect = KONECT.match(text)
     if konect:
         return of_konect(rows, konect[1])
@@ -124,8 +126,8 @@ def is_weighted(rows: List[Row]) -> bool:
     names = {name for it in words for name in it[:2]}
     if len({it[0] for it in words}) == 1 < len(words) and all(NUMBER.fullmatch(it[1]) for it in words):
         raise BadDump(
-            f"each line begins with {words[0][0]}: if it is no host, --columns 2,3 takes the names behind it, and if it "
-            "is one, say --form weighted"
+            f"each line begins with {words[0][0]}: if it is no host, --columns 2,3 takes the names behind it, and if "
+            "it is one, say --form weighted"
         )
     if all(it[2] in names for it in words):
         raise BadDump(

@@ -3,7 +3,7 @@
 from __future__ import annotations
 
 from dataclasses import dataclass, field
-from typing import Any, Dict, Generic, List, Optional, Set, Tuple
+from typing import Any, Callable, Dict, Generic, List, Optional, Set, Tuple
 
 from .errors import BadGraph
 from .graphs import Graph, NamedGraph, Node, named_graph, shown
@@ -137,6 +137,7 @@ def mend(
     `BadGraph` says that there are no such links, or that none were found: where `most_links` is low, there may be some.
     """
     named: NamedGraph[Node] = graph if isinstance(graph, NamedGraph) else named_graph(graph)
+
     def asked(of: NamedGraph[Node]) -> Report[Node]:
         return analysed(of, overlay=overlay, overlay_check=overlay_check)
 
@@ -154,17 +155,28 @@ def mend(
         now = asked(mending.mended)
         if progress:
             progress.tell(f"{len(mending.added)} links, k {now.k}")
+    now = take_out_spare(mending, now, asked, progress)
+    names = named.names
+    return Mended(tuple((names[a], names[b]) for a, b in sorted(mending.added)), before, now)
+
+
+def take_out_spare(
+    mending: Mending,
+    now: Report[Node],
+    asked: Callable[[NamedGraph[Node]], Report[Node]],
+    progress: Optional[Progress],
+) -> Report[Node]:
+    """Takes out each link that was added and is not needed: the report of the graph without them."""
     # by the number of its links alone a host needs each that would leave it fewer than `to`
-    spare = [link for link in mending.added if all(len(mending.peers[it]) > to for it in link)]
+    spare = [link for link in mending.added if all(len(mending.peers[it]) > mending.to for it in link)]
     for at, link in enumerate(spare, 1):
-        if all(len(mending.peers[it]) > to for it in link):
+        if all(len(mending.peers[it]) > mending.to for it in link):
             mending.take_out(link)
             fewer = asked(mending.mended)
-            if fewer.k < to:
+            if fewer.k < mending.to:
                 mending.add(*link)
             else:
                 now = fewer
         if progress:
             progress.tell(f"{len(mending.added)} links, of which {at} of {len(spare)} were tried without")
-    names = named.names
-    return Mended(tuple((names[a], names[b]) for a, b in sorted(mending.added)), before, now)
+    return now

@@ -9,7 +9,7 @@ import pathlib
 import stat
 import sys
 from dataclasses import dataclass
-from typing import Iterable, Optional, Tuple, Union
+from typing import List, Optional, Sequence, Tuple, Union
 
 from .errors import NotWritten
 
@@ -28,24 +28,31 @@ class Output:
     place: str
     marks: Tuple[str, ...]
 
-    def demand_free(self, inputs: Iterable[str], is_forced: bool = False) -> None:
+    def demand_free(self, inputs: Sequence[str], is_forced: bool = False) -> None:
         """Refuses a place where something would be lost, before any work is done: an input, or a file that this command
-        did not write; and one that can't be written at all."""
+        did not write; one in a folder that is read, since the next time it would be read too; and one that can't be
+        written at all."""
         found = status(self.place)
         if self.place == "-" or is_stream(self.place, found):
             return
         said = f"{self.option} {self.place}"
-        if found is None:
-            folder = os.path.dirname(os.path.realpath(self.place))
-            if not os.path.isdir(folder):
-                raise NotWritten(f"{said}: there is no folder {folder}")
-            return
-        if stat.S_ISDIR(found.st_mode):
+        folder = os.path.dirname(os.path.realpath(self.place))
+        if found is None and not os.path.isdir(folder):
+            raise NotWritten(f"{said}: there is no folder {folder}")
+        if found and stat.S_ISDIR(found.st_mode):
             raise NotWritten(f"{said}: it is a folder; name a file in it")
+        around = next((it for it in inputs if is_read_in(self.place, it)), None)
+        if around is not None:
+            raise NotWritten(f"{said}: the folder {around} is an input, and the next time this file would be one too")
         if is_forced:
             return
-        if any(is_same(found, it) for it in inputs):
+        if found and any(is_same(found, it) for it in inputs):
             raise NotWritten(f"{said}: it is an input, and would be overwritten; name another file, or add --force")
+        if found:
+            self.demand_own(said, found)
+
+    def demand_own(self, said: str, found: os.stat_result) -> None:
+        """Refuses a file that this command did not write."""
         line = first_line(self.place)
         if found.st_size and not line.startswith(self.marks):
             raise NotWritten(
@@ -73,8 +80,38 @@ def is_same(found: os.stat_result, place: str) -> bool:
     if there is None:
         return False
     if stat.S_ISDIR(there.st_mode):
-        return any(os.path.samestat(found, it.stat()) for it in pathlib.Path(place).iterdir() if it.is_file())
+        return any(os.path.samestat(found, it.stat()) for it in files_in(place))
     return os.path.samestat(found, there)
+
+
+def files_in(folder: Place) -> List[pathlib.Path]:
+    """The files in a folder of a dump but hidden ones."""
+    return sorted(it for it in pathlib.Path(folder).iterdir() if it.is_file() and it.name[0] != ".")
+
+
+def is_read_in(place: str, folder: str) -> bool:
+    """Whether a file of this name is one of those that are read, where a folder of them is an input: by its name, or if
+    that is a link by what it leads to."""
+    if folder == "-" or not os.path.isdir(folder):
+        return False
+    names = (os.path.abspath(place), os.path.realpath(place))
+    around = (os.path.split(it) for it in names)
+    return any(os.path.isdir(it) and os.path.samefile(it, folder) and name[0] != "." for it, name in around)
+
+
+def demand_apart(inputs: Sequence[str]) -> None:
+    """Refuses a standard output that is a file which is read: the shell emptied it, or put it beside the others."""
+    try:
+        found = os.fstat(sys.stdout.fileno())
+    except (OSError, ValueError):
+        return
+    same = next((it for it in inputs if stat.S_ISREG(found.st_mode) and is_same(found, it)), None)
+    if same is not None:
+        if os.path.isdir(same):
+            told = f"a file in {same}, all of which are read: remove it, and name one elsewhere behind >"
+        else:
+            told = f"{same}, which is read: name another file behind >"
+        raise NotWritten(f"standard output goes to {told}")
 
 
 def is_stream(place: Place, found: Optional[os.stat_result]) -> bool:

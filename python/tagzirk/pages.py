@@ -227,7 +227,7 @@ def page(
 ) -> str:
     """A page about a dump: the answer in names and words, a picture, the pieces that the crash leaves, the weakest
     hosts, links to add so that the number is `to`, or one higher without it, and the certificate with how to check it.
-    `taken` is when the dump was taken, and `site` a regular expression that finds the site of a host in its name.
+    `taken` is when it was taken, and `site` a regular expression that finds the site of a host in its name.
 
     >>> from tagzirk.dumps import dump_of
     >>> text = page(dump_of(b"a b\\nb c\\nc d\\n", "net.edges"))
@@ -236,8 +236,6 @@ def page(
     """
     ending, graph = without_ending(dump.graph)
     report = analysed(graph, overlay=overlay, overlay_check=overlay_check)
-    crashed = {graph.ids[it] for it in report.cut}
-    pieces = graph.pieces(crashed)
     wanted = to or max(report.k + 1, 2)
     mended, why = None, ""
     if not report.is_linked:
@@ -247,28 +245,49 @@ def page(
             why = str(reason)
     wide = widest(graph, report, overlay=overlay, overlay_check=overlay_check, progress=progress)
     found = worst(graph, report, overlay=overlay, overlay_check=overlay_check, progress=progress)
-    sites = Sites(site, dump.graph.ids) if site else None
     line = check(report.certificate, overlay_check=overlay_check).line
-    largest = max(pieces, key=len)
-    cut_off = [graph.names[it] for piece in pieces if piece is not largest for it in piece]
     return PAGE.substitute(
-        title=title_of(report),
-        k=report.k,
-        severity=severity_of(report.k, report.is_linked),
+        **parts_of(dump, graph, report),
+        **parts_of_cuts(graph, ending, report, found, wide, Sites(site, dump.graph.ids) if site else None),
         about=about_of(dump, taken, (overlay, overlay_check)),
-        answer=f"<p>{answer_of(report, graph, pieces)}</p>{site_of(sites, report.cut, cut_off, ending)}"
-        + worse_of(found, report, len(cut_off), sites, ending)
-        + wider_of(wide, report, found)
-        + (f'<p class="t-soft">All names end in {shown_html(ending)}, which is left out here.</p>' if ending else ""),
-        facts=facts_of(report, graph, dump),
-        colours=colour_rules(),
         picture=framed(report.picture(overlay=overlay)),
-        pieces_title=pieces_title(report, pieces),
-        pieces=pieces_of(report, graph, pieces),
-        others=other_cuts(found, report, sites, ending),
-        weakest=weakest_of(graph, report.is_linked),
         added=added_of(report, wanted, mended, why),
-        paste=paste_of(report, cut_off, found, ending),
         checking=checking_of(report, dump.graph.text_with_names, line),
         notes=notes_of(dump, one_sided(dump, overlay)),
     )
+
+
+def parts_of(dump: Dump, graph: NamedGraph[str], report: Report[str]) -> Dict[str, str]:
+    """The parts of a page that tell of the graph and of its number."""
+    return {
+        "title": title_of(report),
+        "k": str(report.k),
+        "severity": severity_of(report.k, report.is_linked),
+        "facts": facts_of(report, graph, dump),
+        "colours": colour_rules(),
+        "weakest": weakest_of(graph, report.is_linked),
+    }
+
+
+def parts_of_cuts(
+    graph: NamedGraph[str],
+    ending: str,
+    report: Report[str],
+    found: Worst[str],
+    wide: Optional[Wide[str]],
+    sites: Optional[Sites],
+) -> Dict[str, str]:
+    """The parts of a page that tell who is cut off by what."""
+    pieces = graph.pieces({graph.ids[it] for it in report.cut})
+    largest = max(pieces, key=len)
+    cut_off = [graph.names[it] for piece in pieces if piece is not largest for it in piece]
+    return {
+        "answer": f"<p>{answer_of(report, graph, pieces)}</p>{site_of(sites, report.cut, cut_off, ending)}"
+        + worse_of(found, report, len(cut_off), sites, ending)
+        + wider_of(wide, report, found)
+        + (f'<p class="t-soft">All names end in {shown_html(ending)}, which is left out here.</p>' if ending else ""),
+        "pieces_title": pieces_title(report, pieces),
+        "pieces": pieces_of(report, graph, pieces),
+        "others": other_cuts(found, report, sites, ending),
+        "paste": paste_of(report, cut_off, found, ending),
+    }

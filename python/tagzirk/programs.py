@@ -11,7 +11,8 @@ import shutil
 import subprocess
 import sys
 import tempfile
-from typing import IO, Dict, Iterator, NamedTuple, NoReturn, Optional, Sequence, Tuple, Union
+import threading
+from typing import IO, Dict, Iterator, NamedTuple, NoReturn, Optional, Sequence, Set, Tuple, Union
 
 from .errors import ProgramFailed, ProgramMissing, Refused
 
@@ -23,6 +24,9 @@ CHECKOUT = pathlib.Path(__file__).resolve().parents[2]
 REFUSED = re.compile(r"(?:line \d+: )?refused (\d+)")
 # The unproved programs that were found, by the checkout and the crate: to ask for one takes a tenth of a second.
 found_unproved: Dict[Tuple[str, str], str] = {}
+# The programs that run, begun by any thread, and whether none is to begin any more.
+running: Set["subprocess.Popen[bytes]"] = set()
+ending = threading.Event()
 # How many characters of a text are put into a file at once.
 BLOCK = 1 << 20
 # No line of an answer has so many bytes: 2,048 ids of ten digits, and some words.
@@ -87,19 +91,42 @@ def unproved(crate: str) -> Optional[str]:
 def call(program: str, words: Sequence[str], data: Data, output: Optional[IO[bytes]] = None) -> Ended:
     """Runs a program with these words and this standard input. What it prints goes into the file `output`, if one is
     given, and else is what is told."""
-    out: Union[int, IO[bytes]] = subprocess.PIPE if output is None else output
-    command = [program, *words]
+    process = started([program, *words], data, subprocess.PIPE if output is None else output)
+    with process:
+        try:
+            printed = process.communicate(data if isinstance(data, bytes) else None)
+        except BaseException:
+            process.kill()
+            raise
+        finally:
+            running.discard(process)
+    if process.returncode < 0:
+        raise ProgramFailed(f"{program} was ended by signal {-process.returncode}")
+    told, err = ((it or b"").decode(errors="backslashreplace") for it in printed)
+    return Ended(told, err, process.returncode)
+
+
+def started(command: Sequence[str], data: Data, out: Union[int, IO[bytes]]) -> "subprocess.Popen[bytes]":
+    """A program that runs, unless all are to end."""
+    given = subprocess.PIPE if isinstance(data, bytes) else data
+    if ending.is_set():
+        raise ProgramFailed(f"{command[0]} was not started, since this command is to end")
     try:
-        if isinstance(data, bytes):
-            ended = subprocess.run(command, input=data, stdout=out, stderr=subprocess.PIPE)
-        else:
-            ended = subprocess.run(command, stdin=data, stdout=out, stderr=subprocess.PIPE)
+        process = subprocess.Popen(command, stdin=given, stdout=out, stderr=subprocess.PIPE)
     except OSError as why:
-        raise ProgramMissing(f"{program} could not be started: {why.strerror}") from None
-    if ended.returncode < 0:
-        raise ProgramFailed(f"{program} was ended by signal {-ended.returncode}")
-    told, err = ((it or b"").decode(errors="backslashreplace") for it in (ended.stdout, ended.stderr))
-    return Ended(told, err, ended.returncode)
+        raise ProgramMissing(f"{command[0]} could not be started: {why.strerror}") from None
+    running.add(process)
+    if ending.is_set():
+        # the end came while it was begun, and did not know of it
+        process.kill()
+    return process
+
+
+def end_all() -> None:
+    """Ends all programs that run, and lets no other one begin."""
+    ending.set()
+    for process in list(running):
+        process.kill()
 
 
 def refuse(line: str, reason: str) -> NoReturn:

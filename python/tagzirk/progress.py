@@ -58,9 +58,9 @@ def each_at_once(
     [3, 4, 5]
     """
     given: List[Given] = list(of)
-    pool = ThreadPoolExecutor(max_workers=max(1, workers))
+    pool, futures = ThreadPoolExecutor(max_workers=max(1, workers)), []  # type: ThreadPoolExecutor, List[Future[Made]]
     try:
-        futures: List[Future[Made]] = [pool.submit(made, it) for it in given]
+        futures += [pool.submit(made, it) for it in given]
         for at, future in enumerate(futures, 1):
             yield future.result()
             if progress:

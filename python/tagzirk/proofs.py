@@ -6,6 +6,7 @@ import hashlib
 import os
 import pathlib
 import re
+import shutil
 from typing import Dict, List, NamedTuple, Optional
 
 from .errors import ProgramMissing, TagzirkError
@@ -65,11 +66,14 @@ def versions() -> str:
     found = programs()
     lines = [f"tagzirk {VERSION}"]
     for crate, name in NAMES.items():
-        if name in found:
+        variable = f"TAGZIRK_{crate.upper()}"
+        if name not in found:
+            lines.append(f"{name} was not found: put it on PATH by bin/install, or set the variable {variable} to it")
+        elif not shutil.which(found[name].place):
+            lines.append(f"{name} was not found: {variable} is {found[name].place}, which is no program")
+        else:
             said = re.search(rf"^{name} (\d[^\s,]*)", what_it_says(found[name].place), re.MULTILINE)
             lines.append(f"{name}{f' {said[1]}' if said else ''}, {found[name]}")
-        else:
-            lines.append(f"{name} was not found: the variable TAGZIRK_{crate.upper()} names it")
     return "".join(f"{line}\n" for line in lines)
 
 

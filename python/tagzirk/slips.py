@@ -8,39 +8,61 @@ import pathlib
 import re
 from typing import Dict, Iterable, List, Mapping, Optional, Sequence, Tuple
 
-# Words of other programs, or of people, that are no command here: what is meant.
-OTHER_COMMANDS: Dict[str, str] = {
-    "analyze": "`tagzirk status FILE` tells k and the cut of a dump",
-    "k": "`tagzirk status FILE` tells k and the cut of a dump",
-    "connectivity": "`tagzirk status FILE` tells k and the cut of a dump",
-    "cut": "`tagzirk status FILE` tells k and the cut of a dump",
-    "run": "`overlay run FILE` runs a scenario; `tagzirk status FILE` tells k and the cut of a dump",
-    "check": "`overlay-check FILE` checks a certificate file; `tagzirk status FILE` tells k and the cut of a dump",
-    "overlay-check": "`overlay-check FILE` is a program of its own, which checks a certificate file",
-    "verify": "`overlay-check FILE` checks a certificate file",
-    "overlay": "`overlay` is a program of its own: `overlay help` has its commands",
-    "picture": "`overlay picture CERTIFICATE > net.svg` draws a certificate file; `tagzirk report FILE` has a picture",
-    "draw": "`tagzirk report FILE` has a picture of a dump; `tagzirk history FILE.. --svg PICTURE` draws many",
-    "plot": "`tagzirk history FILE.. --svg PICTURE` draws a history; `tagzirk report FILE` has a picture of a dump",
-    "graph": "`overlay graph CERTIFICATE` prints the graph of a certificate; `tagzirk import FILE` that of a dump",
-    "grow": "`overlay grow` grows an overlay and prints its scenario",
-    "sweep": "`overlay sweep` grows many overlays, and prints a row for each",
-    "read": "`tagzirk import FILE` makes a graph file of a dump",
-    "convert": "`tagzirk import FILE` makes a graph file of a dump",
-    "export": "`tagzirk import FILE` makes a graph file of a dump",
-    "html": "`tagzirk report FILE > report.html` makes a page",
-    "page": "`tagzirk report FILE > report.html` makes a page",
-    "fix": "`tagzirk mend FILE --to K` finds links to add",
-    "repair": "`tagzirk mend FILE --to K` finds links to add",
-    "improve": "`tagzirk mend FILE --to K` finds links to add",
-    "prometheus": "`tagzirk metrics FILE --textfile TEXTFILE` writes the numbers for Prometheus",
-    "alarm": "`tagzirk status FILE --at-least K` has a status for alarms, and `tagzirk metrics` numbers for Prometheus",
-    "racks": "`tagzirk each FILE --racks RACKS` tells what the crash of each rack does",
-    "hosts": "`tagzirk each FILE` tells what the crash of each host does",
-    "compare": "`tagzirk diff OLD NEW` tells what changed between two dumps",
-    "tinc": "`tagzirk collect tinc` makes a dump of tinc",
-    "yggdrasil": "`tagzirk collect yggdrasil` makes a dump of Yggdrasil",
-}
+STATUS = "`tagzirk status FILE` tells k and the cut of a dump"
+CERTIFICATE = (
+    "`tagzirk mend` prints a certificate; the page of `tagzirk report` has one; else "
+    "`tagzirk import FILE | overlay analyse --certificate | tail -n 1`"
+)
+# What is meant by words of other programs, or of people, that are no command here.
+MEANT: Sequence[Tuple[str, str]] = (
+    ("analyze analyzer analysis", "did you mean `tagzirk analyse`?"),
+    ("k connectivity cut min-cut vertex-cut info show summary health split partition components", STATUS),
+    ("run scenario", f"`overlay run FILE` runs a scenario; {STATUS}"),
+    ("check validate", f"`overlay-check FILE` checks a certificate file; {STATUS}"),
+    ("overlay-check", "`overlay-check FILE` is a program of its own, which checks a certificate file"),
+    ("verify", "`overlay-check FILE` checks a certificate file"),
+    ("certificate cert prove proof", CERTIFICATE),
+    ("overlay", "`overlay` is a program of its own: `overlay help` has its commands"),
+    (
+        "picture svg",
+        "`overlay picture CERTIFICATE > net.svg` draws a certificate file; `tagzirk report FILE` has a picture",
+    ),
+    (
+        "draw view visualize render",
+        "`tagzirk report FILE` has a picture of a dump; `tagzirk history FILE.. --svg PICTURE` draws many",
+    ),
+    (
+        "plot chart",
+        "`tagzirk history FILE.. --svg PICTURE` draws a history; `tagzirk report FILE` has a picture of a dump",
+    ),
+    ("trend trends timeline", "`tagzirk history FILE..` has a row for each of many dumps"),
+    ("graph", "`overlay graph CERTIFICATE` prints the graph of a certificate; `tagzirk import FILE` that of a dump"),
+    ("grow", "`overlay grow` grows an overlay and prints its scenario"),
+    ("sweep", "`overlay sweep` grows many overlays, and prints a row for each"),
+    ("read load parse convert transform export", "`tagzirk import FILE` makes a graph file of a dump"),
+    ("dump fetch gather", "`tagzirk collect` makes a dump of an overlay that runs"),
+    ("html page", "`tagzirk report FILE > report.html` makes a page"),
+    (
+        "fix repair improve heal harden strengthen augment suggest remedy add",
+        "`tagzirk mend FILE --to K` finds links to add",
+    ),
+    ("prometheus prom textfile", "`tagzirk metrics FILE --textfile TEXTFILE` writes the numbers for Prometheus"),
+    (
+        "alarm alert nagios monitor monitoring watch",
+        "`tagzirk status FILE --at-least K` has a status for alarms, and `tagzirk metrics` numbers for Prometheus",
+    ),
+    ("racks", "`tagzirk each FILE --racks RACKS` tells what the crash of each rack does"),
+    ("pairs pair", "`tagzirk each FILE --pairs` tells what the crash of every two hosts does"),
+    (
+        "hosts nodes crash crashes fail failure failures kill simulate what-if worst weakest spof all",
+        "`tagzirk each FILE` tells what the crash of each host does",
+    ),
+    ("compare changes difference differences delta", "`tagzirk diff OLD NEW` tells what changed between two dumps"),
+    ("tinc", "`tagzirk collect tinc` makes a dump of tinc"),
+    ("yggdrasil", "`tagzirk collect yggdrasil` makes a dump of Yggdrasil"),
+    ("usage man", "`tagzirk --help` has all commands, and `tagzirk COMMAND --help` the options of one"),
+)
+OTHER_COMMANDS: Dict[str, str] = {word: tip for words, tip in MEANT for word in words.split()}
 # Options of other commands, of `overlay`, or of habit: what is meant.
 OTHER_OPTIONS: Dict[str, str] = {
     "--views": "--form views says that the dump is views in JSON",
@@ -53,8 +75,7 @@ OTHER_OPTIONS: Dict[str, str] = {
     "--names": "tagzirk speaks in names always, so --names can be left out",
     "--explain": "tagzirk says its answers in words always, so --explain can be left out",
     "--progress": "how far a command is stands on a terminal by itself, so --progress can be left out",
-    "--certificate": "`tagzirk mend` prints a certificate; the page of `tagzirk report` has one; else "
-    "`tagzirk import FILE | overlay analyse --certificate | tail -n 1`",
+    "--certificate": CERTIFICATE,
     "--without": "`tagzirk status FILE --without HOST,HOST` tells what is without some hosts",
     "--group": "`tagzirk status FILE --group HOST,HOST` tells what parts some hosts",
     "--at-least": "`tagzirk status FILE --at-least K` has a status that says whether k is high enough",
@@ -196,6 +217,8 @@ def of_fault(message: str) -> List[str]:
     >>> of_fault("argument --form: invalid choice: 'JSON' (choose from 'json', 'dot')")[1]
     'did you mean json?'
     """
+    if ": not allowed with argument " in message:
+        return [message, "each of them is a form of all that is printed: give one"]
     needless = re.search(r"argument (\S+): ignored explicit argument (.*)", message)
     if needless:
         return [f"{needless[1]} takes no value, and {needless[2]} stands behind it", OTHER_OPTIONS["--output"]]

@@ -3,7 +3,8 @@
 from __future__ import annotations
 
 from dataclasses import dataclass
-from typing import Callable, Iterable, Optional, Sequence, Tuple
+from functools import partial
+from typing import Callable, Iterable, List, Optional, Sequence, Tuple
 
 from .dumps import Dump, Options, read_dump
 from .errors import TagzirkError, in_words
@@ -51,7 +52,9 @@ class Status:
 
     def level(self, at_least: int) -> int:
         """The status for an alarm: `OK` if k is so high; `CRITICAL` if k is 0, as when the overlay is split already;
-        and else `WARNING`."""
+        and else `WARNING`. It is `UNKNOWN` of a group of one host, whose k of 0 says of no link that it is missing."""
+        if self.report.group is not None and len(self.report.group) == 1:
+            return UNKNOWN
         return OK if self.report.k >= at_least else WARNING if self.report.k else CRITICAL
 
 
@@ -69,13 +72,11 @@ def status(
     """What a dump says of its overlay: k, the cut, and who is cut off. Names that have no entry are left out, and it is
     told what k is with them. The hosts of `without` are left out too; with a `group` only its hosts must stay joined.
 
-    >>> import json, pathlib, tempfile
+    >>> import pathlib, tempfile
     >>> with tempfile.TemporaryDirectory() as room:
-    ...     file = pathlib.Path(room, "net.json")
-    ...     views = {"a.x": ["b.x", "gone"], "b.x": ["a.x", "c.x"], "c.x": ["b.x", "d.x"], "d.x": ["c.x"]}
-    ...     _ = file.write_text(json.dumps(views))
-    ...     it = status([str(file)])
-    ...     less = status([str(file)], without=["a"])
+    ...     file = pathlib.Path(room, "net.lists")
+    ...     _ = file.write_text("a.x: b.x gone\\nb.x: a.x c.x\\nc.x: b.x d.x\\nd.x: c.x\\n")
+    ...     it, less = status([str(file)]), status([str(file)], without=["a"])
     >>> it.report.k, it.report.cut, it.pieces, it.dead.names, it.dead.report.k
     (1, ('b.x',), (('c.x', 'd.x'), ('a.x',)), ('gone',), 0)
     >>> less.report.cut, less.left_out
@@ -84,21 +85,24 @@ def status(
     dump = read_dump(places, options._replace(entries=True), overlay=overlay)
     whole = dump.graph
     left_out = hosts_of(without, list(whole.ids), "--without")
-    named = None if group is None else hosts_of(group, list(whole.ids), "--group")
-    members = None if named is None else [it for it in named if it not in left_out]
+    members = None if group is None else members_of(group, whole, left_out)
 
     def ask(of: NamedGraph[str]) -> Report[str]:
         return analysed(of, of.members(members), overlay=overlay, overlay_check=overlay_check)
 
     graph = whole.without({whole.ids[it] for it in left_out})
     report = ask(graph)
-    dead = None
-    if dump.without_entry and not options.entries:
-        dead = with_dead(lambda: read_dump(places, options, overlay=overlay).graph, whole, left_out, ask)
+    has_dead = bool(dump.without_entry) and not options.entries
+    dead = with_dead(partial(read_dump, places, options, overlay=overlay), whole, left_out, ask) if has_dead else None
     found = None
     if members is None:
         found = worst(graph, report, workers=workers, overlay=overlay, overlay_check=overlay_check, progress=progress)
     return Status(dump, graph, report, pieces_after(report, graph), tuple(left_out), found, dead)
+
+
+def members_of(group: Iterable[str], graph: NamedGraph[str], left_out: Sequence[str]) -> List[str]:
+    """The hosts of a group that are not left out."""
+    return [it for it in hosts_of(group, list(graph.ids), "--group") if it not in left_out]
 
 
 def pieces_after(report: Report[str], graph: NamedGraph[str]) -> Tuple[Tuple[str, ...], ...]:
@@ -109,14 +113,14 @@ def pieces_after(report: Report[str], graph: NamedGraph[str]) -> Tuple[Tuple[str
 
 
 def with_dead(
-    read: Callable[[], NamedGraph[str]],
+    read: Callable[[], Dump],
     living: NamedGraph[str],
     left_out: Sequence[str],
     ask: Callable[[NamedGraph[str]], Report[str]],
 ) -> Dead:
     """What k is with the names that have no entry: in the graph that is read with them."""
     try:
-        everybody = read()
+        everybody = read().graph
         names = tuple(it for it in everybody.ids if it not in living.ids)
         return Dead(names, ask(everybody.without({everybody.ids[it] for it in left_out})))
     except TagzirkError as why:

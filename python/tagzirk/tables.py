@@ -47,18 +47,27 @@ def ends_by_name(header: Sequence[str], columns: Optional[str]) -> Optional[Ends
     asked = tuple(it.strip().lower() for it in columns.split(",")) if columns else None
     if asked and (len(asked) != 2 or not set(asked) <= set(names)):
         return None
-    for pair in (asked,) if asked else (*LINK_ENDS, *LISTING_ENDS, *MANY_ENDS):
-        if pair and set(pair) <= set(names):
-            demand_one_pair(pair, names, asked)
-            places = names.index(pair[0]), names.index(pair[1])
-            is_many = pair in MANY_ENDS
-            return Ends(places, pair in LISTING_ENDS or is_many, is_many)
-    return None
+    known = known_ends(names) if asked is None else [ends_of((asked[0], asked[1]), names)]
+    if known and asked is None:
+        demand_one_pair((names[known[0].places[0]], names[known[0].places[1]]), names)
+    return next(iter(known), None)
 
 
-def demand_one_pair(pair: Tuple[str, ...], names: Sequence[str], asked: Optional[Tuple[str, ...]]) -> None:
-    """Refuses a header that has two such pairs without a name in both, unless one is asked for."""
-    for other in () if asked else (*LINK_ENDS, *LISTING_ENDS):
+def known_ends(names: Sequence[str]) -> List[Ends]:
+    """Each two columns of a header, in small letters, that are known as both ends."""
+    pairs = (*LINK_ENDS, *LISTING_ENDS, *MANY_ENDS)
+    return [ends_of(pair, names) for pair in pairs if set(pair) <= set(names)]
+
+
+def ends_of(pair: Tuple[str, str], names: Sequence[str]) -> Ends:
+    """The columns of these names."""
+    is_many = pair in MANY_ENDS
+    return Ends((names.index(pair[0]), names.index(pair[1])), pair in LISTING_ENDS or is_many, is_many)
+
+
+def demand_one_pair(pair: Tuple[str, str], names: Sequence[str]) -> None:
+    """Refuses a header that has two such pairs without a name in both."""
+    for other in (*LINK_ENDS, *LISTING_ENDS):
         if set(other) <= set(names) and not set(other) & set(pair):
             raise BadDump(f"its header has {' and '.join(pair)}, and {' and '.join(other)}: say --columns FROM,TO")
 
@@ -67,6 +76,15 @@ def ends_by_number(columns: Optional[str]) -> Optional[Ends]:
     """Which columns are both ends, by their numbers from 1."""
     found = re.fullmatch(r"\s*([1-9][0-9]{0,2})\s*,\s*([1-9][0-9]{0,2})\s*", columns or "")
     return Ends((int(found[1]) - 1, int(found[2]) - 1)) if found and found[1] != found[2] else None
+
+
+def ends_in_header(header: Sequence[str], columns: Optional[str]) -> Optional[Ends]:
+    """Which columns are both ends, by a header, or by their numbers if it is sure that this is one: it has two names
+    that are known."""
+    by_number, known = ends_by_number(columns), known_ends([it.lower() for it in header])
+    if not by_number or not known or max(by_number.places) >= len(header):
+        return ends_by_name(header, columns)
+    return next((it for it in known if it.places == by_number.places), by_number)
 
 
 def is_rule(line: str) -> bool:
@@ -144,19 +162,25 @@ def without_rule(rows: List[Tuple[int, List[str]]]) -> List[Tuple[int, List[str]
 
 def with_header(text: str, columns: Optional[str]) -> Optional[Tuple[Table, Ends]]:
     """The table whose first line that is no comment is a header: one that names two columns that are known or were
-    asked for. No row below has these names, but for the whole header, which `cat` may repeat."""
+    asked for. No row below has these names, but for the whole header, which `cat` may repeat: else it may be a link."""
     lines = text.split("\n")
     begin = next((at for at, line in enumerate(lines) if line.strip() and not line.lstrip().startswith("#")), 0)
     between = between_columns(lines[begin])
     header = [it.strip().strip('"') for it in lines[begin].split(between) if it.strip() or between != " "]
-    ends = ends_by_name(header, columns)
+    ends = ends_in_header(header, columns)
     if not ends:
         return None
     table = Table("a table", header, without_rule(parsed_rows(text, begin + 1, between)))
     names = {header[it].lower() for it in ends.places}
-    others = (row for _, row in table.rows if row != header)
-    is_name = not columns and any(cell.lower() in names for row in others for cell in cells_at(row, ends))
-    return None if is_name else (table, ends)
+    others = ((number, cells_at(row, ends)) for number, row in table.rows if row != header)
+    again = next(((number, cell) for number, cells in others for cell in cells if cell.lower() in names), None)
+    if again and columns and not ends_by_number(columns):
+        numbers = ",".join(str(it + 1) for it in ends.places)
+        raise BadDump(
+            f"line {begin + 1} may be a header or a link, since {again[1]} stands in line {again[0]} too: of a header "
+            f"say --skip {begin + 1} --columns {numbers}, and of a link --columns {numbers} alone"
+        )
+    return None if again else (table, ends)
 
 
 def without_header(text: str) -> Table:
@@ -224,7 +248,17 @@ def of_table(table: Table, ends: Ends) -> Views:
             views.link(one, other, said)
     if repeated:
         views.kind += f"; the header stands {repeated + 1} times"
+    if not table.header:
+        views.kind += told_of_first(table.rows, ends)
     return views
+
+
+def told_of_first(rows: Sequence[Tuple[int, List[str]]], ends: Ends) -> str:
+    """What is told of a table without a header whose first row may be one: both of its names stand in no other row."""
+    first, *others = [list(cells_at(cells, ends)) for _, cells in rows]
+    if len(others) < 2 or not {it for cells in others for it in cells}.isdisjoint(first):
+        return ""
+    return f"; {' and '.join(first)} stand in line {rows[0][0]} alone: of a header say --columns {','.join(first)}"
 
 
 def enter_many(views: Views, name: str, cell: str, said: Dict[str, Scalar]) -> None:

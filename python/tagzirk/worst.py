@@ -49,9 +49,8 @@ def parting(peers: Sequence[Sequence[int]], gone: Iterable[int]) -> Dict[int, in
     """The hosts whose crash, after that of `gone`, parts what is left, with how many each cuts off from the largest
     connected component. What `gone` leaves must be joined.
 
-    This is the search for cut vertices of Hopcroft and Tarjan: a search in depth gives each host its place in `order`,
-    and `low` is the lowest place that is linked to the part of the tree below it. `peers` has whom each host is linked
-    to, by numbers from 0 on.
+    This is the search for cut vertices of Hopcroft and Tarjan, in depth: `order` has the place of each host, and `low`
+    the lowest place that is linked to the tree below it. `peers` has whom each is linked to, by numbers from 0 on.
 
     >>> parting([[1], [0, 2, 3], [1, 3], [1, 2]], [])
     {1: 1}

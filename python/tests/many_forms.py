@@ -53,6 +53,7 @@ def of_json(value):
 
 
 LINKS = [(f"n{i}", f"n{j}") for i, j in RING]
+EDGES = [{"source": a, "target": b} for a, b in LINKS]
 VIEWS = {f"n{i}": [f"n{j}" for j in peers] for i, peers in PEERS.items()}
 MATRIX = [[int(j in PEERS[i]) for j in range(1, 7)] for i in range(1, 7)]
 ROWS = "\n".join(" ".join(map(str, row)) for row in MATRIX)
@@ -207,7 +208,8 @@ TABLES = (
     form("neo4j", ":START_ID,:END_ID,:TYPE\n" + each_link("{a},{b},LINK\n")),
 )
 XML = "".join(f'<node id="{it}"/>' for it in HOSTS) + each_link('<edge source="{a}" target="{b}" weight="{at}"/>')
-XML_BY_NUMBER = "".join(f'<node id="{at}" label="n{at}"/>' for at in range(1, 7)) + each_link('<edge id="{at}" source="{i}" target="{j}"/>')
+XML_BY_NUMBER = "".join(f'<node id="{at}" label="n{at}"/>' for at in range(1, 7))
+XML_BY_NUMBER += each_link('<edge id="{at}" source="{i}" target="{j}"/>')
 GEXF = (
     '<?xml version="1.0" encoding="UTF-8"?>\n<gexf xmlns="http://gexf.net/1.{version}" version="1.{version}"><meta/>'
     '<graph defaultedgetype="undirected"><nodes>{nodes}</nodes><edges>{edges}</edges></graph></gexf>'
@@ -215,8 +217,10 @@ GEXF = (
 GEXF_NODES = "".join(f'<node id="n{at}" label="n{at}"><viz:color r="0" g="0" b="0"/></node>' for at in range(1, 7))
 GEXF_EDGES = each_link('<edge id="{at}" source="{a}" target="{b}"/>')
 GEXF13 = (GEXF.replace("1.{version}", "1.3").replace("><meta", ' xmlns:viz="http://gexf.net/1.3/viz"><meta'))
-GML = "graph [\n  directed 0\n" + each_host('  node [\n    id {i}\n    label "{a}"\n  ]\n') + each_link("  edge [\n    source {i}\n    target {j}\n  ]\n") + "]\n"
-PLAIN = "graph 1 2.75 3.5\n" + each_host("node {a} 0.5 0.5 0.75 0.5 {a} solid ellipse black lightgrey\n") + each_link("edge {a} {b} 4 1 1 2 2 3 3 4 4 solid black\n") + "stop\n"
+GML = "graph [\n  directed 0\n" + each_host('  node [\n    id {i}\n    label "{a}"\n  ]\n')
+GML += each_link("  edge [\n    source {i}\n    target {j}\n  ]\n") + "]\n"
+PLAIN = "graph 1 2.75 3.5\n" + each_host("node {a} 0.5 0.5 0.75 0.5 {a} solid ellipse black lightgrey\n")
+PLAIN += each_link("edge {a} {b} 4 1 1 2 2 3 3 4 4 solid black\n") + "stop\n"
 PAJEK = "*Vertices 6\n" + each_host('{i} "{a}" 0.1 0.2 0.5\n')
 LEMON = "@nodes\nlabel name\n" + each_host("{p} {a}\n")
 LEDA = "LEDA.GRAPH\nstring\nint\n{direction}6\n" + each_host("|{{{{{a}}}}}|\n")
@@ -225,14 +229,17 @@ MTX = "%%MatrixMarket matrix coordinate pattern {kind}\n% of today\n6 6 {count}\
 GRAPHS = (
     form(
         "GraphML",
-        f'<?xml version="1.0"?>\n<graphml xmlns="http://graphml.graphdrawing.org/xmlns"><graph edgedefault="undirected">{XML}</graph></graphml>',
+        '<?xml version="1.0"?>\n<graphml xmlns="http://graphml.graphdrawing.org/xmlns">'
+        f'<graph edgedefault="undirected">{XML}</graph></graphml>',
     ),
     form("GraphML with labels", f"<graphml><graph>{XML_BY_NUMBER}</graph></graphml>", "--by", "label"),
     form("GraphML by ids", f"<graphml><graph>{XML_BY_NUMBER}</graph></graphml>", hosts=NUMBERS),
     form(
         "GraphML of yEd",
         '<graphml xmlns:y="x"><key for="node" id="d1" yfiles.type="nodegraphics"/><graph edgedefault="undirected">'
-        + each_host('<node id="{a}"><data key="d1"><y:ShapeNode><y:NodeLabel>{a}</y:NodeLabel></y:ShapeNode></data></node>')
+        + each_host(
+            '<node id="{a}"><data key="d1"><y:ShapeNode><y:NodeLabel>{a}</y:NodeLabel></y:ShapeNode></data></node>'
+        )
         + each_link('<edge source="{a}" target="{b}"><data key="d2"><y:PolyLineEdge/></data></edge>')
         + "</graph></graphml>",
     ),
@@ -372,24 +379,42 @@ VALUES = (
     ),
     form(
         "JSON, nodes and links",
-        of_json({"nodes": [{"id": it} for it in HOSTS], "links": [{"source": a, "target": b} for a, b in LINKS]}),
+        of_json({"nodes": [{"id": it} for it in HOSTS], "links": EDGES}),
     ),
     form(
         "JSON of d3, by places",
-        of_json({"nodes": [{"name": it} for it in HOSTS], "links": [{"source": i - 1, "target": j - 1} for i, j in RING]}),
+        of_json(
+            {"nodes": [{"name": it} for it in HOSTS], "links": [{"source": i - 1, "target": j - 1} for i, j in RING]}
+        ),
     ),
     form(
         "JSON Graph Format",
-        of_json({"graph": {"directed": False, "nodes": {it: {} for it in HOSTS}, "edges": [{"source": a, "target": b} for a, b in LINKS]}}),
+        of_json({"graph": {"directed": False, "nodes": {it: {} for it in HOSTS}, "edges": EDGES}}),
     ),
     form(
         "JSON of cytoscape",
-        of_json({"elements": {"nodes": [{"data": {"id": it}} for it in HOSTS], "edges": [{"data": {"id": f"{a}{b}", "source": a, "target": b}} for a, b in LINKS]}}),
+        of_json(
+            {
+                "elements": {
+                    "nodes": [{"data": {"id": it}} for it in HOSTS],
+                    "edges": [{"data": {"id": f"{a}{b}", "source": a, "target": b}} for a, b in LINKS],
+                }
+            }
+        ),
     ),
     form("JSON, pairs", of_json([list(it) for it in LINKS])),
     form(
         "JSON of olsrd",
-        of_json({"pid": 7, "topology": [{"lastHopIP": f"n{i}", "destinationIP": f"n{j}", "tcEdgeCost": 1024} for i, peers in PEERS.items() for j in peers]}),
+        of_json(
+            {
+                "pid": 7,
+                "topology": [
+                    {"lastHopIP": f"n{i}", "destinationIP": f"n{j}", "tcEdgeCost": 1024}
+                    for i, peers in PEERS.items()
+                    for j in peers
+                ],
+            }
+        ),
         "--links",
         "topology",
         "--columns",
@@ -397,7 +422,14 @@ VALUES = (
     ),
     form(
         "JSON of lnd",
-        of_json({"nodes": [{"pub_key": it, "alias": it.upper()} for it in HOSTS], "edges": [{"channel_id": str(at), "node1_pub": a, "node2_pub": b} for at, (a, b) in enumerate(LINKS)]}),
+        of_json(
+            {
+                "nodes": [{"pub_key": it, "alias": it.upper()} for it in HOSTS],
+                "edges": [
+                    {"channel_id": str(at), "node1_pub": a, "node2_pub": b} for at, (a, b) in enumerate(LINKS)
+                ],
+            }
+        ),
         "--by",
         "pub_key",
         "--columns",
@@ -405,7 +437,12 @@ VALUES = (
     ),
     form(
         "JSON, hosts in objects",
-        of_json({"n1": {"peers": {"n2": {}, "n4": {}, "n6": {}}}, **{host: {"peers": dict.fromkeys(peers, {})} for host, peers in VIEWS.items()}}),
+        of_json(
+            {
+                "n1": {"peers": {"n2": {}, "n4": {}, "n6": {}}},
+                **{host: {"peers": dict.fromkeys(peers, {})} for host, peers in VIEWS.items()},
+            }
+        ),
     ),
     form(
         "JSON with another key",

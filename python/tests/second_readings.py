@@ -62,7 +62,8 @@ def of_rows(between, one, other):
         rows = list(csv.reader(io.StringIO(text, newline=""), delimiter=between, skipinitialspace=True))
         head = [it.strip().lower() for it in rows[0]]
         places = head.index(one), head.index(other)
-        ends = [[row[it].strip() for it in places] for row in rows[1:] if any(it.strip() for it in row) and row != rows[0]]
+        others = [row for row in rows[1:] if any(it.strip() for it in row) and row != rows[0]]
+        ends = [[row[it].strip() for it in places] for row in others]
         return of_graph(ends)
 
     return read
@@ -157,7 +158,8 @@ def readings():
         "lists behind colons": of_lists,
         **dict.fromkeys(("GraphML", "GraphML by ids", "GraphML of yEd", "GEXF 1.3", "XGMML"), of_xml),
         "JSON, views": of_json,
-        **dict.fromkeys(("DOT", "DOT with directions", "DOT of tinc", "DOT with subgraphs", "strict DOT", "DOT with HTML"), of_dot),
+        **dict.fromkeys(("DOT", "DOT with directions", "DOT of tinc", "DOT with subgraphs"), of_dot),
+        **dict.fromkeys(("strict DOT", "DOT with HTML"), of_dot),
     }
     if "yaml" in globals():
         found.update(dict.fromkeys(("YAML, lists", "YAML, items", "YAML without a head"), of_yaml))

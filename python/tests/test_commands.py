@@ -380,13 +380,14 @@ class Pages(Commands):
             self.assertIn(f'<div class="t-k t-{kind}">k<b>{k}</b>', self.tagzirk("report", given=text)[0])
 
     def test_the_worst_of_the_smallest_cuts(self):
-        # two hubs of three pods, each of which is linked to both by one node: either of two nodes and a hub, or both hubs
+        # two hubs of three pods, each of which is linked to both by one node: two nodes and a hub, or both hubs
         pods = [f"{pod}{at}" for pod in "pqr" for at in "123"]
         links = [(a, b) for a in pods for b in pods if a < b and a[0] == b[0]]
         links += [(f"{pod}1", "hub-a") for pod in "pqr"] + [(f"{pod}2", "hub-b") for pod in "pqr"]
         out, _, _ = self.tagzirk("report", "--site", "^[pqr]", given=edges_of(links))
         words = re.sub("</?(?:span|strong)[^>]*>", "", out)
-        self.assertIn("But as few crashes cut off more: if hub-a, hub-b crash, 6 hosts are cut off, in 2 pieces:", words)
+        more = "But as few crashes cut off more: if hub-a, hub-b crash, 6 hosts are cut off, in 2 pieces:"
+        self.assertIn(more, words)
         # by hand: the hubs, and in each pod its first two, or one of these with the hub of the other
         self.assertIn("There are 10 smallest cuts, of 2 hosts each.", words)
         self.assertRegex(words, r"<tr><td>hub-a, hub-b</td><td[^>]*>6</td><td[^>]*>3</td><td>sites \w \(3 hosts\), ")

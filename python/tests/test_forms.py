@@ -28,6 +28,17 @@ except ImportError:
 # A triangle and a host without links.
 TRIANGLE = {"a": {"b", "c"}, "b": {"a", "c"}, "c": {"a", "b"}, "d": set()}
 PATH = {"a": {"b"}, "b": {"a", "c"}, "c": {"b"}}
+# What Graphviz writes as JSON, without where it draws things.
+GRAPHVIZ = json.dumps(
+    {
+        "name": "G",
+        "directed": False,
+        "strict": False,
+        "_subgraph_cnt": 0,
+        "objects": [{"_gvid": 0, "name": "a"}, {"_gvid": 1, "name": "b"}],
+        "edges": [{"_gvid": 0, "tail": 0, "head": 1}],
+    }
+)
 
 
 def views(text, place="net", **asked):
@@ -162,6 +173,7 @@ class Values(unittest.TestCase):
         for value in {"a": entries["a"]}, {"a": {"peers": [{"name": "b", "peers": ["a"]}]}}:
             self.assertEqual(views(json.dumps(value)), {"a": {"b"}}, value)
         self.assertEqual(views('{"a": [{"name": "b", "links": 3}], "b": []}'), {"a": {"b"}, "b": set()})
+        self.assertEqual(views('{"a": ["b", {"name": "c", "links": 3}]}'), {"a": {"b", "c"}})
 
     def test_what_is_refused(self):
         for text, told in (
@@ -185,6 +197,12 @@ class Values(unittest.TestCase):
             ('{"nodes":[],"links":[{"a":1}]}', "source and target"),
             ('{"type":"NetworkCollection","collection":[]}', "0 graphs"),
             ('{"nodes":["a"],"adjacency":[]}', "for each node"),
+            ('{"a":{"neighbors":"b,c"},"b":{}}', "of the host a, neighbors is 'b,c', and should be a list of names"),
+            ('[{"name":"a","peers":"b"},{"name":"b","peers":["a"]}]', "of the host a, peers is 'b', and should be"),
+            ('{"name":"a","links":2}\n{"name":"b","links":2}\n', "of the host a, links is 2, and should be a list"),
+            ('{"hosts":[{"name":"a","neighbours":"b"}]}', "below hosts, neighbours is 'b', and should be a list"),
+            ('{"nodes":[{"id":"a","peers":"b"},{"id":"b"}]}', "below nodes, peers is 'b', and should be a list"),
+            (GRAPHVIZ, "what `dot -Tjson` writes: give the DOT"),
         ):
             with self.assertRaisesRegex(BadDump, told, msg=text):
                 views(text)
@@ -211,11 +229,26 @@ class Lines(unittest.TestCase):
         for text, asked, told in (
             ("a,b\n", {"form": "csv"}, "no known header"),
             ("x,y\na,b\n", {"columns": "x,z"}, "--columns"),
+            ("a b\nb c\n", {"columns": "a,b"}, "line 1 may be a header or a link, since b stands in line 2 too"),
+            ("# x\nsource,target\na,target\n", {"columns": "source,target"}, "--skip 2 --columns 1,2, and of a link"),
             ("source,target\na\n", {}, "line 2 has 1"),
             ("source,target\na,\n", {}, "line 2 lacks a name"),
         ):
             with self.assertRaisesRegex(BadDump, told, msg=text):
                 views(text, **asked)
+
+    def test_columns_by_number(self):
+        for text in "source,target\na,b\nb,c\n", "a b\nb c\n", "# seen\nfrom,to\na,b\nb,c\nfrom,to\n":
+            self.assertEqual(views(text, columns="1,2"), PATH, text)
+        self.assertEqual(views("source,cost,target\na,7,b\nc,8,b\n", columns="3,1"), PATH)
+        self.assertEqual(views("id,source,target,port\na,x,y,b\nb,x,y,c\n", columns="1,4"), PATH)
+        # a known header says that each row is a listing
+        self.assertEqual(views("host,peer\na,b\n", columns="1,2"), {"a": {"b"}})
+        # hosts that are called as columns
+        self.assertEqual(views("source target\na source\n", columns="1,2")["source"], {"target", "a"})
+        lone = listings_of(b"here,there\na,b\nb,c\n", "net", Asked(columns="1,2"))
+        self.assertIn("here and there stand in line 1 alone: of a header say --columns here,there", lone.kind)
+        self.assertEqual(views("here,there\na,b\nb,c\n", columns="here,there"), PATH)
 
     def test_weights(self):
         for text in (
@@ -369,8 +402,14 @@ class OfGraphs(unittest.TestCase):
         for text, told in (
             ("<?xml version='1.0'?><svg/>", "no graph of nodes and edges: its first element is svg"),
             (f"<graphml><graph>{whole}</graph><graph><node id='c'/></graph></graphml>", "a second graph"),
-            (f"<graphml><graph>{whole}<node id='c'><graph><node id='d'/></graph></node></graph></graphml>", "a graph in it"),
-            (f"<gexf><graph>{whole}<node id='c'><nodes><node id='d'/></nodes></node></graph></gexf>", "groups of hosts"),
+            (
+                f"<graphml><graph>{whole}<node id='c'><graph><node id='d'/></graph></node></graph></graphml>",
+                "a graph in it",
+            ),
+            (
+                f"<gexf><graph>{whole}<node id='c'><nodes><node id='d'/></nodes></node></graph></gexf>",
+                "groups of hosts",
+            ),
             (f"<graphml><graph>{whole}<node id='a'/></graph></graphml>", "line 1: the host a stands there twice"),
             (f"<graphml><graph>{whole}<edge source='a' target='c'/></graph></graphml>", "the end c, which is no node"),
             (f"<graphml><graph>{whole}<node/></graph></graphml>", "a node has no id"),
@@ -388,7 +427,8 @@ class OfGraphs(unittest.TestCase):
         key = '<key id="d0" for="edge" attr.name="state"><default>up</default></key>'
         graphml = (
             f'<graphml>{key}<graph edgedefault="undirected"><node id="a"/><node id="b"/><node id="c"/>'
-            '<edge source="a" target="b"/><edge source="b" target="c"><data key="d0">down</data></edge></graph></graphml>'
+            '<edge source="a" target="b"/><edge source="b" target="c"><data key="d0">down</data></edge></graph>'
+            "</graphml>"
         )
         gexf = (
             '<gexf version="1.3"><graph><attributes class="edge"><attribute id="0" title="state"><default>up</default>'
@@ -415,7 +455,8 @@ class OfGraphs(unittest.TestCase):
             self.assertEqual(views(text), {"a": {"b"}, "b": set()}, text)
 
     def test_names_of_graph_files(self):
-        xml = '<graphml><graph><node id="0" label="a"/><node id="1" label="b"/><edge source="0" target="1"/></graph></graphml>'
+        xml = '<node id="0" label="a"/><node id="1" label="b"/><edge source="0" target="1"/>'
+        xml = f"<graphml><graph>{xml}</graph></graphml>"
         gml = 'graph [ node [ id 0 label "a" ] node [ id 1 label "b" ] edge [ source 0 target 1 ] ]'
         ids, labels = {"0": {"1"}, "1": {"0"}}, {"a": {"b"}, "b": {"a"}}
         for text, by, wanted in (
@@ -457,7 +498,10 @@ class Dot(unittest.TestCase):
             ("graph { subgraph x {a}; subgraph x {c}; subgraph x -- b }", PATH),
             ("strict graph { a -- b -- c // late\n}", PATH),
             ('graph { "a":p:n -- b:q; node [x=1]; graph [y=2]; z = 3\n# by hand\nb -- "c" [label=<<b>x</b>>] }', PATH),
-            ('graph { "%a"; b -- c; {x} -- {b}; c -- x }', {"%a": set(), "b": {"c", "x"}, "c": {"b", "x"}, "x": {"b", "c"}}),
+            (
+                'graph { "%a"; b -- c; {x} -- {b}; c -- x }',
+                {"%a": set(), "b": {"c", "x"}, "c": {"b", "x"}, "x": {"b", "c"}},
+            ),
             ('graph { "a"+"b" -- "c\\"d" }', {"ab": {'c"d'}, 'c"d': {"ab"}}),
             ("digraph { a -> b }", {"a": {"b"}}),
         ):
@@ -471,6 +515,7 @@ class Dot(unittest.TestCase):
         self.assertEqual(said, [("a", None, {"site": "x"}), *links])
 
     def test_what_is_refused(self):
+        ends = (" ".join(f"{side}{at}" for at in range(400)) for side in "ab")
         for text, told in (
             ("graph { oslo-1 -- {a b} }", "several words"),
             ("graph { 10.0.0.1 -- {a b} }", "several words"),
@@ -484,8 +529,7 @@ class Dot(unittest.TestCase):
             ("graph { a -- <b", "has no end"),
             ('graph { <a> -- {"a"} }', "the same text in quotes"),
             ("graph { " + "{" * 200, "more than 100 deep"),
-            ("digraph { {" + " ".join(map("a{}".format, range(400))) + "} -> {" + " ".join(map("b{}".format, range(400))) + "} }",
-             "subgraphs as ends"),
+            (f"digraph {{ {{{next(ends)}}} -> {{{next(ends)}}} }}", "subgraphs as ends"),
         ):
             with self.assertRaisesRegex(BadDump, told, msg=text[:80]):
                 of_dot(text)
@@ -520,7 +564,8 @@ class Libraries(unittest.TestCase):
     @unittest.skipUnless(yaml, "yaml is not there")
     def test_scalars_of_yaml(self):
         # whatever YAML 1.1 makes of 010, 1.10 or no; what stands for nothing is nobody
-        self.assertEqual(views("010: [x]\n8: [x]\nx: [010, 8]\n", "a.yaml"), {"010": {"x"}, "8": {"x"}, "x": {"010", "8"}})
+        wanted = {"010": {"x"}, "8": {"x"}, "x": {"010", "8"}}
+        self.assertEqual(views("010: [x]\n8: [x]\nx: [010, 8]\n", "a.yaml"), wanted)
         text = "a: [1.10, no, 10:20:30, 2001-99-99, ~, true]\n1.1:\n'8': null\n"
         wanted = {"a": {"1.10", "no", "10:20:30", "2001-99-99", "true"}, "1.1": set(), "8": set()}
         self.assertEqual(views(text, "a.yaml"), wanted)

@@ -31,9 +31,13 @@ def laughs(levels):
 
 BOMBS = {
     "DOT, all of many nodes with all of many": f"digraph {{ {{{names('a', 1000)}}} -> {{{names('b', 1000)}}} }}",
-    "DOT, a subgraph once more, very often": f"graph {{ subgraph x {{{names('a', 20000)}}} {'subgraph x {};' * 10000} }}",
+    "DOT, a subgraph once more, very often": (
+        f"graph {{ subgraph x {{{names('a', 20000)}}} {'subgraph x {};' * 10000} }}"
+    ),
     "DOT, many subgraphs in one another": f"graph {{ {'{' * MANY}",
-    "DOT, many attributes by default": f"graph {{ {''.join(f'node [a{at}=1];' for at in range(9000))} {names('b', 9000)} -- {{c}} }}",
+    "DOT, many attributes by default": (
+        f"graph {{ {''.join(f'node [a{at}=1];' for at in range(9000))} {names('b', 9000)} -- {{c}} }}"
+    ),
     "DOT, an HTML text without an end": f"graph {{ a -- {'<' * MANY}",
     "a number that is none": f"a b {'1' * MANY}x",
     "arrows without names": f"{'->' * (MANY // 2)} x y",
@@ -55,7 +59,9 @@ BOMBS = {
     "a head of GML": "comment x\n" * (MANY // 10),
     "a cell of a table": f"source,target\n{'a' * MANY},b\n",
     "Pajek, very many hosts": "*Vertices 999999999\n",
-    "Matrix Market, very many hosts": "%%MatrixMarket matrix coordinate pattern symmetric\n999999999 999999999 1\n2 1\n",
+    "Matrix Market, very many hosts": (
+        "%%MatrixMarket matrix coordinate pattern symmetric\n999999999 999999999 1\n2 1\n"
+    ),
     "graph6, all linked": "~?N?" + "~" * ((960 * 959 // 2 + 5) // 6),
     "gzip of very much": gzip.compress(bytes(100 * MANY)),
     "a name of many letters": f"{'a' * MANY} {'b' * MANY}\nc d 1\n",

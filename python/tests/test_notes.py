@@ -89,7 +89,12 @@ class Unused(Dumps):
             ("a.json", objects, {"links": "edges"}, "there is no key edges, that --links asks for"),
             ("a.dot", "graph { a -- b [w=1] }", {"by": "w"}, "--by w is of no use here: it has the form dot"),
             ("a.dot", "graph { a -- b [w=1] }", {"columns": "a,b"}, "--columns a,b is of no use here"),
-            ("room-1", files, {"columns": "1,2"}, "--columns 1,2 is of no use here: each file has the peers of one host"),
+            (
+                "room-1",
+                files,
+                {"columns": "1,2"},
+                "--columns 1,2 is of no use here: each file has the peers of one host",
+            ),
             ("room-2", files, {"form": "json"}, "--form json is of no use here: each file has the peers of one host"),
             ("room-3", files, {"skip": 1}, "--skip 1 is of no use here: each file has the peers of one host"),
         ):
@@ -134,7 +139,11 @@ class Links(Dumps):
         for value, words, told in (
             ({"a": [pair], "b": {"a": [pair]}}, {"links": "b.c"}, "there is no key b.c"),
             ({"p": {"a": [pair]}, "q": {"a": [pair]}}, {"links": "a"}, "the key a stands in 2 places: say with dots"),
-            ({"a": [pair]}, {"links": "a"}, "what is no link with known ends, and it has the fields x, y: say --columns"),
+            (
+                {"a": [pair]},
+                {"links": "a"},
+                "what is no link with known ends, and it has the fields x, y: say --columns",
+            ),
             ({"a": 7}, {"links": "a"}, "below a stands no list of links: 7"),
             ({"a": [pair]}, {"links": "a", "columns": "x"}, "--columns takes two fields of a link"),
         ):

@@ -93,6 +93,64 @@ class Kept(Commands):
         self.assertEqual([it.name for it in self.room.iterdir()], ["net"])
 
 
+class InFolders(Commands):
+    """Files in a folder that is read, which the next time would be read too."""
+
+    def setUp(self):
+        super().setUp()
+        for host, peers in ("oslo", "rome\n"), ("rome", "oslo\nbern\n"), ("bern", "rome\n"):
+            self.file(f"hosts/{host}", peers)
+        self.hosts = self.room / "hosts"
+        self.before = sorted(self.room.rglob("*"))
+
+    def test_files_of_options(self):
+        (self.room / "link").symlink_to(self.hosts)
+        (self.room / "out").symlink_to(self.hosts / "new")
+        self.before = sorted(self.room.rglob("*"))
+        for place in "hosts/new", "link/new", "out":
+            for words in ["metrics", self.hosts, "--textfile"], ["mend", self.hosts, "--to", "2", "--graph"]:
+                for more in [], ["--force"]:
+                    out, err, status = self.tagzirk(*words, self.room / place, *more)
+                    self.assertEqual((out, status), ("", 1), (words, place))
+                    self.assertIn(f"the folder {self.hosts} is an input, and the next time this file would be one", err)
+        self.assertEqual(sorted(self.room.rglob("*")), self.before)
+        for place in self.hosts / ".hidden", self.room / "new":
+            self.assertEqual(self.tagzirk("metrics", self.hosts, "--textfile", place)[2], 0, place)
+            self.assertEqual(self.tagzirk("metrics", self.hosts, "--textfile", place)[2], 0, place)
+
+    def test_history(self):
+        """Of a folder of dumps, some of which are folders of one file a host."""
+        self.file("days/one", "a b\n")
+        self.hosts.rename(self.room / "days" / "two")
+        days, before = self.room / "days", sorted(self.room.rglob("*"))
+        for place in days / "day.svg", days / "two" / "day.svg":
+            out, err, status = self.tagzirk("history", days, "--svg", place)
+            self.assertEqual((out, status, f"the folder {place.parent} is an input" in err), ("", 1, True), err)
+        self.assertEqual(sorted(self.room.rglob("*")), before)
+
+    def test_standard_output(self):
+        """The shell makes the file, or empties it, before the command begins."""
+        edges, days = self.file("net.edges", PATH), self.room / "days"
+        self.hosts.rename(self.file("days/one", "a b\n").replace("one", "two"))
+        for words, place, told in (
+            (["report", days / "two"], days / "two" / "new", f"a file in {days / 'two'}, all of which are read"),
+            (["history", days], days / "two" / "new", f"a file in {days / 'two'}, all of which are read"),
+            (["history", days], days / "new", f"a file in {days}, all of which are read: remove it"),
+            (["diff", "--html", edges, days / "one"], days / "one", f"{days / 'one'}, which is read: name another"),
+            (["import", edges], edges, f"{edges}, which is read: name another file behind >"),
+        ):
+            with open(place, "w") as out:
+                ended = subprocess.run(
+                    [sys.executable, "-B", "-m", "tagzirk", *words],
+                    stdout=out,
+                    stderr=subprocess.PIPE,
+                    cwd=CHECKOUT / "python",
+                    timeout=60,
+                )
+            self.assertIn(f"standard output goes to {told}", ended.stderr.decode())
+            self.assertEqual((ended.returncode, os.path.getsize(place)), (1, 0))
+
+
 class Written(Commands):
     """How a file is written."""
 

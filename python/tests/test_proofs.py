@@ -48,7 +48,10 @@ class Proofs(Commands):
     def test_programs_that_are_not_there(self):
         with mock.patch("tagzirk.proofs.find", side_effect=ProgramMissing("none")):
             out, _, status = self.tagzirk("--version")
-        self.assertIn("overlay-check was not found: the variable TAGZIRK_OVERLAY_CHECK names it", out)
+        self.assertIn("overlay-check was not found: put it on PATH by bin/install, or set the variable TAGZIRK_", out)
+        with mock.patch.dict(os.environ, {"TAGZIRK_OVERLAY": "/nowhere/overlay"}):
+            out, _, status = self.tagzirk("--version")
+        self.assertIn("overlay was not found: TAGZIRK_OVERLAY is /nowhere/overlay, which is no program", out)
 
     def test_another_program_in_the_place_of_one(self):
         path = self.file("net", "a b\nb c\n")

@@ -1,5 +1,5 @@
-"""Slips: words that somebody may type, and what is told: a table. Each row has the words, the status, and a part of what
-stands on standard error. The tips follow from what the words are likely to mean."""
+"""Slips: words that somebody may type, and what is told: a table. Each row has the words, the status, and a part of
+what stands on standard error. The tips follow from what the words are likely to mean."""
 
 import gzip
 import json
@@ -27,7 +27,19 @@ COMMANDS = (
     ("frobnicate", 2, "the commands are status"),
     ("-v", 2, "`tagzirk --version` prints the version"),
     ("-x", 2, "tagzirk COMMAND -x"),
-    ("analyze net.json", 2, STATUS),
+    ("analyze net.json", 2, "did you mean `tagzirk analyse`?"),
+    ("analyzer net.json", 2, "did you mean `tagzirk analyse`?"),
+    ("info net.json", 2, STATUS),
+    ("alert net.json", 2, "`tagzirk status FILE --at-least K`"),
+    ("crash net.json", 2, "`tagzirk each FILE`"),
+    ("pairs net.json", 2, "`tagzirk each FILE --pairs`"),
+    ("heal net.json", 2, "`tagzirk mend FILE --to K`"),
+    ("trend dumps", 2, "`tagzirk history FILE..`"),
+    ("changes net.json ring.edges", 2, "`tagzirk diff OLD NEW`"),
+    ("cert net.json", 2, "overlay analyse --certificate | tail -n 1`"),
+    ("parse net.json", 2, "`tagzirk import FILE`"),
+    ("view net.json", 2, REPORT),
+    ("man", 2, "`tagzirk --help`"),
     ("k net.json", 2, STATUS),
     ("check cert.json", 2, "`overlay-check FILE` checks a certificate file"),
     ("verify cert.json", 2, "`overlay-check FILE` checks a certificate file"),
@@ -130,6 +142,10 @@ FILES = (
     ("status racks.txt", 0, "are these links?"),
     ("status list.txt", 1, "it has one name alone"),
     ("status latin.edges", 1, "iconv -f LATIN1 -t UTF-8 latin.edges"),
+    ("status etc.hosts", 1, "each line has an address and its names, as /etc/hosts has, and no link"),
+    ("metrics dumps --textfile dumps/new.prom", 1, "the folder dumps is an input"),
+    ("metrics dumps --textfile dumps/new.prom --force", 1, "the folder dumps is an input"),
+    ("mend dumps --to 2 --graph dumps/../dumps/new.graph", 1, "the folder dumps is an input"),
 )
 # Options of other commands or programs, or with other values.
 OPTIONS = (
@@ -141,6 +157,8 @@ OPTIONS = (
     ("each --threads 4 ring.edges", 2, "--workers N"),
     ("each -j 4 ring.edges", 2, "--workers N"),
     ("each --csv=yes ring.edges", 2, "--csv takes no value"),
+    ("each --csv --json ring.edges", 2, "each of them is a form of all that is printed: give one"),
+    ("diff --json --html net.json ring.edges", 2, "argument --html: not allowed with argument --json"),
     ("each --to 3 ring.edges", 2, "`tagzirk mend FILE --to K`"),
     ("each --certificate ring.edges", 2, "overlay analyse --certificate | tail -n 1`"),
     ("each --workers 0 ring.edges", 2, "a number from 1 to 1024"),
@@ -193,6 +211,7 @@ OPTIONS = (
     ("metrics net.json --textfile net.json", 1, "it is an input"),
     ("metrics net.json --textfile - --label prod", 2, "NAME=VALUE, as overlay=prod"),
     ("metrics net.json --textfile - --label overlay=", 2, "NAME=VALUE, as overlay=prod"),
+    ("metrics net.json --textfile - --label a=b --label a=c", 2, "there are two values of a, b and c"),
     ("metrics net.json --textfile - --labels overlay=prod", 2, "did you mean --label?"),
     ("metrics net.json --textfile - --overwrite", 2, "--force"),
     ("status net.json --without nobody", 1, "nobody is no host of the dump"),
@@ -202,6 +221,7 @@ OPTIONS = (
     ("status net.json --without @missing.txt", 1, "missing.txt: No such file"),
     ("status net.json --atleast 2", 2, "did you mean --at-least?"),
     ("status net.json --at-least", 3, "--at-least 2 asks"),
+    ("status net.json --at-least 1 --group oslo-1", 3, "--at-least says nothing of a group of one host, oslo-1"),
     ("status net.json --at-least two", 3, "a number from 1 to 1024"),
     ("status net.json --site [a", 1, "is no regular expression"),
     ("status net.json --site xyz", 1, "matches the name of no host"),
@@ -218,6 +238,43 @@ OPTIONS = (
     ("each net.json --racks page.html", 1, "is no host with its rack"),
 )
 
+NET = (DUMPS / "cluster.json").read_bytes()
+# The files that there are.
+INPUTS = {
+    "net.json": NET,
+    "name with space.json": NET,
+    "-dash.json": NET,
+    "dumps/one.json": NET,
+    "hollow/.hidden": "",
+    "ring.edges": RING,
+    "racks.txt": "a r1\nb r1\nc r2\nd r2\n",
+    "net.graph": "# 1 a\nnode 1\n# 2 b\nnode 2\nlink 1 2\n",
+    "cert.json": (DUMPS / "certificate.json").read_bytes(),
+    "page.html": "<!DOCTYPE html>\n<html></html>\n",
+    "pic.svg": '<?xml version="1.0"?>\n<svg xmlns="http://www.w3.org/2000/svg"></svg>\n',
+    "prog": b"\x7fELF\x02\x01\x01\0\0\0",
+    "script.sh": "#!/bin/sh\ntrue\n",
+    "random.bin": bytes((at * 73 + 41) % 256 for at in range(2000)),
+    "each.csv": "host,hosts,k,all_linked,cut_off,names_cut_off\na,1,1,0,0,\n",
+    "hist.csv": "time,nodes,links,k,cut,one_sided,without_entry,file,fault\n",
+    "m.prom": "# HELP tagzirk_dump_read 1 if\n# TYPE tagzirk_dump_read gauge\ntagzirk_dump_read 1.0\n",
+    "add.txt": "add\ta\tb\n",
+    "s.scenario": "seed 7\nboot 1\nboot 2 by 1\n",
+    "answer.txt": "report 0 split k 2 cut 1,2 near 3 far 4 side 3\n",
+    "check.txt": "holds 0 split k 2 cut 1,2 near 3 far 4 side 3\n",
+    "net.json.gz": gzip.compress(NET),
+    "net.json.xz": lzma.compress(NET),
+    "net.zip": b"PK\x03\x04\x14\0\0\0",
+    "unit.service": "[Unit]\nDescription=x\n",
+    "torn.json": NET[:100],
+    "empty": "",
+    "blank": "\n\n",
+    "list.txt": "oslo-1\noslo-2\n",
+    "latin.edges": b"h\xe9 b\n",
+    "t.csv": "source,target,cost\na,b,1\nb,c,2\n",
+    "etc.hosts": "127.0.0.1 localhost\n10.0.0.1 oslo-1\n",
+}
+
 
 class Slips(Commands):
     def setUp(self):
@@ -225,40 +282,7 @@ class Slips(Commands):
         before = os.getcwd()
         os.chdir(self.room)
         self.addCleanup(os.chdir, before)
-        net = (DUMPS / "cluster.json").read_bytes()
-        for name, text in {
-            "net.json": net,
-            "name with space.json": net,
-            "-dash.json": net,
-            "dumps/one.json": net,
-            "hollow/.hidden": "",
-            "ring.edges": RING,
-            "racks.txt": "a r1\nb r1\nc r2\nd r2\n",
-            "net.graph": "# 1 a\nnode 1\n# 2 b\nnode 2\nlink 1 2\n",
-            "cert.json": (DUMPS / "certificate.json").read_bytes(),
-            "page.html": "<!DOCTYPE html>\n<html></html>\n",
-            "pic.svg": '<?xml version="1.0"?>\n<svg xmlns="http://www.w3.org/2000/svg"></svg>\n',
-            "prog": b"\x7fELF\x02\x01\x01\0\0\0",
-            "script.sh": "#!/bin/sh\ntrue\n",
-            "random.bin": bytes((at * 73 + 41) % 256 for at in range(2000)),
-            "each.csv": "host,hosts,k,all_linked,cut_off,names_cut_off\na,1,1,0,0,\n",
-            "hist.csv": "time,nodes,links,k,cut,one_sided,without_entry,file,fault\n",
-            "m.prom": "# HELP tagzirk_dump_read 1 if\n# TYPE tagzirk_dump_read gauge\ntagzirk_dump_read 1.0\n",
-            "add.txt": "add\ta\tb\n",
-            "s.scenario": "seed 7\nboot 1\nboot 2 by 1\n",
-            "answer.txt": "report 0 split k 2 cut 1,2 near 3 far 4 side 3\n",
-            "check.txt": "holds 0 split k 2 cut 1,2 near 3 far 4 side 3\n",
-            "net.json.gz": gzip.compress(net),
-            "net.json.xz": lzma.compress(net),
-            "net.zip": b"PK\x03\x04\x14\0\0\0",
-            "unit.service": "[Unit]\nDescription=x\n",
-            "torn.json": net[:100],
-            "empty": "",
-            "blank": "\n\n",
-            "list.txt": "oslo-1\noslo-2\n",
-            "latin.edges": b"h\xe9 b\n",
-            "t.csv": "source,target,cost\na,b,1\nb,c,2\n",
-        }.items():
+        for name, text in INPUTS.items():
             self.file(name, text)
 
     def told(self, rows):

@@ -92,6 +92,14 @@ class Status(Commands):
         self.assertRegex(self.lines("--group", "fra-2,hel-2")[0], "^k is 2 for the 2 hosts of the group: Crashing ")
         all_linked = self.lines("--group", ",".join(SITES["fra"]))
         self.assertIn("k is 3: every two of the 4 hosts of the group are linked", all_linked[0])
+        # a group of one has k 0 by definition, of which an alarm says nothing
+        alone = self.lines("--group", "fra-2")[0]
+        self.assertTrue(alone.startswith("k is 0: the group is one host alone, fra-2.example.net"), alone)
+        for words in ["--group", "fra-2"], ["--group", "fra-2,hel-2", "--without", "hel-2"]:
+            out, err, status = self.tagzirk("status", self.dump, "--at-least", 1, *words)
+            wanted = "UNKNOWN - --at-least says nothing of a group of one host, fra-2.example.net, whose k is 0\n"
+            self.assertEqual((out, status), (wanted, 3), err)
+        self.assertEqual(tagzirk.status([self.dump], group=["fra-2"]).level(1), 3)
         for word, told in (
             ("relay-3", "relay-3 is no host of the dump; did you mean relay-"),
             ("Fra-0", "Fra-0 is no host of the dump; did you mean fra-0"),

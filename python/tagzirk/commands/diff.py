@@ -12,7 +12,7 @@ from ..differences import Difference, Link, Side, differences
 from ..graphs import shown
 from ..markup import counted
 from ..progress import Progress
-from .words import Parents, command, options_of, some, told
+from .words import Parents, command, options_of, places_of, some, told
 
 if TYPE_CHECKING:
     from .words import Commands
@@ -25,8 +25,9 @@ def add(commands: Commands, parents: Parents) -> None:
     text = "tell what changed between two dumps, OLD and NEW, and what of it lowered k"
     it = command(commands, "diff", run_diff, text, parents.dump, is_of_many=True)
     it.usage = "tagzirk diff [OPTIONS] OLD NEW"
-    it.add_argument("--json", action="store_true", help="print all of it as JSON, and nothing else")
-    it.add_argument("--html", action="store_true", help="print it as a page of HTML, and nothing else")
+    one_form = it.add_mutually_exclusive_group()
+    one_form.add_argument("--json", action="store_true", help="print all of it as JSON, and nothing else")
+    one_form.add_argument("--html", action="store_true", help="print it as a page of HTML, and nothing else")
 
 
 def run_diff(words: argparse.Namespace) -> int:
@@ -35,8 +36,9 @@ def run_diff(words: argparse.Namespace) -> int:
         number = len(words.files)
         told(f"tagzirk diff takes two dumps, OLD and NEW, and not {number}; a folder of one file a host is one")
         return 2
+    places = places_of(words)
     with Progress() as progress:
-        it = differences(words.files[:1], words.files[1:], options_of(words), progress=progress)
+        it = differences(places[:1], places[1:], options_of(words), progress=progress)
     for side in it.old, it.new:
         for note in side.dump.notes:
             told(note if note.startswith(side.dump.name) else f"{side.dump.name}: {note}")

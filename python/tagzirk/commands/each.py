@@ -52,8 +52,9 @@ def add(commands: Commands, parents: Parents) -> None:
     it.add_argument("--rows", type=at_least_one, metavar="N", help=rows)
     it.add_argument("--without", action="append", default=[], metavar="HOSTS", help="as if these had crashed before")
     it.add_argument("--site", metavar="REGEX", help="the site of a host, by its name: `^([a-z]+)-` is hel of hel-7")
-    it.add_argument("--csv", action="store_true", help="print the table as CSV, and nothing else")
-    it.add_argument("--json", action="store_true", help="print all of it as JSON, and nothing else")
+    one_form = it.add_mutually_exclusive_group()
+    one_form.add_argument("--csv", action="store_true", help="print the table as CSV, and nothing else")
+    one_form.add_argument("--json", action="store_true", help="print all of it as JSON, and nothing else")
 
 
 @dataclass(frozen=True)

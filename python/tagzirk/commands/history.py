@@ -11,6 +11,7 @@ from typing import TYPE_CHECKING, List
 
 from ..errors import BadDump
 from ..histories import SVG, history, need_matplotlib, picture_of, write_rows
+from ..outputs import demand_apart
 from ..progress import Progress
 from .words import Parents, command, options_of, output, told
 
@@ -38,11 +39,13 @@ def dumps_in(places: List[str]) -> List[str]:
 
 def run_history(words: argparse.Namespace) -> int:
     """Prints the rows, and draws them."""
-    picture = output(words, "--svg", words.svg, SVG) if words.svg else None
+    dumps = dumps_in(words.files)
+    demand_apart([*words.files, *dumps])
+    picture = output(words, "--svg", words.svg, SVG, [*words.files, *dumps]) if words.svg else None
     if picture:
         need_matplotlib()
     with Progress() as progress:
-        moments = history(dumps_in(words.files), options_of(words), workers=words.workers, progress=progress)
+        moments = history(dumps, options_of(words), workers=words.workers, progress=progress)
     if words.json:
         print(json.dumps([it.value for it in moments], ensure_ascii=False))
     else:

@@ -41,7 +41,7 @@ def is_pipe(stream: IO[str]) -> bool:
 
 def run_mend(words: argparse.Namespace) -> int:
     """Prints links to add."""
-    written = output(words, "--graph", words.graph, MARK) if words.graph else None
+    written = output(words, "--graph", words.graph, MARK, words.files) if words.graph else None
     graph = dump_of(words).graph
     with Progress() as progress:
         mended: Mended[str] = mend(graph, words.to, words.most_links, progress=progress)

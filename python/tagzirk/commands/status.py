@@ -6,7 +6,7 @@ import argparse
 import json
 from typing import TYPE_CHECKING, Any, Dict, List, Optional, Sequence
 
-from ..errors import in_words
+from ..errors import BadDump, in_words
 from ..graphs import shown
 from ..markup import counted
 from ..progress import Progress
@@ -14,7 +14,7 @@ from ..sites import Sites
 from ..status import UNKNOWN, WORDS, Dead, Status, status
 from ..worst import Cut
 from .telling import site_lines, value_of_site, value_of_worst, worst_lines
-from .words import Parents, at_least_one, command, fault, options_of, some, told
+from .words import Parents, at_least_one, command, fault, options_of, places_of, some, told
 
 if TYPE_CHECKING:
     from .words import Commands
@@ -70,13 +70,15 @@ def run_status(words: argparse.Namespace) -> int:
 
 def tell(words: argparse.Namespace) -> int:
     """The same without a word of faults."""
-    options, places = options_of(words), words.files or ["-"]
+    options, places = options_of(words), places_of(words)
     with Progress() as progress:
         it = status(places, options, words.without, words.group, workers=words.workers, progress=progress)
     for note in it.dump.notes:
         told(note)
     sites = Sites(words.site, it.graph.ids) if words.site else None
     level = None if words.at_least is None else it.level(words.at_least)
+    if level == UNKNOWN:
+        raise BadDump(f"--at-least says nothing of a group of one host, {some(it.report.group or ())}, whose k is 0")
     if words.json:
         print(json.dumps(value_of(it, sites, words.at_least), ensure_ascii=False))
     else:
@@ -118,6 +120,8 @@ def head_of(it: Status, cut: Cut[str]) -> str:
     report, hosts = it.report, counted(len(it.graph.ids), "host")
     if len(it.graph.ids) == 1:
         return f"k is 0: there is one host alone, {some(list(it.graph.ids))}."
+    if report.group is not None and len(report.group) == 1:
+        return f"k is 0: the group is one host alone, {some(report.group)}, and no crash parts it from another member."
     if report.is_linked:
         who = hosts if report.group is None else f"the {counted(len(report.group), 'host')} of the group"
         return f"k is {report.k}: every two of {who} are linked, so no crash parts two that survive."

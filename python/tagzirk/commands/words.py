@@ -6,14 +6,14 @@ import argparse
 import contextlib
 import sys
 from dataclasses import dataclass
-from typing import TYPE_CHECKING, Callable, Sequence
+from typing import TYPE_CHECKING, Callable, List, Sequence
 
 from ..asked import Asked
 from ..dumps import Dump, Options, read_dump
 from ..errors import BadDump
 from ..forms import FORMS
 from ..graphs import UNSHOWN, code, shown
-from ..outputs import Output
+from ..outputs import Output, demand_apart
 from ..taken import up_of
 from .tips import tips
 
@@ -144,9 +144,16 @@ def options_of(words: argparse.Namespace) -> Options:
     return Options(words.either, words.entries, asked, tuple(words.only))
 
 
+def places_of(words: argparse.Namespace) -> List[str]:
+    """The files of the dump, or standard input. Standard output goes to no file that is read."""
+    racks = vars(words).get("racks")
+    demand_apart([*words.files, racks] if racks else words.files)
+    return words.files or ["-"]
+
+
 def dump_of(words: argparse.Namespace, is_graph_taken: bool = True) -> Dump:
     """The dump that the words name, whose notes are told."""
-    dump = read_dump(words.files or ["-"], options_of(words), is_graph_taken=is_graph_taken)
+    dump = read_dump(places_of(words), options_of(words), is_graph_taken=is_graph_taken)
     for note in dump.notes:
         told(note)
     return dump
@@ -157,8 +164,8 @@ def fault(words: argparse.Namespace, text: str) -> None:
     told("\n".join([f"tagzirk {words.name}: {text}", *(f"tip: {it}" for it in tips(words, text))]))
 
 
-def output(words: argparse.Namespace, option: str, place: str, *marks: str) -> Output:
+def output(words: argparse.Namespace, option: str, place: str, mark: str, inputs: Sequence[str]) -> Output:
     """The file that an option names, at which nothing is lost that the command reads or did not write."""
-    made = Output(words.name, option, place, marks)
-    made.demand_free([*words.files, *([words.racks] if vars(words).get("racks") else [])], words.force)
+    made = Output(words.name, option, place, (mark,))
+    made.demand_free(inputs, words.force)
     return made
