@@ -101,9 +101,8 @@ def ended_in_order() -> Iterator[None]:
         yield
         return
 
-    def end(number: int, _: object) -> NoReturn:
-        end_all()
-        raise SystemExit(128 + number)
+    def end(number: int, _: object) -> None:
+        end_all(128 + number)
 
     before = signal.signal(signal.SIGTERM, end)
     try:

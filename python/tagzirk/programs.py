@@ -12,7 +12,7 @@ import subprocess
 import sys
 import tempfile
 import threading
-from typing import IO, Dict, Iterator, NamedTuple, NoReturn, Optional, Sequence, Set, Tuple, Union
+from typing import IO, Dict, Iterator, List, NamedTuple, NoReturn, Optional, Sequence, Set, Tuple, Union
 
 from .errors import ProgramFailed, ProgramMissing, Refused
 
@@ -24,9 +24,11 @@ CHECKOUT = pathlib.Path(__file__).resolve().parents[2]
 REFUSED = re.compile(r"(?:line \d+: )?refused (\d+)")
 # The unproved programs that were found, by the checkout and the crate: to ask for one takes a tenth of a second.
 found_unproved: Dict[Tuple[str, str], str] = {}
-# The programs that run, begun by any thread, and whether none is to begin any more.
+# The programs that run, begun by any thread; the threads that are about to begin one; and the status with which all is
+# to end, if it is.
 running: Set["subprocess.Popen[bytes]"] = set()
-ending = threading.Event()
+beginning: Set[int] = set()
+ending: List[int] = []
 # How many characters of a text are put into a file at once.
 BLOCK = 1 << 20
 # No line of an answer has so many bytes: 2,048 ids of ten digits, and some words.
@@ -108,25 +110,33 @@ def call(program: str, words: Sequence[str], data: Data, output: Optional[IO[byt
 
 def started(command: Sequence[str], data: Data, out: Union[int, IO[bytes]]) -> "subprocess.Popen[bytes]":
     """A program that runs, unless all are to end."""
-    given = subprocess.PIPE if isinstance(data, bytes) else data
-    if ending.is_set():
+    given, here = subprocess.PIPE if isinstance(data, bytes) else data, threading.get_ident()
+    if ending:
         raise ProgramFailed(f"{command[0]} was not started, since this command is to end")
+    beginning.add(here)
     try:
         process = subprocess.Popen(command, stdin=given, stdout=out, stderr=subprocess.PIPE)
+        running.add(process)
     except OSError as why:
         raise ProgramMissing(f"{command[0]} could not be started: {why.strerror}") from None
-    running.add(process)
-    if ending.is_set():
-        # the end came while it was begun, and did not know of it
-        process.kill()
+    finally:
+        beginning.discard(here)
+    if ending:
+        # the end came while it was begun
+        with process:
+            process.kill()
+        raise SystemExit(ending[0])
     return process
 
 
-def end_all() -> None:
-    """Ends all programs that run, and lets no other one begin."""
-    ending.set()
+def end_all(status: int) -> None:
+    """Ends all programs that run, lets no other one begin, and ends this one with a status: right away, or once it has
+    begun a program that it is about to begin."""
+    ending.append(status)
     for process in list(running):
         process.kill()
+    if threading.get_ident() not in beginning:
+        raise SystemExit(status)
 
 
 def refuse(line: str, reason: str) -> NoReturn:

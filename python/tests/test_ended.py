@@ -14,7 +14,7 @@ from .test_commands import Commands
 # A program that says by a file that it runs, and then takes longer than its end may take.
 SLOW = """#!/bin/sh
 echo $$ > "{room}/running.$$"
-exec sleep 40
+exec sleep 100
 """
 # The command, in which the file is complete and not yet in its place when the signal comes.
 AT_THE_END = """
@@ -66,20 +66,21 @@ class Ended(Commands):
                 with self.begun("-m", "tagzirk", *words, **{variable: self.slow}) as command:
                     running = self.running(2 if words[0] == "history" else 1)
                     command.send_signal(signal.SIGTERM)
-                    out, _ = command.communicate(timeout=20)
+                    out, _ = command.communicate(timeout=60)
                 self.assertEqual((command.returncode, out), (128 + signal.SIGTERM, b""))
-                for it in running:
-                    self.assertFalse(self.is_there(int(it.read_text())))
-                    it.unlink()
+                self.assertFalse(any(map(self.is_there, running)))
                 self.assertEqual(sorted(self.room.iterdir()), self.before)
                 self.assertEqual(list((self.room / "temporary").iterdir()), [])
 
     def running(self, number):
-        """What so many programs wrote as they began."""
+        """The numbers of so many programs that have begun, as they wrote them."""
         for _ in range(600):
             found = [it for it in self.room.glob("running.*") if it.read_text()]
             if len(found) == number:
-                return found
+                numbers = [int(it.read_text()) for it in found]
+                for it in found:
+                    it.unlink()
+                return numbers
             time.sleep(0.1)
         self.fail("no program was started")
 

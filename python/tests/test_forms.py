@@ -555,6 +555,7 @@ class Libraries(unittest.TestCase):
         # addresses in brackets are names
         self.assertEqual(views("a: [::1]:80 b\nb:\n"), {"a": {"[::1]:80", "b"}, "b": set()})
 
+    @unittest.skipUnless(yaml, "yaml is not there")
     def test_yaml(self):
         for text, place in ("a: [b, c]\nb:\n  - a\nc:\n", "net.yaml"), ("---\na: [b, c]\nb: [a]\nc: []\n", "net"):
             self.assertEqual(views(text, place), {"a": {"b", "c"}, "b": {"a"}, "c": set()})
