@@ -4,7 +4,7 @@ from __future__ import annotations
 
 import json
 import re
-from typing import Callable, Dict, Optional
+from typing import Callable, Dict, List, Optional, Tuple
 
 from .asked import Asked
 from .documents import is_views, key_around, views_of
@@ -19,7 +19,7 @@ from .neighbours import lgl, metis, multiline
 from .rows import rows_of
 from .sections import dimacs, gdf, is_tgf, leda, lemon, matrix_market, pajek, plain, tgf
 from .texts import decoded
-from .values import PEER_KEYS, Views, key_in
+from .values import PEER_KEYS, Scalar, Views, key_in
 from .xml_graphs import XML, xml_graph
 from .yaml_files import begins_yaml, yaml_of
 
@@ -97,7 +97,10 @@ def listings_of(data: bytes, place: str, asked: Asked) -> Optional[Views]:
     text = decoded(data)
     form = asked.form or form_of(text, place)
     if form == "yaml":
-        return views_of(yaml_of(text), asked)
+        beside: List[Tuple[str, Scalar]] = []
+        views = views_of(yaml_of(text, beside), asked)
+        views.beside += beside
+        return views
     if form in GRAPHS:
         graph = GRAPHS[form](text)
         if not graph:

@@ -73,12 +73,15 @@ def matrix_graph(matrix: Matrix) -> Graph:
         raise BadDump("no cell of its matrix is 0, and some are not 1: which of them are links, it does not say")
     are_answered = all(bool(values[at][to]) == bool(values[to][at]) for at in range(len(names)) for to in range(at))
     graph, said = Graph("an adjacency matrix"), {it: {"value": it} for row in cells for it in row}
-    for name in names:
-        graph.host(name)
+    has_diagonal = any(values[at][at] for at in range(len(names)))
+    for at, name in enumerate(names):
+        graph.host(name, {"diagonal": cells[at][at]} if has_diagonal else {})
     for at, row in enumerate(values):
         for to, value in enumerate(row):
+            across = cells[to][at] if are_answered and cells[to][at] != cells[at][to] else None
+            beside = said[cells[at][to]] if across is None else {**said[cells[at][to]], "across": across}
             if value and (to > at or not are_answered):
-                graph.link(names[at], names[to], not are_answered, said[cells[at][to]])
+                graph.link(names[at], names[to], not are_answered, beside)
     return graph
 
 
