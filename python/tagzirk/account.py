@@ -13,7 +13,7 @@ from .states import NOTHING, STATE_NAMES, STATE_WORDS
 from .values import Views
 
 # How the note begins, and what it ends with.
-LEFT = "not read as states"
+LEFT, KNOWN = "not read as states", "passed over, as --all asks"
 BESIDE = "beside them"
 ADVICE = "--up FIELD=VALUE says which count"
 # So many fields are told with their values, and so many more by their names; and so many characters of a value.
@@ -34,8 +34,9 @@ class Item(NamedTuple):
     rank: int
 
 
-def account_of(views: Views, fields: Sequence[Field]) -> List[str]:
-    """The note on these fields, and on what stands beside hosts and links; none, if there is nothing.
+def account_of(views: Views, fields: Sequence[Field], is_known: bool = False) -> List[str]:
+    """The note on these fields, and on what stands beside hosts and links; none, if there is nothing. If a person took
+    all of it on purpose, it `is_known`.
 
     >>> views = Views()
     >>> views.link("a", "b", {"loss": 100})
@@ -57,7 +58,8 @@ def account_of(views: Views, fields: Sequence[Field]) -> List[str]:
         names = ", ".join(it.name for it in more[:MOST_NAMED])
         rest = f" and {len(more) - MOST_NAMED} more" if len(more) > MOST_NAMED else ""
         told.append(f"and {names}{rest}")
-    return [f"{LEFT}: {'; '.join([*told, *[ADVICE] * any(it.of != BESIDE for it in items)])}"]
+    has_advice = not is_known and any(it.of != BESIDE for it in items)
+    return [f"{KNOWN if is_known else LEFT}: {'; '.join([*told, *[ADVICE] * has_advice])}"]
 
 
 def grouped(views: Views) -> Dict[str, List[str]]:

@@ -9,8 +9,8 @@ from typing import Dict, List, NamedTuple, Optional
 from .beside import said_behind, with_comments, with_what_is_behind
 from .errors import BadDump
 from .graph_files import Graph
-from .matrices import graph6_of, matrix_graph, matrix_of
-from .neighbours import LGL, is_adjacency, is_metis, lgl, metis, multiline, of_adjacency
+from .matrices import MATRIX, graph6_of, matrix_graph, matrix_of
+from .neighbours import LGL, METIS, is_adjacency, is_metis, lgl, metis, multiline, of_adjacency
 from .rows import LIST, NUMBER, Row, rows_of, unquoted
 from .tables import of_table, table_of
 from .values import Scalar, Views
@@ -47,8 +47,8 @@ def of_lines(text: str, form: Optional[str] = None, columns: Optional[str] = Non
     """
     rows = rows_of(text)
     views = of_rows(text, rows, form, columns) if rows else None
-    # in LGL such lines are hosts
-    return views if views is None or views.kind == LGL else with_comments(views, text)
+    # in LGL such lines are hosts, and two others have their own comments
+    return views if views is None or views.kind in (LGL, METIS, MATRIX) else with_comments(views, text)
 
 
 def of_rows(text: str, rows: List[Row], form: Optional[str], columns: Optional[str]) -> Optional[Views]:

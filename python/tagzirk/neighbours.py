@@ -13,7 +13,7 @@ from .rows import LIST, Row
 from .values import Said, Views
 
 
-LGL = "LGL"
+LGL, METIS = "LGL", "METIS"
 
 
 def is_adjacency(rows: List[Row]) -> bool:
@@ -110,7 +110,8 @@ def metis(text: str) -> Graph:
     pairs = weights_of([words[before:] for words in lists], has_weights)
     if len(pairs) != 2 * links or any((other, one) not in pairs for one, other in pairs):
         raise BadDump(f"it declares {links} links, and has {len(pairs)} neighbours; each link stands at both its ends")
-    graph = Graph("METIS")
+    graph = Graph(METIS)
+    graph.beside += [("comments", it.strip()) for it in text.split("\n") if it.startswith("%") and it.strip("% \t\r")]
     for at, words in enumerate(lists, 1):
         # sizes and weights of the host itself
         graph.host(str(at), {f"weight {place}": it for place, it in enumerate(words[:before], 1)})

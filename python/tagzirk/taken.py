@@ -18,8 +18,8 @@ MOST_SHOWN = 5
 HOST, LINK = "host:", "link:"
 
 
-# How the note on fields begins that may say what is down.
-DOUBT = "taken all, though some may be down"
+# How the note on fields begins that may say what is down, and that on such which a person knows.
+DOUBT, ANYWAY = "taken all, though some may be down", "taken all the same, as --all asks"
 
 
 class Up(NamedTuple):
@@ -48,21 +48,21 @@ def taken_of(views: Views, asked: Asked) -> Tuple[Views, List[str]]:
     differ = sorted((it for it, kind in kinds if kind is Kind.ASKED), key=clearness, reverse=True)
     if differ and not asked.all:
         raise BadDump(question(differ))
-    if differ:
-        notes.append(f"taken all the same, as --all asks: {many(differ)}")
     same = [it for it, kind in kinds if kind is Kind.TOLD and len(it.counts) == 1]
     notes += [f"{it.name} is {next(iter(it.counts))} of all {len(it.said)} {it.of}" for it in same[:MOST_SHOWN]]
     maybe = [it for it, kind in kinds if kind is Kind.TOLD and len(it.counts) > 1]
-    doubts = [many(maybe)] * bool(maybe) + doubtful(views)
-    if doubts:
+    doubts = [many([*differ, *maybe])] * bool(differ or maybe) + doubtful(views)
+    if doubts and asked.all:
+        notes.append(f"{ANYWAY}: {'; '.join(doubts)}")
+    elif doubts:
         advice = "--up FIELD=VALUE takes what has this value" if maybe else "leave out of the dump what is down"
         notes.append(f"{DOUBT}: {'; '.join(doubts)}; {advice}")
     left = [it for it, kind in kinds if kind is Kind.NONE]
-    return views, [*notes, *account_of(views, [*same[MOST_SHOWN:], *left])]
+    return views, [*notes, *account_of(views, [*same[MOST_SHOWN:], *left], asked.all)]
 
 
 def doubts_in(notes: Sequence[str]) -> List[str]:
-    """Those notes on a dump without which its k may be believed and be too high."""
+    """Those notes on a dump without which its k may be believed and be too high. With `--all` there are none."""
     return [it for it in notes if it.startswith((DOUBT, LEFT))]
 
 
