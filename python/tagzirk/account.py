@@ -9,7 +9,7 @@ from typing import Dict, List, NamedTuple, Sequence
 
 from .fields import MISSING, Field, number_of, text_of, words_of
 from .graphs import shown
-from .states import NOTHING, STATE_NAMES, STATE_WORDS
+from .states import NOTHING, NUMBERS, STATE_NAMES, STATE_WORDS
 from .values import Views
 
 # How the note begins, and what it ends with.
@@ -20,9 +20,9 @@ ADVICE = "--up FIELD=VALUE says which count"
 MOST_TOLD, MOST_NAMED, MOST_LONG = 8, 24, 40
 # So many different values are told with their numbers; one that less than this share has is rare.
 MOST_VALUES, RARE = 4, 0.25
-# Numbers that stand for none, or for the worst, and others of which texts may differ alone.
+# Numbers that stand for none, or for the worst; and none with a unit, or as an address.
+ZERO = re.compile(r"[0:.]+ ?[a-zµ%]*")
 SENTINELS = (0.0, -1.0, 16.0, 100.0, 255.0, 999.0, 9999.0, 65535.0)
-NUMBERS = re.compile(r"[0-9]+(?:\.[0-9]+)*")
 
 
 class Item(NamedTuple):
@@ -103,8 +103,7 @@ def item_of(field: Field) -> Item:
         often = sorted(counts.items(), key=lambda it: -it[1])
         told = ", ".join(f"{quoted(value)}: {number}" for value, number in often)
         return Item(of, f"{name} ({told})", name, rank)
-    few = sorted((it for it in counts.items() if is_odd(it[0], it[1], len(counts), field)), key=lambda it: it[1])
-    odd = "".join(f", {quoted(value)}: {number}" for value, number in few[:2])
+    odd = "".join(f", {quoted(value)}: {counts[value]}" for value in odd_of(field, counts)[:2])
     return Item(of, f"{name} ({len(field.counts) - bool(field.missing)} values{odd})", name, rank)
 
 
@@ -125,12 +124,18 @@ def patterns_of(field: Field) -> Dict[str, int]:
     return {them[0] if len(them) == 1 else it: sum(counts[one] for one in them) for it, them in alike.items()}
 
 
-def is_odd(value: str, number: int, different: int, field: Field) -> bool:
+def is_odd(value: str, has_numbers: bool) -> bool:
     """Whether one of many values stands out: nothing, a number that may stand for the worst, or a word in numbers."""
-    found = number_of(value)
-    if found is None:
-        return value == MISSING or value.casefold() in NOTHING or any(it is not None for it in field.numbers)
-    return found in SENTINELS
+    number = number_of(value.rstrip("%"))
+    if number is not None:
+        return number in SENTINELS
+    return has_numbers or value == MISSING or value.casefold() in NOTHING or bool(ZERO.fullmatch(value))
+
+
+def odd_of(field: Field, counts: Dict[str, int]) -> List[str]:
+    """The values that stand out, the rarest first."""
+    has_numbers = any(it is not None for it in field.numbers)
+    return sorted((it for it in counts if is_odd(it, has_numbers)), key=counts.__getitem__)
 
 
 def rank_of(field: Field, counts: Dict[str, int]) -> int:
@@ -139,7 +144,7 @@ def rank_of(field: Field, counts: Dict[str, int]) -> int:
     whole = sum(counts.values())
     if len(field.counts) == 1:
         return 3
-    has_odd = any(is_odd(value, number, len(counts), field) for value, number in counts.items())
+    has_odd = bool(odd_of(field, counts))
     if len(counts) <= MOST_VALUES:
         return 0 if has_odd or any(number < RARE * whole for number in counts.values()) else 2
     return 1 if has_odd else 4

@@ -41,15 +41,28 @@ def take_leftovers(views: Views, value: Any, used: Used) -> None:
     """
     names = used.names or {it: it for it in views.peers}
     for key, inner in left_in(value, {id(it) for it in used.parts}, "", MOST_DEEP) or ():
-        if inner in NOTHING or is_scalar(inner) and inner in OF_FORMS.get(key.rpartition(".")[2], ()):
-            continue
-        of_hosts, of_links = said_of_hosts(inner, names), said_of_links(inner, views)
-        for name, said in of_hosts:
-            views.enter(name, below(key, said))
-        for place, said in of_links if not of_hosts else ():
-            views.say(place, below(key, said))
-        for text in texts_of(inner) if not of_hosts and not of_links else ():
-            views.pass_over(key, text)
+        take(views, key, inner, names, MOST_DEEP)
+
+
+def take(views: Views, key: str, value: Any, names: Mapping[str, str], deep: int) -> None:
+    """Takes in what stands below a key, or below those of an object there."""
+    if value in NOTHING or is_scalar(value) and value in OF_FORMS.get(key.rpartition(".")[2], ()):
+        return
+    of_hosts = said_of_hosts(value, names)
+    of_links = said_of_links(value, views) if not of_hosts else []
+    for name, said in of_hosts:
+        views.enter(name, below(key, said))
+    for place, said in of_links:
+        views.say(place, below(key, said))
+    if of_hosts or of_links:
+        return
+    inner = value if isinstance(value, dict) and deep else {}
+    for other, it in inner.items():
+        if isinstance(it, (dict, list)):
+            take(views, f"{key}.{other}", it, names, deep - 1)
+    scalars = {other: it for other, it in inner.items() if is_scalar(it)}
+    for text in texts_of(scalars if inner else value):
+        views.pass_over(key, text)
 
 
 def left_in(value: Any, parts: Set[int], path: str, deep: int) -> Optional[List[Tuple[str, Any]]]:

@@ -159,7 +159,7 @@ CASES = [
     }, {"form": "multiline"}),
     ("net.matrix", "«line»«diagonal» 1 0 1\n1 0 1 0\n0 «across» 0 1\n1 0 1 0\n", {
         "line": ("# odd\n", "comments (# odd)"),
-        "diagonal": ("7", "diagonal (0: 3, 7: 1)"),
+        "diagonal": ("7", "diagonal is 0 (3) or 7 (1)"),
         "across": ("7", "across is missing (3) or 7 (1)"),
     }, {"form": "matrix"}),
     ("net.dot", "«line»graph«name» { «statement» a«node» -- b«edge»; b«port» -- c; a -- c «behind» }", {
