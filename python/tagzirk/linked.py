@@ -8,6 +8,8 @@ from .asked import Asked
 from .errors import BadDump
 from .values import Said, at_path, name_of, said_of, short
 
+# How a node that stands below a key is called.
+Way = Callable[[str, Any], str]
 # Deeper than this no key is looked for.
 MOST_DEEP = 8
 
@@ -75,18 +77,19 @@ def nodes_beside(place: Place, ends: Set[str], asked: Asked) -> Nodes:
         if inner is place.inner or not isinstance(inner, (list, dict)) or not inner:
             continue
         nodes = [(key, it) for key, it in inner.items()] if isinstance(inner, dict) else [("", it) for it in inner]
-        for end in fields_of(nodes):
+        for field, end in ways_of(nodes):
             called = [end(key, it) for key, it in nodes]
             if ends <= set(called) and len(set(called)) == len(nodes):
-                return Nodes([named(call, it, asked) for call, (_, it) in zip(called, nodes)], inner)
+                return Nodes([named(call, it, asked, field) for call, (_, it) in zip(called, nodes)], inner)
     return Nodes([], None)
 
 
-def fields_of(nodes: List[Tuple[str, Any]]) -> List[Callable[[str, Any], str]]:
-    """The ways in which nodes may be called by ends of links: by key, as they are, or by a field of the first."""
+def ways_of(nodes: List[Tuple[str, Any]]) -> List[Tuple[str, Way]]:
+    """The ways in which nodes may be called by ends of links: by key, as they are, or by a field of the first, which is
+    told."""
     first = nodes[0][1]
-    ways: List[Callable[[str, Any], str]] = [lambda key, it: key or (it if isinstance(it, str) else "")]
-    return ways + [called_by(field) for field in (said_of(first) if isinstance(first, dict) else ())]
+    ways: List[Tuple[str, Way]] = [("", lambda key, it: key or (it if isinstance(it, str) else ""))]
+    return ways + [(field, called_by(field)) for field in (said_of(first) if isinstance(first, dict) else ())]
 
 
 def called_by(field: str) -> Callable[[str, Any], str]:
@@ -94,7 +97,10 @@ def called_by(field: str) -> Callable[[str, Any], str]:
     return lambda key, it: str(said_of(it).get(field, "")) if isinstance(it, dict) else ""
 
 
-def named(end: str, node: Any, asked: Asked) -> Node:
-    """A node by the field that is asked for, or as ends of links call it."""
-    said = said_of(node) if isinstance(node, dict) else {} if node in (None, end) else said_of({"value": node})
+def named(end: str, node: Any, asked: Asked, field: str) -> Node:
+    """A node by the field that is asked for, or as ends of links call it, by a field or by a key."""
+    if isinstance(node, dict):
+        said = said_of(node, field)
+    else:
+        said = said_of({"value": node}) if node not in (None, end) else {}
     return Node(end, name_of(node, asked.by) if asked.by else end, said)
