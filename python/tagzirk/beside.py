@@ -6,8 +6,8 @@ import ast
 from typing import Dict, List, Optional
 
 from .fields import fields_of
-from .rows import Row
-from .states import Kind, kind_of, state_words
+from .rows import Row, comments_in, rows_of
+from .states import Kind, kind_of
 from .values import Said, Scalar, Views, said_of
 
 # Brackets with more than this are not read.
@@ -30,13 +30,29 @@ def attributes_in(text: str) -> Dict[str, Scalar]:
 
 
 def said_behind(row: Row) -> Said:
-    """What stands behind the names on a line: attributes, and a comment that has a word of a state."""
-    return {**attributes_in(row.attributes), **({"comment": row.comment} if state_words(row.comment) else {})}
+    """What stands behind the names on a line: attributes, and a comment."""
+    return {**attributes_in(row.attributes), **({"comment": row.comment} if row.comment else {})}
+
+
+def with_comments(views: Views, text: str) -> Views:
+    """What is said by lines of a text, with the lines among them that are comments."""
+    for it in comments_in(text):
+        views.pass_over("comments", it)
+    return views
+
+
+def plain_lines(text: str) -> Views:
+    """What lines of two names say, and what stands behind and between them; other lines are left out."""
+    views = Views("lines of two names, each a link")
+    for row in rows_of(text):
+        if len(row.words) == 2 and all(row.words):
+            views.link(row.words[0], row.words[1], said_behind(row))
+    return with_comments(views, text)
 
 
 def with_what_is_behind(rows: List[Row]) -> Optional[Views]:
     """The links that lines of two names say, with what stands behind them; None if no state may stand there, or if
-    lines are others. Comments count if one has a word of a state."""
+    lines are others."""
     said = [said_behind(row) for row in rows]
     if not any(said) or not all(len(row.words) == 2 and all(row.words) for row in rows):
         return None

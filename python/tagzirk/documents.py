@@ -7,6 +7,7 @@ from typing import Any, Dict, List, NamedTuple, Optional, Tuple
 from .asked import Asked
 from .errors import BadDump
 from .hosts import Entry, enter_all, peers_as_text
+from .leftovers import Used, take_leftovers
 from .linked import MOST_DEEP, nodes_beside, objects_in, place_of
 from .values import (
     LINK_ENDS,
@@ -16,6 +17,7 @@ from .values import (
     Said,
     Views,
     at_path,
+    both,
     is_list_of_names,
     is_yes,
     item_of,
@@ -64,12 +66,15 @@ def ends_of(inner: Dict[str, Any], around: Said, asked: Asked) -> Optional[Ends]
             ends = at_path(inner, one), at_path(inner, other)
         except KeyError:
             continue
-        top = (one.partition(".")[0], other.partition(".")[0])
-        return Ends(*ends, False, {**around, **said_of(inner, *top, one, other)})
+        said = said_of(inner, one, other)
+        for field, end in zip((one, other), ends):
+            beside = said_of(end, key_in(end, ("id", *NAME_KEYS)) or "") if isinstance(end, dict) else {}
+            said.update((f"{field}.{key}", it) for key, it in beside.items())
+        return Ends(*ends, False, both(around, said))
     if not asked.columns and not key_in(inner, PEER_KEYS):
         for one, other in LISTING_ENDS:
             if isinstance(inner.get(one), (str, int)) and isinstance(inner.get(other), (str, int)):
-                return Ends(inner[one], inner[other], True, {**around, **said_of(inner, one, other)})
+                return Ends(inner[one], inner[other], True, both(around, said_of(inner, one, other)))
     return None
 
 
@@ -103,6 +108,13 @@ def views_of(value: Any, asked: Asked = Asked()) -> Views:
     if isinstance(value, dict) and OF_GRAPHVIZ <= set(value):
         raise BadDump("it is what `dot -Tjson` writes: give the DOT that it was made of, or what `dot -Tplain` writes")
     demand_there(value, asked)
+    views, used = read_in(value, asked)
+    take_leftovers(views, value, used)
+    return views
+
+
+def read_in(value: Any, asked: Asked) -> Tuple[Views, Used]:
+    """The same, and which parts of the value say it."""
     if asked.links:
         return of_links_below(value, asked)
     if isinstance(value, dict):
@@ -132,7 +144,7 @@ def has_path(value: Any, path: str) -> bool:
     return True
 
 
-def of_object(value: Dict[str, Any], asked: Asked) -> Views:
+def of_object(value: Dict[str, Any], asked: Asked) -> Tuple[Views, Used]:
     if value.get("type") == "NetworkCollection":
         collection = value.get("collection")
         listed = collection if isinstance(collection, list) else []
@@ -142,17 +154,17 @@ def of_object(value: Dict[str, Any], asked: Asked) -> Views:
         return of_object(graphs[0], asked)
     for inner in (value.get("graph"), value.get("elements")):
         if isinstance(inner, dict) and "nodes" in inner or inner is value.get("elements") and isinstance(inner, list):
-            return views_of(inner, asked)
+            return read_in(inner, asked)
     if says_graph(value):
         return of_graph(value, asked)
     around = key_around(value)
     if around:
-        hosts = views_of(value[around], asked)
+        hosts, used = read_in(value[around], asked)
         hosts.kind += f", below {around}"
-        return hosts
+        return hosts, used
     views = Views("objects with peers")
     enter_all(views, [Entry(name, entry) for name, entry in value.items()], asked)
-    return views
+    return views, Used([value])
 
 
 def says_graph(value: Any) -> bool:
@@ -210,22 +222,27 @@ def key_around(value: Dict[str, Any]) -> Optional[str]:
     return around
 
 
-def of_graph(value: Dict[str, Any], asked: Asked) -> Views:
+def of_graph(value: Dict[str, Any], asked: Asked) -> Tuple[Views, Used]:
     """A graph of nodes and links. If it has several lists of links, which one is meant is asked."""
     nodes = value["nodes"]
-    entries = [{"id": key, **said_in(inner)} for key, inner in nodes.items()] if isinstance(nodes, dict) else nodes
+    entries = [entry_of(key, inner) for key, inner in nodes.items()] if isinstance(nodes, dict) else nodes
     if not isinstance(entries, list):
         raise BadDump("its nodes are no list")
     lists = [key for key, inner in value.items() if key in LINK_KEYS or key != "nodes" and is_list_of_links(inner)]
     if len(lists) > 1:
         raise BadDump(f"{' and '.join(lists)} may each be its links: say --links KEY")
     if not lists:
-        return of_adjacency(entries, value["adjacency"], asked)
-    return of_nodes(entries, value[lists[0]], is_yes(value.get("directed")), asked)
+        return of_adjacency(entries, value["adjacency"], asked), Used([nodes, value["adjacency"]])
+    views, keys = of_nodes(entries, value[lists[0]], is_yes(value.get("directed")), asked)
+    return views, Used([nodes, value[lists[0]]], keys)
 
 
-def said_in(value: Any) -> Said:
-    return said_of(value, "id") if isinstance(value, dict) else {}
+def entry_of(key: str, inner: Any) -> Dict[str, Any]:
+    """A node that stands below its key, as an object."""
+    if not isinstance(inner, dict):
+        return {"id": key} if inner is None else {"id": key, "value": inner}
+    more = {"id.below": inner["id"]} if inner.get("id", key) != key else {}
+    return {**inner, **more, "id": key}
 
 
 def is_list_of_links(value: Any) -> bool:
@@ -255,8 +272,9 @@ def key_of(node: Any, by: Optional[str] = None) -> str:
     return name_of(inner["id"]) if "id" in inner else name_of(node, None if key_in(inner, NAME_KEYS) else by)
 
 
-def of_nodes(nodes: List[Any], links: Any, is_directed: bool, asked: Asked) -> Views:
-    """Node-link JSON of networkx, d3, cytoscape or NetJSON. The ends of links are ids, or places among the nodes."""
+def of_nodes(nodes: List[Any], links: Any, is_directed: bool, asked: Asked) -> Tuple[Views, Dict[str, str]]:
+    """Node-link JSON of networkx, d3, cytoscape or NetJSON. The ends of links are ids, or places among the nodes. With
+    the names of nodes by what ends of links call them."""
     views = Views("a graph of nodes and links" + (", whose directions are listings" if is_directed else ""))
     names = {key_of(it, asked.by): name_of(it, asked.by) if asked.by else key_of(it) for it in nodes}
     if len(set(names.values())) != len(nodes):
@@ -281,7 +299,7 @@ def of_nodes(nodes: List[Any], links: Any, is_directed: bool, asked: Asked) -> V
         raise BadDump(f"a link has the end {key_of(unknown[0])}, which is no node")
     for it in pairs:
         views.edge(names[key_of(it.one)], names[key_of(it.other)], is_directed or it.is_listing, it.said)
-    return views
+    return views, names
 
 
 def of_adjacency(nodes: List[Any], lists: Any, asked: Asked) -> Views:
@@ -290,10 +308,12 @@ def of_adjacency(nodes: List[Any], lists: Any, asked: Asked) -> Views:
     if not isinstance(lists, list) or len(lists) != len(nodes):
         raise BadDump("it should have a list of neighbours for each node")
     enter_all(views, [Entry(name_of(node, asked.by), peers) for node, peers in zip(nodes, lists)], asked)
+    for node in nodes:
+        views.enter(*item_of(node, asked.by))
     return views
 
 
-def of_list(value: List[Any], asked: Asked) -> Views:
+def of_list(value: List[Any], asked: Asked) -> Tuple[Views, Used]:
     """A list of edges, of hosts with their peers, or of both ends' names; or of the elements of cytoscape."""
     if len(value) == 1 and says_graph(value[0]):
         return of_object(value[0], asked)
@@ -313,7 +333,7 @@ def of_list(value: List[Any], asked: Asked) -> Views:
         else:
             raise BadDump(f"{short(it)} is neither a link nor a host with its peers")
     enter_all(views, entries, asked)
-    return views
+    return views, Used([value])
 
 
 def entries_in(views: Views, it: Dict[str, Any], asked: Asked) -> List[Entry]:
@@ -330,26 +350,27 @@ def entries_in(views: Views, it: Dict[str, Any], asked: Asked) -> List[Entry]:
     return [Entry(name, {key: inner for key, inner in it.items() if key != naming})]
 
 
-def of_links_below(value: Any, asked: Asked) -> Views:
+def of_links_below(value: Any, asked: Asked) -> Tuple[Views, Used]:
     """The links below the key that is asked for, with the nodes that stand beside them."""
     place = place_of(value, asked.links or "")
     is_directed = is_yes(place.around.get("directed")) if isinstance(place.around, dict) else False
     pairs = []
-    for it in place.values:
+    for key, it in place.items:
         said = link_in(it, asked)
         if said is None:
             told = f"it has the fields {', '.join(said_of(it))}" if isinstance(it, dict) else f"it is {short(it)}"
             raise BadDump(
                 f"below {asked.links} stands what is no link with known ends, and {told}: say --columns FROM,TO"
             )
-        pairs.append((name_of(said.one), name_of(said.other), said))
+        beside = said.said if key is None else {"key": key, **said.said}
+        pairs.append((name_of(said.one), name_of(said.other), said._replace(said=beside)))
     views = Views(f"links below {asked.links}")
     nodes = nodes_beside(place, {end for it in pairs for end in it[:2]}, asked)
-    names = {it.end: it.name for it in nodes or ()}
+    names = {it.end: it.name for it in nodes.listed}
     if len(set(names.values())) != len(names):
         raise BadDump(f"two nodes have one name, by {asked.by}")
-    for node in nodes or ():
+    for node in nodes.listed:
         views.enter(node.name, node.said)
     for one, other, said in pairs:
         views.edge(names.get(one, one), names.get(other, other), is_directed or said.is_listing, said.said)
-    return views
+    return views, Used([place.inner, nodes.inner], names)

@@ -107,6 +107,13 @@ class Reader:
         self.edges: List[Tuple[str, str, Attributes]] = []
         self.ports: Dict[str, str] = {}
         self.implied = 0
+        # what is neither a node nor an edge, nor said of one
+        self.beside: List[Tuple[str, Scalar]] = []
+
+    def leave(self, what: str, value: Scalar) -> None:
+        """Something stands here that belongs to no node and no edge."""
+        if value:
+            self.beside.append((what, value))
 
     def fault(self, told: str) -> BadDump:
         return BadDump(f"{line_at(self.text, self.token.at)}{told}")
@@ -142,7 +149,7 @@ class Reader:
         """Reads the whole text. Whether its arrows are `->`."""
         self.take("strict")
         self.arrow = "->" if self.need("graph", "digraph") == "digraph" else "--"
-        self.name()
+        self.leave("name of the graph", self.name())
         self.need("{")
         while self.parts:
             self.statement(self.parts[-1])
@@ -166,7 +173,10 @@ class Reader:
         elif self.take("node", "edge", "graph"):
             if part.chain or self.token.text != "[":
                 raise self.fault(f"{kind} has a meaning in DOT: a host of this name needs quotes")
-            part.defaults[kind].update(self.list())
+            said = self.list()
+            part.defaults[kind].update(said)
+            for key, value in said.items() if kind == "graph" else ():
+                self.leave(f"{part.name or 'graph'}.{key}", value)
             if len(part.defaults[kind]) > MOST_DEFAULTS:
                 raise self.fault(f"there are more than {MOST_DEFAULTS} attributes by default")
         else:
@@ -183,17 +193,21 @@ class Reader:
             self.parts.append(inner)
 
     def node_or_value(self, part: Part) -> None:
-        """A node, alone or as the end of an edge; or a value of the graph, which says nothing here."""
+        """A node, alone or as the end of an edge; or a value of the graph, which stands beside."""
         name = self.name()
         if name is None:
             raise self.fault(f"no statement of DOT begins with {self.token.text[:40]}")
         if not part.chain and self.take("="):
-            if self.name() is None:
+            value = self.name()
+            if value is None:
                 raise self.fault("DOT needs a value behind =")
+            self.leave(f"{part.name or 'graph'}.{name}", value)
             return
         if name not in self.attributes:
             need_few(len(self.attributes), "hosts")
             self.attributes[name] = {**part.inside(), **part.defaults["node"]}
+        elif part.name:
+            self.attributes[name].setdefault("subgraph", part.name)
         for it in self.parts:
             it.nodes[name] = None
         for is_first in (True, False):
@@ -202,10 +216,11 @@ class Reader:
         self.end(part, (name,), own=name)
 
     def port(self, name: str, is_first: bool) -> None:
-        """A port behind a name is passed over, unless it may well be a part of the name."""
+        """A port behind a name stands beside, unless it may well be a part of the name."""
         port = self.name()
         if port is None:
             raise self.fault("DOT needs a port behind :")
+        self.leave("ports", port)
         other = self.ports.setdefault(name, port) if is_first else port
         if other != port and (port + other).isdigit():
             raise self.fault(f"{name}:{port} and {name}:{other} are one node to DOT: such names need quotes")
@@ -257,6 +272,7 @@ def of_dot(text: str) -> Views:
     html = next((it for it in reader.attributes if it[:1] == "<" and it[1:-1] in reader.attributes), None)
     if html:
         raise BadDump(f"a node has the HTML text {html} as its name, and another one the same text in quotes")
+    views.beside += [*reader.beside, *(("comments", it) for it in comments_in(text))]
     for name in reader.own:
         views.enter(name, reader.attributes[name])
     for one, other, said in reader.edges:
@@ -264,4 +280,22 @@ def of_dot(text: str) -> Views:
             views.listing(one, other, said)
         else:
             views.link(one, other, said)
+    for name, attributes in reader.attributes.items():
+        if attributes and name not in reader.own and name in views.peers:
+            views.enter(name, attributes)
+        elif name not in views.peers:
+            # it is listed alone, and so has no entry
+            views.beside += [(f"{key} of {name}", value) for key, value in attributes.items()]
     return views
+
+
+def comments_in(text: str) -> List[str]:
+    """The comments in a text of DOT that have a word in them."""
+    spaces, at = [], 0
+    while at < len(text):
+        found = TOKEN.match(text, at)
+        kind = found.lastgroup if found else None
+        if found and kind == "space":
+            spaces.append(found[0].strip())
+        at = found.end() if found and kind != "html" else end_of_html(text, at)
+    return [it for it in spaces if re.search(r"\w", it)]

@@ -12,6 +12,7 @@ from functools import lru_cache
 from typing import Dict, List, NamedTuple, Optional, Sequence, TextIO, Tuple
 
 from .asked import Asked, demand_used
+from .beside import plain_lines
 from .errors import BadDump, LibraryMissing, Refused
 from .dot import of_dot
 from .folders import of_hosts
@@ -19,7 +20,7 @@ from .forms import NATIVE, form_of, listings_of
 from .graphs import NamedGraph
 from .hosts import SeveralLists
 from .limits import GZIP
-from .notes import Line, commented, lines_in, notes_on
+from .notes import Line, lines_in, notes_on
 from .only import only_graph, only_views, plain_views
 from .outputs import files_in
 from .programs import Program, call, find, refuse
@@ -130,6 +131,23 @@ def read_graph_file(text: str) -> NamedGraph[str]:
     return NamedGraph(ids, links)
 
 
+def comments_of(text: str) -> List[str]:
+    """The comments in a graph file that name no node.
+
+    >>> comments_of("# of today\\n# 4 oslo\\nnode 4\\n# 7 rome\\nlink 4 7  # slow\\n")
+    ['# of today', '# 7 rome', '# slow']
+    """
+    lines = [it.strip() for it in text.split("\n")]
+    found = []
+    for line, below in zip(lines, [*lines[1:], ""]):
+        said, words = NAME.fullmatch(line), below.split()
+        is_name = said and words[:1] == ["node"] and said[1].lstrip("0") == words[1].lstrip("0")
+        before, mark, behind = line.partition("#")
+        if mark and not is_name and re.search(r"\w", behind):
+            found.append(f"#{behind}")
+    return found
+
+
 def id_of(word: str) -> int:
     """The id that a word of a graph file says, with any number of zeros in front."""
     return int(word.lstrip("0") or "0")
@@ -164,6 +182,12 @@ def files_at(place: str) -> List[pathlib.Path]:
     if not inner:
         raise BadDump(f"{place}: the folder has no files")
     return inner
+
+
+def passed_over(places: Sequence[str]) -> List[str]:
+    """What stands in the folder beside files that are read: hidden files, and folders."""
+    return [it.name for place in places if os.path.isdir(place) for it in sorted(pathlib.Path(place).iterdir())
+            if not it.is_file() or it.name[0] == "."]
 
 
 def last_change(places: Sequence[str]) -> Optional[float]:
@@ -213,6 +237,7 @@ def dump_of_hosts(places: Sequence[str], options: Options, overlay: Optional[Pro
     demand_used(options.asked, "each file has the peers of one host", "by", "peers", "up")
     try:
         views = of_hosts(files, options.asked)
+        views.beside += [("files that are not read", it) for it in passed_over(places)]
     except SeveralLists as why:
         raise named_error(why, name) from None
     told = f"read {views.kind}" if len(places) > 1 else f"{name} was read as {views.kind}"
@@ -271,21 +296,35 @@ def dump_of(
     if views is None and options.only:
         views = plain_views(decoded(data), form)
     if views is None:
-        own = [f"--{options.asked.form}"] if options.asked.form in NATIVE else []
-        try:
-            dump = imported(data, name, [*own, *options.words], notes, overlay)
-        except Refused as why:
-            if not any(it in why.reason for it in OF_DOT):
-                raise
-            views = of_dot(decoded(data))
-        else:
-            views = more_in_dot(data, dump, options, overlay)
-    if views is None:
-        demand_used(options.asked, "nothing but names stands in it", "form", "skip")
+        dump = of_overlay(data, name, form, options, notes, overlay)
     else:
         dump = of_views(views, name, options, [*notes, f"{name} was read as {views.kind}"], overlay)
-    text = decoded(data) if form != "json" else ""
-    return with_notes(dump, lines_in(text) if form in OF_LINES else [], text)
+    return with_notes(dump, lines_in(decoded(data)) if form in OF_LINES else [])
+
+
+def of_overlay(
+    data: bytes, name: str, form: str, options: Options, notes: List[str], overlay: Optional[Program]
+) -> Dump:
+    """The dump that `overlay import` reads, unless more stands in it than that tells."""
+    own = [f"--{options.asked.form}"] if options.asked.form in NATIVE else []
+    views, beside = None, []
+    try:
+        dump = imported(data, name, [*own, *options.words], notes, overlay)
+    except Refused as why:
+        if not any(it in why.reason for it in OF_DOT):
+            raise
+        views = of_dot(decoded(data))
+    else:
+        views = more_in_dot(data, dump, options, overlay)
+        lines = plain_lines(decoded(data)) if form in OF_LINES else Views()
+        if options.asked.up and any(it.said for it in lines.statements):
+            views = lines
+        elif views is None:
+            beside = taken_of(lines, options.asked._replace(up=()))[1]
+    if views is not None:
+        return of_views(views, name, options, [*notes, f"{name} was read as {views.kind}"], overlay)
+    demand_used(options.asked, "nothing but names stands in it", "form", "skip")
+    return replace(dump, notes=(*dump.notes, *beside))
 
 
 def of_graph_file(data: bytes, name: str, options: Options, notes: List[str], overlay: Optional[Program]) -> Dump:
@@ -294,7 +333,9 @@ def of_graph_file(data: bytes, name: str, options: Options, notes: List[str], ov
     ended = call(find("overlay", overlay), ["analyse"], data)
     if ended.status != 0:
         refuse(*ended.err.partition("\n")[::2])
-    return with_only(Dump(name, data.decode(errors="backslashreplace"), tuple(notes), None, None), options.only)
+    text = data.decode(errors="backslashreplace")
+    told = [*notes, *taken_of(Views("", [("comments", it) for it in comments_of(text)]), options.asked)[1]]
+    return with_only(Dump(name, text, tuple(told), None, None), options.only)
 
 
 def with_only(dump: Dump, patterns: Sequence[str]) -> Dump:
@@ -305,20 +346,20 @@ def with_only(dump: Dump, patterns: Sequence[str]) -> Dump:
     return replace(dump, graph_file=graph.text_with_names, notes=(*dump.notes, told))
 
 
-def with_notes(dump: Dump, lines: Sequence[Line] = (), text: str = "") -> Dump:
-    """A dump with notes on its graph, its lines, and the comments in its text."""
+def with_notes(dump: Dump, lines: Sequence[Line] = ()) -> Dump:
+    """A dump with notes on its graph, and its lines."""
     told = notes_on(dump.graph, lines, dump.without_entry or 0)
-    return replace(dump, notes=(*dump.notes, *told, *commented(text)))
+    return replace(dump, notes=(*dump.notes, *told))
 
 
 def more_in_dot(data: bytes, dump: Dump, options: Options, overlay: Optional[Program]) -> Optional[Views]:
     """What a dump in DOT that `overlay import` read says beside its links; or None if it says no more, or is no DOT.
     Both readings have to give one graph."""
     text = decoded(data)
-    if "[" not in text and "subgraph" not in text.lower() or (options.asked.form or form_of(text, dump.name)) != "dot":
+    if (options.asked.form or form_of(text, dump.name)) != "dot":
         return None
     views = of_dot(text)
-    if not any(it.said for it in views.statements):
+    if not views.beside and not any(it.said for it in views.statements):
         return None
     words = ["--views", *options.words]
     if imported(json.dumps(views.value).encode(), dump.name, words, (), overlay).graph_file != dump.graph_file:

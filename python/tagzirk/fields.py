@@ -114,7 +114,11 @@ def fields_of(views: Views) -> List[Field]:
     links: List[Tuple[Tuple[str, ...], Said]] = []
     for it in views.statements:
         if it.other is None:
-            hosts[it.one].update(it.said)
+            of_host = hosts[it.one]
+            for name, value in it.said.items():
+                # what is said twice, and otherwise, is both
+                is_new = name not in of_host or text_of(of_host[name]) == text_of(value)
+                of_host[name] = value if is_new else f"{text_of(of_host[name])},{text_of(value)}"
         else:
             links.append(((it.one, it.other), it.said))
     kind = "links" if all(it.is_link for it in views.statements if it.other is not None) else "listings"

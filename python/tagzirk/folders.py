@@ -7,7 +7,7 @@ import pathlib
 from typing import Any, Dict
 
 from .asked import Asked
-from .beside import said_behind
+from .beside import said_behind, with_comments
 from .errors import BadDump
 from .forms import form_of
 from .hosts import Entry, SeveralLists, enter_all
@@ -55,7 +55,7 @@ def hosts_by(files: Dict[pathlib.Path, bytes], asked: Asked) -> Views:
         try:
             if any(it.name == host for it in entries.values()):
                 raise BadDump(f"a second file is of the host {host}")
-            entries[place] = Entry(host, peers_in(decoded(text_of(data)[0]), host, str(place), asked))
+            entries[place] = Entry(host, peers_in(decoded(text_of(data)[0]), host, str(place), asked, views))
         except BadDump as why:
             raise BadDump(f"{place}: {why}") from None
     try:
@@ -77,8 +77,8 @@ def demand_readable(place: pathlib.Path, entry: Entry, asked: Asked) -> None:
         raise BadDump(f"{place}: {why}") from None
 
 
-def peers_in(text: str, host: str, place: str, asked: Asked) -> Any:
-    """What the file of one host has: a list of peers, or an object with such a list."""
+def peers_in(text: str, host: str, place: str, asked: Asked, views: Views) -> Any:
+    """What the file of one host has: a list of peers, or an object with such a list. Comments stand beside."""
     form = "json" if place.endswith(".json") and text.strip() else form_of(text, place)
     if form not in ("json", "yaml"):
         rows = rows_of(text)
@@ -88,10 +88,11 @@ def peers_in(text: str, host: str, place: str, asked: Asked) -> Any:
                     f"line {row.number} has several words: of several files each is of one host, with the name "
                     "of a peer on each line"
                 )
+        with_comments(views, text)
         said = [said_behind(row) for row in rows]
         return [{"name": row.text, **beside} if beside else row.text for row, beside in zip(rows, said)]
     try:
-        value = json_of(text) if form == "json" else yaml_of(text)
+        value = json_of(text) if form == "json" else yaml_of(text, views.beside)
     except json.JSONDecodeError as why:
         raise BadDump(f"line {why.lineno}: it is no JSON: {why.msg}") from None
     if isinstance(value, dict) and list(value) == [host] and is_list_of_names(value[host]):

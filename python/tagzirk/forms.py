@@ -4,7 +4,7 @@ from __future__ import annotations
 
 import json
 import re
-from typing import Callable, Dict, Optional
+from typing import Callable, Dict, List, Optional, Tuple
 
 from .asked import Asked
 from .documents import is_views, key_around, views_of
@@ -16,10 +16,10 @@ from .lines import of_lines
 from .matrices import graph6_of, matrix_graph, matrix_of
 from .mermaid import BEGIN as MERMAID, mermaid
 from .neighbours import lgl, metis, multiline
-from .rows import rows_of
+from .rows import comments_in, rows_of
 from .sections import dimacs, gdf, is_tgf, leda, lemon, matrix_market, pajek, plain, tgf
 from .texts import decoded
-from .values import PEER_KEYS, Views, key_in
+from .values import PEER_KEYS, Scalar, Views, key_in
 from .xml_graphs import XML, xml_graph
 from .yaml_files import begins_yaml, yaml_of
 
@@ -28,6 +28,14 @@ def square(text: str) -> Optional[Graph]:
     """The graph of a text that is to be an adjacency matrix, however small."""
     matrix = matrix_of(text, 1)
     return matrix_graph(matrix) if matrix else None
+
+
+def lists_of_many_lines(text: str) -> Optional[Graph]:
+    """The graph of a text that is to be lists of many lines, as networkx writes them."""
+    graph = multiline(rows_of(text))
+    for it in comments_in(text) if graph else ():
+        graph.pass_over("comments", it)
+    return graph
 
 
 # The forms that can be asked for: those of `overlay import`, which are its own; those of lines and of values; and those
@@ -47,7 +55,7 @@ GRAPHS: Dict[str, Callable[[str], Optional[Graph]]] = {
     "matrixmarket": matrix_market,
     "metis": metis,
     "lgl": lgl,
-    "multiline": lambda text: multiline(rows_of(text)),
+    "multiline": lists_of_many_lines,
     "graph6": graph6_of,
     "matrix": square,
     "mermaid": mermaid,
@@ -97,7 +105,10 @@ def listings_of(data: bytes, place: str, asked: Asked) -> Optional[Views]:
     text = decoded(data)
     form = asked.form or form_of(text, place)
     if form == "yaml":
-        return views_of(yaml_of(text), asked)
+        beside: List[Tuple[str, Scalar]] = []
+        views = views_of(yaml_of(text, beside), asked)
+        views.beside += beside
+        return views
     if form in GRAPHS:
         graph = GRAPHS[form](text)
         if not graph:

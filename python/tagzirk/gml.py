@@ -22,14 +22,14 @@ class Pair(NamedTuple):
     line: int
 
 
-def tokens_of(text: str) -> Iterator[Tuple[str, str, int]]:
-    """The words of a text of GML: the kind of each, its text, and its line."""
+def tokens_of(text: str, has_space: bool = False) -> Iterator[Tuple[str, str, int]]:
+    """The words of a text of GML: the kind of each, its text, and its line. With space and comments, if asked for."""
     at, line = 0, 1
     while at < len(text):
         found = TOKEN.match(text, at)
         if not found:
             raise BadDump(f"line {line}: it is no GML: a text in quotes has no end")
-        if found.lastgroup != "space":
+        if found.lastgroup != "space" or has_space:
             yield str(found.lastgroup), found[0], line
         line += found[0].count("\n")
         at = found.end()
@@ -67,12 +67,13 @@ def pairs_of(text: str) -> List[Pair]:
 
 def scalars(pairs: List[Pair]) -> Dict[str, Scalar]:
     """The values that are no lists, and those in lists by both keys with a dot between; of a key that stands several
-    times the last one."""
-    said: Dict[str, Scalar] = {it.key: it.value for it in pairs if isinstance(it.value, str)}
+    times all values as one text."""
+    said: Dict[str, List[str]] = {}
     for it in pairs:
-        if not isinstance(it.value, str):
-            said.update((f"{it.key}.{key}", value) for key, value in scalars(it.value).items())
-    return said
+        inner = {"": it.value} if isinstance(it.value, str) else scalars(it.value)
+        for key, value in inner.items():
+            said.setdefault(f"{it.key}.{key}" if key else it.key, []).append(str(value))
+    return {key: ",".join(values) for key, values in said.items()}
 
 
 def gml_graph(text: str) -> Graph:
@@ -82,13 +83,19 @@ def gml_graph(text: str) -> Graph:
     >>> graph.names(None), graph.links
     ({'1': 'a', '2': 'b'}, [Link(one='1', other='2', is_directed=False, said={'w': '3'})])
     """
-    graphs = [it for it in pairs_of(text) if it.key == "graph" and not isinstance(it.value, str)]
+    whole = pairs_of(text)
+    graphs = [it for it in whole if it.key == "graph" and not isinstance(it.value, str)]
     if len(graphs) != 1:
         raise BadDump(f"its GML has {len(graphs)} graphs: give a file of one graph")
     inner = graphs[0].value
     graph = Graph("GML", label="label")
     pairs = inner if isinstance(inner, list) else []
-    is_directed = scalars(pairs).get("directed") == "1"
+    others = [it for it in pairs if it.key not in ("node", "edge") or isinstance(it.value, str)]
+    head = scalars(others)
+    is_directed = head.pop("directed", "0") == "1"
+    around = scalars([it for it in whole if it is not graphs[0]])
+    comments = [("comments", said.strip()) for kind, said, _ in tokens_of(text, True) if kind == "space"]
+    graph.beside += [*around.items(), *head.items(), *(it for it in comments if it[1].strip("# "))]
     for it in pairs:
         if it.key not in ("node", "edge") or isinstance(it.value, str):
             continue

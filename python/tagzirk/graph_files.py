@@ -3,7 +3,8 @@ each. Each reader of a form fills such a `Graph`."""
 
 from __future__ import annotations
 
-from typing import Dict, List, Mapping, NamedTuple, Optional
+import re
+from typing import Dict, List, Mapping, NamedTuple, Optional, Tuple
 
 from .errors import BadDump
 from .limits import need_few
@@ -31,6 +32,8 @@ class Graph:
         self.kind, self.label, self.is_open = kind, label, is_open
         self.hosts: Dict[str, Dict[str, Scalar]] = {}
         self.links: List[Link] = []
+        # what stands in the file otherwise, and its values
+        self.beside: List[Tuple[str, Scalar]] = []
 
     def host(self, key: str, said: Optional[Said] = None, place: str = "") -> None:
         """A host is declared: once, since of two hosts with one key one would be lost."""
@@ -47,6 +50,26 @@ class Graph:
         need_few(max(len(self.links), len(self.hosts)), "links")
         self.links.append(Link(one, other, is_directed, said or {}))
 
+    def pass_over(self, what: str, value: Scalar) -> None:
+        """Something stands in the file that says neither a host nor a link, and belongs to none."""
+        self.beside.append((what, value))
+
+    def drop_numbers(self, field: str) -> None:
+        """Drops a field that numbers all links in their order, with the same text before each number: it says no more.
+
+        >>> graph = Graph("XML", is_open=True)
+        >>> for at in range(3):
+        ...     graph.link("a", "b", said={"id": f"e{at}", "w": 1})
+        >>> graph.drop_numbers("id")
+        >>> graph.links[2].said
+        {'w': 1}
+        """
+        ids = [str(it.said.get(field, "")) for it in self.links]
+        first = re.fullmatch(r"(.*?)([0-9]{1,9})", ids[0]) if ids else None
+        if first and all(it == f"{first[1]}{at}" for at, it in enumerate(ids, int(first[2]))):
+            self.links = [it._replace(said={key: value for key, value in it.said.items() if key != field})
+                          for it in self.links]
+
     def need_counts(self, hosts: Optional[int] = None, links: Optional[int] = None) -> None:
         """Refuses a file that declares other counts than it has, as a torn one does."""
         for count, found, kind in ((hosts, len(self.hosts), "hosts"), (links, len(self.links), "links")):
@@ -58,7 +81,7 @@ class Graph:
         has_arrows = any(link.is_directed for link in self.links)
         has_links = any(not link.is_directed for link in self.links)
         told = ", whose arrows are listings" if has_links else ", whose directions are listings"
-        views, names = Views(self.kind + (told if has_arrows else "")), self.names(by)
+        views, names = Views(self.kind + (told if has_arrows else ""), self.beside), self.names(by)
         if not by and names and all(said.get("label", names[key]) != names[key] for key, said in self.hosts.items()):
             views.kind += ", with hosts by their ids; --by label takes their labels"
         for key, name in names.items():

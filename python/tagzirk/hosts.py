@@ -6,7 +6,7 @@ from typing import Any, Dict, List, NamedTuple, Optional, Sequence, Set
 
 from .asked import Asked
 from .errors import BadDump
-from .values import PEER_KEYS, Said, Scalar, Views, is_list_of_names, items_of, key_in, one_of, said_of, short
+from .values import PEER_KEYS, Said, Scalar, Views, is_list_of_names, items_of, key_in, one_of, said_of, short, text_in
 
 
 class SeveralLists(BadDump):
@@ -22,11 +22,12 @@ class Entry(NamedTuple):
 
 class Lists(NamedTuple):
     """The lists of a host: the key of that which has its peers, or None, if the host has none; further ones that may
-    have them; and further ones that say something of each peer, by its name."""
+    have them; and what further ones say of each peer, by its name, with the keys of these, which are `used`."""
 
     key: Optional[str]
     others: List[str]
     beside: Dict[str, Dict[str, Scalar]]
+    used: List[str]
 
 
 def enter_all(views: Views, entries: Sequence[Entry], asked: Asked) -> None:
@@ -46,9 +47,10 @@ def enter_all(views: Views, entries: Sequence[Entry], asked: Asked) -> None:
         if lists is None:
             enter(views, it.name, {}, it.value, {}, asked)
         else:
-            top = {key.partition(".")[0] for key in (lists.key or "", *lists.others, *lists.beside)}
-            of_host = said_of(it.value, *top)
+            of_host = said_of(it.value, lists.key or "", *lists.others, *lists.used)
             enter(views, it.name, of_host, lists_in(it.value)[lists.key] if lists.key else None, lists.beside, asked)
+            for key in lists.others:
+                views.pass_over(key, text_in(lists_in(it.value)[key]))
 
 
 def enter(
@@ -106,17 +108,18 @@ def lists_of(entry: Entry, hosts: Set[str], asked: Asked) -> Lists:
     if not asked.peers and key is None:
         raise BadDump(without_peers(entry, lists))
     if key is None:
-        return Lists(None, [], {})
-    peers, others, beside = names[key] or set(), [], {}  # type: Set[str], List[str], Dict[str, Dict[str, Scalar]]
+        return Lists(None, [], {}, [])
+    peers, found = names[key] or set(), Lists(key, [], {}, [])
     for other, inner in lists.items():
         if other == key or key.startswith(f"{other}.") or other.startswith(f"{key}."):
             continue
         of_each = said_of_each(lists[key], inner, peers, names[other], other in PEER_KEYS, asked.by)
         if of_each is not None:
-            beside.update({f"{other}.{field}" if field else other: it for field, it in of_each.items()})
+            found.beside.update({f"{other}.{field}" if field else other: it for field, it in of_each.items()})
+            found.used.append(other)
         elif other in called or names[other] is not None and (names[other] or set()) & (hosts - {entry.name}):
-            others.append(other)
-    return Lists(key, others, beside)
+            found.others.append(other)
+    return found
 
 
 def opened(key: str, names: Dict[str, Optional[Set[str]]], hosts: Set[str]) -> List[str]:

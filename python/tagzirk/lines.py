@@ -6,11 +6,11 @@ from __future__ import annotations
 import re
 from typing import Dict, List, NamedTuple, Optional
 
-from .beside import with_what_is_behind
+from .beside import said_behind, with_comments, with_what_is_behind
 from .errors import BadDump
 from .graph_files import Graph
-from .matrices import graph6_of, matrix_graph, matrix_of
-from .neighbours import is_adjacency, is_metis, lgl, metis, multiline, of_adjacency
+from .matrices import MATRIX, graph6_of, matrix_graph, matrix_of
+from .neighbours import LGL, METIS, is_adjacency, is_metis, lgl, metis, multiline, of_adjacency
 from .registers import demand_links
 from .rows import LIST, NUMBER, Row, rows_of, unquoted
 from .tables import of_table, table_of
@@ -47,8 +47,13 @@ def of_lines(text: str, form: Optional[str] = None, columns: Optional[str] = Non
     True
     """
     rows = rows_of(text)
-    if not rows:
-        return None
+    views = of_rows(text, rows, form, columns) if rows else None
+    # in LGL such lines are hosts, and two others have their own comments
+    return views if views is None or views.kind in (LGL, METIS, MATRIX) else with_comments(views, text)
+
+
+def of_rows(text: str, rows: List[Row], form: Optional[str], columns: Optional[str]) -> Optional[Views]:
+    """The same of its rows, without the lines among them that are comments."""
     table = table_of(text, columns) if form in (None, "csv") else None
     if table:
         return of_table(*table)
@@ -149,7 +154,7 @@ def of_weighted(rows: List[Row], is_directed: bool = False) -> Views:
             )
         has_weights = has_weights or len(words) > 2
         said: Dict[str, Scalar] = {str(at): word for at, word in enumerate(words[2:], 3)}
-        views.edge(words[0], words[1], is_directed, said)
+        views.edge(words[0], words[1], is_directed, {**said, **said_behind(row)})
     views.kind = "lines of two names" + ", each a listing" * is_directed
     views.kind += ", whose weights are passed over" * has_weights
     return views
@@ -172,7 +177,7 @@ def of_arrows(rows: List[Row]) -> Views:
     for row in rows:
         chain = chain_of(row.text)
         for one, arrow, other in zip(chain.names, chain.arrows, chain.names[1:]):
-            views.edge(one, other, arrow.endswith(">") and not arrow.startswith("<"))
+            views.edge(one, other, arrow.endswith(">") and not arrow.startswith("<"), said_behind(row))
             all_arrows.add(arrow)
     if all(it.startswith("<") or not it.endswith(">") for it in all_arrows):
         views.kind = "lines of two names, each a link"
@@ -185,5 +190,5 @@ def of_pairs(rows: List[Row]) -> Views:
     for row in rows:
         said = PAIR.fullmatch(row.text)
         if said:
-            views.link(said[2], said[4])
+            views.link(said[2], said[4], said_behind(row))
     return views

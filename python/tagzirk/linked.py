@@ -8,15 +8,29 @@ from .asked import Asked
 from .errors import BadDump
 from .values import Said, at_path, name_of, said_of, short
 
+# How a node that stands below a key is called.
+Way = Callable[[str, Any], str]
 # Deeper than this no key is looked for.
 MOST_DEEP = 8
 
 
 class Place(NamedTuple):
-    """Where links stand: the object that has the key, and the values that stand below it."""
+    """Where links stand: the object that has the key, and the list or object that stands below it."""
 
     around: Mapping[str, Any]
-    values: List[Any]
+    inner: Any
+
+    @property
+    def items(self) -> List[Tuple[Optional[str], Any]]:
+        """The values that stand there, and their keys if they have such."""
+        return [*self.inner.items()] if isinstance(self.inner, dict) else [(None, it) for it in self.inner]
+
+
+class Nodes(NamedTuple):
+    """The nodes that stand beside links, and the list or object that has them."""
+
+    listed: List[Node]
+    inner: Any
 
 
 class Node(NamedTuple):
@@ -30,27 +44,22 @@ class Node(NamedTuple):
 def place_of(value: Any, key: str) -> Place:
     """Where links stand below a key: right there, below several keys with dots between, or in one place further in.
 
-    >>> place_of({"net": {"channels": [1, 2]}}, "channels").values
+    >>> place_of({"net": {"channels": [1, 2]}}, "channels").inner
     [1, 2]
     """
     found: List[Place] = []
     try:
         inner, around = at_path(value, key), at_path(value, key.rpartition(".")[0]) if "." in key else value
-        found.append(Place(around, listed(inner, key)))
+        found.append(Place(around, inner))
     except KeyError:
-        found += [Place(it, listed(it[key], key)) for it in objects_in(value, MOST_DEEP) if key in it]
+        found += [Place(it, it[key]) for it in objects_in(value, MOST_DEEP) if key in it]
     if not found:
         raise BadDump(f"there is no key {key}, that --links asks for")
     if len(found) > 1:
         raise BadDump(f"the key {key} stands in {len(found)} places: say with dots which, as --links NET.{key}")
+    if not isinstance(found[0].inner, (list, dict)):
+        raise BadDump(f"below {key} stands no list of links: {short(found[0].inner)}")
     return found[0]
-
-
-def listed(inner: Any, key: str) -> List[Any]:
-    """The values of a list, or of an object without its keys."""
-    if isinstance(inner, (list, dict)):
-        return list(inner.values()) if isinstance(inner, dict) else inner
-    raise BadDump(f"below {key} stands no list of links: {short(inner)}")
 
 
 def objects_in(value: Any, deep: int) -> List[Dict[str, Any]]:
@@ -61,25 +70,26 @@ def objects_in(value: Any, deep: int) -> List[Dict[str, Any]]:
     return [value] * isinstance(value, dict) + [it for other in inner for it in objects_in(other, deep - 1)]
 
 
-def nodes_beside(place: Place, ends: Set[str], asked: Asked) -> Optional[List[Node]]:
+def nodes_beside(place: Place, ends: Set[str], asked: Asked) -> Nodes:
     """The nodes that stand beside links: a list, or an object, with all ends of the links in one of its fields. None if
     nothing is such a list, so that there are no nodes but the ends."""
     for inner in place.around.values():
-        if inner is place.values or not isinstance(inner, (list, dict)) or not inner:
+        if inner is place.inner or not isinstance(inner, (list, dict)) or not inner:
             continue
         nodes = [(key, it) for key, it in inner.items()] if isinstance(inner, dict) else [("", it) for it in inner]
-        for end in fields_of(nodes):
+        for field, end in ways_of(nodes):
             called = [end(key, it) for key, it in nodes]
             if ends <= set(called) and len(set(called)) == len(nodes):
-                return [named(call, it, asked) for call, (_, it) in zip(called, nodes)]
-    return None
+                return Nodes([named(call, it, asked, field) for call, (_, it) in zip(called, nodes)], inner)
+    return Nodes([], None)
 
 
-def fields_of(nodes: List[Tuple[str, Any]]) -> List[Callable[[str, Any], str]]:
-    """The ways in which nodes may be called by ends of links: by key, as they are, or by a field of the first."""
+def ways_of(nodes: List[Tuple[str, Any]]) -> List[Tuple[str, Way]]:
+    """The ways in which nodes may be called by ends of links: by key, as they are, or by a field of the first, which is
+    told."""
     first = nodes[0][1]
-    ways: List[Callable[[str, Any], str]] = [lambda key, it: key or (it if isinstance(it, str) else "")]
-    return ways + [called_by(field) for field in (said_of(first) if isinstance(first, dict) else ())]
+    ways: List[Tuple[str, Way]] = [("", lambda key, it: key or (it if isinstance(it, str) else ""))]
+    return ways + [(field, called_by(field)) for field in (said_of(first) if isinstance(first, dict) else ())]
 
 
 def called_by(field: str) -> Callable[[str, Any], str]:
@@ -87,7 +97,10 @@ def called_by(field: str) -> Callable[[str, Any], str]:
     return lambda key, it: str(said_of(it).get(field, "")) if isinstance(it, dict) else ""
 
 
-def named(end: str, node: Any, asked: Asked) -> Node:
-    """A node by the field that is asked for, or as ends of links call it."""
-    said = said_of(node) if isinstance(node, dict) else {}
+def named(end: str, node: Any, asked: Asked, field: str) -> Node:
+    """A node by the field that is asked for, or as ends of links call it, by a field or by a key."""
+    if isinstance(node, dict):
+        said = said_of(node, field)
+    else:
+        said = said_of({"value": node}) if node not in (None, end) else {}
     return Node(end, name_of(node, asked.by) if asked.by else end, said)

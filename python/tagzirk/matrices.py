@@ -4,23 +4,26 @@ from __future__ import annotations
 
 import math
 import re
-from typing import List, NamedTuple, Optional
+from typing import Dict, List, NamedTuple, Optional
 
 from .errors import BadDump
 from .graph_files import Graph
 from .limits import need_few_implied
 from .rows import NUMBER
+from .values import Said
 
+MATRIX = "an adjacency matrix"
 GRAPH6 = re.compile(r"(?:>>graph6<<)?([?-~]+)")
 # The fewest rows of a matrix without names that are told from lists of neighbours and from weighted links.
 LEAST_ROWS = 4
 
 
 class Matrix(NamedTuple):
-    """A square of cells, and the names of its rows, which are those of its columns."""
+    """A square of cells, the names of its rows, which are those of its columns, and comments."""
 
     names: List[str]
     cells: List[List[str]]
+    comments: List[str]
 
 
 def cells_of(lines: List[str]) -> List[List[str]]:
@@ -40,7 +43,9 @@ def is_number(cell: str) -> bool:
 def matrix_of(text: str, least: int = LEAST_ROWS) -> Optional[Matrix]:
     """The adjacency matrix that a text is, or None: numbers alone in a square of some size, or with a row above it and
     a column before it that have the same names."""
-    lines = [line for line in text.split("\n") if line.strip() and line.lstrip()[0] not in "#%"]
+    every = [line for line in text.split("\n") if line.strip()]
+    lines = [line for line in every if line.lstrip()[0] not in "#%"]
+    comments = [line.strip() for line in every if line.lstrip()[0] in "#%" and line.strip("#% \t\r")]
     if not lines or len(cells_of(lines[:1])[0]) not in (len(lines), len(lines) - 1):
         return None
     rows = cells_of(lines)
@@ -51,9 +56,9 @@ def matrix_of(text: str, least: int = LEAST_ROWS) -> Optional[Matrix]:
     for names in () if all(map(is_number, head)) and len(head) == len(rows) else (head[1:], head):
         has_names = len(set(names)) == len(below) and names == first and all(len(it) == len(names) + 1 for it in below)
         if has_names and all(is_number(cell) or not cell for row in below for cell in row[1:]):
-            return Matrix(names, [row[1:] for row in below])
+            return Matrix(names, [row[1:] for row in below], comments)
     if all(len(row) == len(rows) and all(map(is_number, row)) for row in rows):
-        return Matrix([str(at) for at in range(1, len(rows) + 1)], rows)
+        return Matrix([str(at) for at in range(1, len(rows) + 1)], rows, comments)
     return None
 
 
@@ -64,7 +69,7 @@ def matrix_graph(matrix: Matrix) -> Graph:
     >>> matrix_graph(matrix).views().value
     {'a': ['b'], 'b': ['a', 'c'], 'c': ['b']}
     """
-    names, cells = matrix
+    names, cells, comments = matrix
     values = [[float(cell or 0) for cell in row] for row in cells]
     beside = [value for at, row in enumerate(values) for to, value in enumerate(row) if at != to]
     if not all(value >= 0 and math.isfinite(value) for value in beside):
@@ -72,13 +77,18 @@ def matrix_graph(matrix: Matrix) -> Graph:
     if set(beside) - {0.0, 1.0} and all(beside):
         raise BadDump("no cell of its matrix is 0, and some are not 1: which of them are links, it does not say")
     are_answered = all(bool(values[at][to]) == bool(values[to][at]) for at in range(len(names)) for to in range(at))
-    graph, said = Graph("an adjacency matrix"), {it: {"value": it} for row in cells for it in row}
-    for name in names:
-        graph.host(name)
+    graph, has_values = Graph(MATRIX), not set(beside) <= {0.0, 1.0}
+    said: Dict[str, Said] = {it: {"value": it} if has_values else {} for row in cells for it in row}
+    graph.beside += [("comments", it) for it in comments]
+    has_diagonal = any(values[at][at] for at in range(len(names)))
+    for at, name in enumerate(names):
+        graph.host(name, {"diagonal": cells[at][at]} if has_diagonal else {})
     for at, row in enumerate(values):
         for to, value in enumerate(row):
+            across = cells[to][at] if are_answered and cells[to][at] != cells[at][to] else None
+            beside = said[cells[at][to]] if across is None else {**said[cells[at][to]], "across": across}
             if value and (to > at or not are_answered):
-                graph.link(names[at], names[to], not are_answered, said[cells[at][to]])
+                graph.link(names[at], names[to], not are_answered, beside)
     return graph
 
 

@@ -27,13 +27,19 @@ def mermaid(text: str) -> Graph:
     [('a', 'b', False), ('a', 'c', False), ('b', 'a', True)]
     """
     graph, is_begun = Graph("Mermaid", is_open=True), False
-    for line in lines_of(text, "%%"):
+    for line in lines_of(text, "%%", graph):
         for part in line.text.split(";"):
-            word = part.split(None, 1)[0] if part.strip() else "end"
+            word, *behind = part.split(None, 1) or ["end"]
             if not is_begun:
                 is_begun = True
             elif word not in OTHERS:
                 read_chain(graph, Line(line.number, part))
+            elif behind and word != "direction":
+                graph.pass_over(word, behind[0].strip())
+    if len({it.said.get("arrow") for it in graph.links}) == 1:
+        # all arrows are alike
+        for it in graph.links:
+            dict.pop(it.said, "arrow", None)  # type: ignore[arg-type]
     return graph
 
 
@@ -61,11 +67,13 @@ def nodes_at(graph: Graph, line: Line, at: int) -> Tuple[List[str], int]:
         if not found:
             raise BadDump(f"{line.place}no node of Mermaid begins at {line.text[at:].strip()[:40] or 'its end'}")
         nodes.append(found[1])
-        graph.hosts.setdefault(found[1], {})
+        said = graph.hosts.setdefault(found[1], {})
         at = found.end()
         shape = SHAPE.match(line.text, at)
         while shape:
             at = shape.end()
+            text = shape[0].strip(" []()<>{}\t\"")
+            said["class" if text.startswith(":::") else "label"] = text.strip(":")
             shape = SHAPE.match(line.text, at)
         rest = line.text[at:].lstrip()
         if not rest.startswith("&"):

@@ -10,7 +10,10 @@ from .errors import BadDump
 from .graph_files import Graph
 from .limits import need_declarable
 from .rows import LIST, Row
-from .values import Views
+from .values import Said, Views
+
+
+LGL, METIS = "LGL", "METIS"
 
 
 def is_adjacency(rows: List[Row]) -> bool:
@@ -27,17 +30,18 @@ def of_adjacency(rows: List[Row]) -> Views:
     networkx writes undirected graphs."""
     has_colons = all(LIST.fullmatch(row.text) for row in rows)
     views, lists = Views("lists of neighbours"), {}  # type: Views, Dict[str, List[str]]
+    behind: Dict[str, Said] = {}
     for row in rows:
         said = LIST.fullmatch(row.text) if has_colons else None
         name, *peers = [said[1], *re.split(r"\s*,\s*|\s+", said[2] or "")] if said else row.words
         if name in lists:
             raise BadDump(f"line {row.number}: {name} has a list already")
-        lists[name] = [it for it in peers if it]
+        lists[name], behind[name] = [it for it in peers if it], said_behind(row)
     sets = {name: set(peers) for name, peers in lists.items()}
     is_answered = any(name in sets.get(peer, ()) for name, peers in lists.items() for peer in peers)
     is_each_once = not has_colons and not is_answered
     for name, peers in lists.items():
-        views.enter(name)
+        views.enter(name, behind[name])
         for peer in peers:
             views.edge(name, peer, not is_each_once) if peer in lists else views.listing(name, peer)
     if is_each_once and any(lists.values()):
@@ -55,7 +59,7 @@ def multiline(rows: List[Row]) -> Optional[Graph]:
         peers = rows[at + 1 : at + 1 + count] if count >= 0 else []
         if len(peers) != count or any(len(it.words) != 1 for it in peers):
             return None
-        graph.hosts.setdefault(words[0], {})
+        graph.hosts.setdefault(words[0], {}).update(said_behind(rows[at]))
         for it in peers:
             graph.link(words[0], it.text, said=said_behind(it))
             is_long = True
@@ -66,7 +70,7 @@ def multiline(rows: List[Row]) -> Optional[Graph]:
 def lgl(text: str) -> Optional[Graph]:
     """LGL: a line `# HOST`, and below it a line for each of its neighbours, with a weight or without. None if the text
     is none: several lines are `# HOST`, the first one is, and no weight is a host."""
-    graph, host, weights, heads = Graph("LGL", is_open=True), "", set(), 0  # type: Graph, str, Set[str], int
+    graph, host, weights, heads = Graph(LGL, is_open=True), "", set(), 0  # type: Graph, str, Set[str], int
     for line in text.split("\n"):
         words = line.split()
         is_host = words[:1] == ["#"]
@@ -106,9 +110,11 @@ def metis(text: str) -> Graph:
     pairs = weights_of([words[before:] for words in lists], has_weights)
     if len(pairs) != 2 * links or any((other, one) not in pairs for one, other in pairs):
         raise BadDump(f"it declares {links} links, and has {len(pairs)} neighbours; each link stands at both its ends")
-    graph = Graph("METIS")
-    for at in range(1, count + 1):
-        graph.host(str(at))
+    graph = Graph(METIS)
+    graph.beside += [("comments", it.strip()) for it in text.split("\n") if it.startswith("%") and it.strip("% \t\r")]
+    for at, words in enumerate(lists, 1):
+        # sizes and weights of the host itself
+        graph.host(str(at), {f"weight {place}": it for place, it in enumerate(words[:before], 1)})
     for (one, other), weight in pairs.items():
         if one <= other:
             graph.link(str(one), str(other), False, {"weight": weight} if has_weights else {})

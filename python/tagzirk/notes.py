@@ -9,17 +9,12 @@ import unicodedata
 from typing import Callable, Counter, Dict, List, NamedTuple, Sequence, Set, Tuple
 
 from .graphs import NamedGraph, shown
-from .states import state_words
 
 # So many names, or pairs of names, are told.
 MOST_TOLD = 3
 # Words of a line that counts what the others have.
 COUNTING = frozenset("total sum count links edges nodes hosts rows lines records entries peers".split())
 PORT = re.compile(r"(.+):[0-9]{1,5}")
-# How the note on comments begins.
-COMMENTED = "comments are passed over, though they may say what is down"
-# A comment behind something else.
-COMMENT = re.compile(r"(?<=\S)[ \t]+(?:#|//)[ \t]*(.+)")
 ADDRESS = re.compile(r"[0-9.]+")
 
 
@@ -160,20 +155,6 @@ def marked(graph: NamedGraph[str], lines: Sequence[Line]) -> List[str]:
     if len(graph.peers[graph.ids[mark]]) < len(graph.ids) - 1:
         return []
     return [f"each line begins with {mark}, which is a host here: --columns 2,3 takes the words behind it"]
-
-
-def commented(text: str) -> List[str]:
-    """Comments behind something on their line, with a word of a state in them.
-
-    >>> commented("a: b\\nb: a  # down\\n")
-    ['comments are passed over, though they may say what is down: 1, as in line 2: # down']
-    """
-    found = [(number, COMMENT.search(line)) for number, line in enumerate(text.split("\n"), 1)]
-    told = [(number, it[0].strip()[:60]) for number, it in found if it and state_words(it[1])]
-    if not told:
-        return []
-    first = f"{len(told)}, as in line {told[0][0]}: {shown(told[0][1])}"
-    return [f"{COMMENTED}: {first}"]
 
 
 def in_two_columns(graph: NamedGraph[str], lines: Sequence[Line]) -> List[str]:

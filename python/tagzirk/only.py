@@ -6,6 +6,7 @@ from __future__ import annotations
 import fnmatch
 from typing import Iterable, List, Sequence, Set, Tuple
 
+from .beside import plain_lines
 from .documents import views_of
 from .dot import of_dot
 from .errors import BadDump
@@ -56,10 +57,7 @@ def plain_views(text: str, form: str) -> Views:
         return views
     if form == "dot":
         return of_dot(text)
-    views = Views("lines of two names")
     for row in rows_of(text):
-        words = row.words
-        if len(words) != 2 or not all(words):
+        if len(row.words) != 2 or not all(row.words):
             raise BadDump(f"line {row.number} is no pair of names: {shown(row.text[:200])}")
-        views.link(words[0], words[1])
-    return views
+    return plain_lines(text)

@@ -12,6 +12,8 @@ NUMBER = re.compile(r"[-+]?(?:\d+(?:\.\d*)?|\.\d+)(?:[eE][-+]?\d+)?")
 COMMENT, ATTRIBUTES = re.compile(r"(^|\s)#.*"), re.compile(r"\s\{")
 # What begins a line that is a comment in some forms, if white space follows, and no word.
 MARKS = ("//", "%", ";", "--")
+# What a comment has that says anything.
+WORDS = re.compile(r"\w")
 # A word, or a text in quotes; with what may stand between two.
 WORD = re.compile(r"\"([^\"]*)\"(?=[\s,;]|$)|'([^']*)'(?=[\s,;]|$)|([^\s,;\"'][^\s,;]*)")
 
@@ -51,6 +53,16 @@ def rows_of(text: str) -> List[Row]:
             text, attributes = (bare[: at.start()].rstrip(), bare[at.start() :].strip()) if at else (bare, "")
             rows.append(Row(number, text, attributes, found[0].strip(" \t\r#") if found else ""))
     return rows
+
+
+def comments_in(text: str) -> List[str]:
+    """The lines of a text that are comments, with a word in them.
+
+    >>> comments_in("# seen\\na b # late\\n; n3 is gone\\n#\\n")
+    ['# seen', '; n3 is gone']
+    """
+    lines = (line.strip() for line in text.split("\n"))
+    return [it for it in lines if it and (it[0] == "#" or is_comment(it)) and WORDS.search(it)]
 
 
 def unquoted(text: str) -> List[str]:

@@ -12,6 +12,8 @@ from .graph_files import Graph
 from .limits import need_declarable
 from .values import Scalar
 
+# What `dot -Tplain` says of each node behind its name.
+OF_PLAIN = ("x", "y", "width", "height", "label", "style", "shape", "color", "fillcolor")
 # A word, or a text in quotes.
 WORD = re.compile(r'"[^"]*"|[^ \t\r\f\v"]+')
 
@@ -49,11 +51,14 @@ class Line(NamedTuple):
         return [int(it) for it in words]
 
 
-def lines_of(text: str, comment: str = "\n") -> Iterator[Line]:
-    """The lines of a text but those that are blank or begin with the mark of a comment."""
+def lines_of(text: str, comment: str = "\n", graph: Optional[Graph] = None) -> Iterator[Line]:
+    """The lines of a text but those that are blank or begin with the mark of a comment. These stand beside a graph."""
     for number, line in enumerate(text.split("\n"), 1):
         bare = line.strip()
-        if bare and not bare.startswith(comment):
+        if bare.startswith(comment):
+            if graph and bare.strip(f"{comment} \t"):
+                graph.pass_over("comments", bare)
+        elif bare:
             yield Line(number, bare)
 
 
@@ -79,9 +84,11 @@ def need_words(line: Line, count: int) -> List[str]:
 def pajek(text: str) -> Graph:
     """Pajek: `*Vertices`, then `*Edges` for links, `*Arcs` for listings; or both as lists. Labels are names."""
     graph, section, told = Graph("Pajek", label="label"), "", set()  # type: Graph, str, Set[str]
-    for line in lines_of(text, "%"):
+    relation: Dict[str, Scalar] = {}
+    for line in lines_of(text, "%", graph):
         if line.text.startswith("*"):
-            section = line.words[0].lower()
+            section, behind = line.words[0].lower(), " ".join(line.words[1:])
+            relation = {"section": behind} if behind else {}
             if section == "*vertices":
                 counts = Line(line.number, line.text[len(section) :]).numbers(1)
                 if len(counts) > 1 or graph.hosts:
@@ -91,6 +98,8 @@ def pajek(text: str) -> Graph:
                     said["label"] = key
             elif section not in ("*network", "*edges", "*arcs", "*edgeslist", "*arcslist"):
                 raise BadDump(f"{line.place}the section {section[:40]} is not read")
+            elif section == "*network" and behind:
+                graph.pass_over("network", behind)
             continue
         words = line.words
         if section == "*vertices":
@@ -102,10 +111,10 @@ def pajek(text: str) -> Graph:
             graph.hosts[words[0]].update({"label": words[1]} if len(words) > 1 else {}, **rest(words[2:]))
         elif section in ("*edges", "*arcs"):
             words = need_words(line, 2)
-            graph.link(words[0], words[1], section == "*arcs", rest(words[2:]))
+            graph.link(words[0], words[1], section == "*arcs", {**rest(words[2:]), **relation})
         elif section in ("*edgeslist", "*arcslist"):
             for other in words[1:]:
-                graph.link(words[0], other, section == "*arcslist")
+                graph.link(words[0], other, section == "*arcslist", relation)
         else:
             raise BadDump(f"{line.place}a line of Pajek stands before any section")
     return graph
@@ -115,12 +124,14 @@ def lemon(text: str) -> Graph:
     """LEMON: `@nodes`, `@arcs` and `@edges`, each a table with a header. The column `label` has the keys of hosts."""
     graph, section = Graph("LEMON"), ""
     header: Optional[List[str]] = None
-    for line in lines_of(text, "#"):
+    for line in lines_of(text, "#", graph):
         words = line.words
         if line.text.startswith("@"):
             section, header = words[0].lower(), None
+            for word in words[1:]:
+                graph.pass_over(section, word)
         elif section not in ("@nodes", "@arcs", "@edges"):
-            continue
+            graph.pass_over(section or "head", line.text)
         elif header is None:
             header = words
             if section == "@nodes" and "label" not in header:
@@ -131,12 +142,14 @@ def lemon(text: str) -> Graph:
         else:
             words = need_words(line, 2)
             graph.link(words[0], words[1], section == "@arcs", rest(words[2:], header))
+    graph.drop_numbers("label")
     return graph
 
 
 def leda(text: str) -> Graph:
     """LEDA: a head of three lines, or of four that say the direction; the hosts, and the links by their numbers."""
-    graph, lines = Graph("LEDA", label="label"), [*lines_of(text, "#")]
+    graph = Graph("LEDA", label="label")
+    lines = [*lines_of(text, "#", graph)]
     at = 4 if len(lines) > 3 and lines[3].text in ("-1", "-2") else 3
     is_directed = not (at == 4 and lines[3].text == "-2")
     if len(lines) <= at:
@@ -151,7 +164,10 @@ def leda(text: str) -> Graph:
     links = lines[at + 1 + count :]
     for line in links[1:]:
         words = need_words(line, 2)
-        graph.link(words[0], words[1], is_directed, rest(words[3:]))
+        label = " ".join(words[3:])
+        label = label[2:-2] if label[:2] == "|{" and label[-2:] == "}|" else label
+        reversal = {"reversal": words[2]} if words[2:] and words[2] != "0" else {}
+        graph.link(words[0], words[1], is_directed, {**reversal, **({"label": label} if label else {})})
     graph.need_counts(count, links[0].numbers(1, 1)[0] if links else None)
     if not links:
         raise BadDump("its LEDA ends before its links: is it torn?")
@@ -163,7 +179,7 @@ def gdf(text: str) -> Graph:
     graph = Graph("GDF")
     names: List[str] = []
     is_nodes = True
-    for line in lines_of(text, "#"):
+    for line in lines_of(text, "#", graph):
         head = re.match("(nodedef|edgedef)>", line.text, re.IGNORECASE)
         if head:
             is_nodes = head[1].lower() == "nodedef"
@@ -173,7 +189,8 @@ def gdf(text: str) -> Graph:
             cells = next(csv.reader([line.text], strict=True, skipinitialspace=True))
         except csv.Error as why:
             raise BadDump(f"{line.place}it is no row of GDF: {why}") from None
-        said: Dict[str, Scalar] = dict(zip(names, (it.strip().strip("'") for it in cells)))
+        called = [*names, *map(str, range(len(names) + 1, len(cells) + 1))]
+        said: Dict[str, Scalar] = dict(zip(called, (it.strip().strip("'") for it in cells)))
         keys = names[:1] if is_nodes else names[:2]
         ends = [str(said.pop(key, "")) for key in keys]
         if not all(ends) or len(ends) < (1 if is_nodes else 2):
@@ -217,6 +234,11 @@ def is_tgf(text: str) -> bool:
     return has_names and bool(ends) and all(len(it) == 2 and set(it) <= known for it in ends)
 
 
+def line_points(line: Line, word: str) -> int:
+    """How many points the line of an edge has."""
+    return Line(line.number, word).numbers(1)[0]
+
+
 def plain(text: str) -> Graph:
     """What `dot -Tplain` writes: where each node stands, and each edge."""
     graph = Graph("Graphviz' plain text, each edge a link, since it does not say directions")
@@ -224,10 +246,13 @@ def plain(text: str) -> Graph:
         words = line.words
         if words[0] == "node":
             words = need_words(line, 11)
-            graph.host(words[1], dict(zip(("label", "style", "shape", "color", "fillcolor"), words[6:])), line.place)
+            graph.host(words[1], dict(zip(OF_PLAIN, words[2:])), line.place)
         elif words[0] == "edge":
             words = need_words(line, 4)
-            graph.link(words[1], words[2], False, dict(zip(("style", "color"), words[-2:])))
+            # behind the points of its line, a text with its place may stand
+            behind = words[4 + 2 * line_points(line, words[3]) :]
+            said = dict(zip(("style", "color"), behind[-2:]))
+            graph.link(words[1], words[2], False, {**({"label": " ".join(behind[:-4])} if behind[4:] else {}), **said})
         elif words[0] == "stop":
             return graph
         elif words[0] != "graph":
@@ -246,7 +271,10 @@ def dimacs(text: str) -> Graph:
         elif words[0] in ("e", "a"):
             words = need_words(line, 3)
             graph.link(words[1], words[2], words[0] == "a", rest(words[3:]))
-        elif words[0] not in ("c", "n", "d", "v", "x"):
+        elif words[0] in ("c", "n", "d", "v", "x"):
+            if words[1:]:
+                graph.pass_over("comments" if words[0] == "c" else f"lines {words[0]}", " ".join(words[1:]))
+        else:
             raise BadDump(f"{line.place}no line of DIMACS begins with {words[0][:40]}")
     if not counts:
         raise BadDump("its line `p edge NODES EDGES` is missing")
@@ -262,7 +290,7 @@ def matrix_market(text: str) -> Graph:
     if len(kinds) < 4 or kinds[:2] != ["matrix", "coordinate"]:
         raise BadDump("of Matrix Market the kind `matrix coordinate` is read")
     graph, counts = Graph("Matrix Market"), []  # type: Graph, List[int]
-    for line in lines_of(text, "%"):
+    for line in lines_of(text.partition("\n")[2], "%", graph):
         if not counts:
             counts = line.numbers(3, 3)
             if counts[0] != counts[1]:

@@ -6,7 +6,7 @@ import difflib
 import os
 import pathlib
 import re
-from typing import Dict, Iterable, List, Mapping, Optional, Sequence, Tuple
+from typing import Dict, Iterable, List, Mapping, Sequence, Tuple
 
 STATUS = "`tagzirk status FILE` tells k and the cut of a dump"
 CERTIFICATE = (

@@ -7,9 +7,10 @@ would be too high.
 from __future__ import annotations
 
 import enum
+import re
 from typing import AbstractSet, Callable, Dict, Optional, Sequence, Set
 
-from .fields import MISSING, Field, number_of, text_of, words_of
+from .fields import MISSING, Field, text_of, words_of
 
 # Words of a field's name that say a state, the time of a last contact, or when something began.
 STATE_NAMES = frozenset(
@@ -18,11 +19,11 @@ STATE_NAMES = frozenset(
     failed failing failure fail suspect suspected available unavailable availability valid invalid ok error err
     errors fault faulty stale expired lost left gone removed deleted closed open phase condition operational
     oper admin visible invisible broken flag flags alarm working running responsive responding answering drained
-    banned blocked usable carrier synced failures missed tombstone phi""".split()
+    banned blocked usable carrier synced failures missed tombstone phi shutdown""".split()
 )
 CONTACT_NAMES = frozenset(
-    """age ago last seen lastseen heard contact handshake handshakes heartbeat heartbeats idle silence silent lastrecv
-    lastsend expires expiry refreshed""".split()
+    """age ago seen heard contact handshake handshakes heartbeat heartbeats idle silence silent quiet elapsed expires
+    expiry refreshed""".split()
 )
 BEGIN_NAMES = frozenset("since created began begin start started joined first uptime born conntime added".split())
 # Words of a name that say what a link or a host is, or its measure, and not whether it is up.
@@ -50,15 +51,19 @@ STATE_WORDS = frozenset(
     initializing loading exstart exchange attempt standby draining drained quarantined banned blocked blocking
     discarding invis invisible hidden running stopped crashed exited terminated killed unavailable available
     degraded critical faulty un dn uj ul um serving evicted wait decommissioned maintenance handshake noaddr
-    unknown never absent isolated partitioned ghost zombie""".split()
+    unknown never absent isolated partitioned ghost zombie shutdown shut stopping halted rebooting dying""".split()
 )
 # Two values, one of which says no.
 PAIRS = [set(it.split()) for it in ("true false", "yes no", "y n", "t f", "on off", "0 1", "+ -", "✓ ✗")]
 # What stands where there is no value, and numbers that stand for none.
 NOTHING = frozenset(("", *"null none nil nan n/a na - -- inf infinity infinite ? undefined".split()))
 LARGEST = frozenset(float(2**bits - 1) for bits in (16, 24, 31, 32, 63, 64))
-# Values with more different ones than this are no states, and times within so many seconds are of one moment.
-MOST_VALUES, ONE_MOMENT = 12, 60.0
+# Values with more different ones than this are no states, and times within so many seconds are of one moment. Words of
+# states in longer values stand among others. Texts that all differ have at most so many shapes, but for their numbers.
+MOST_VALUES, ONE_MOMENT, MOST_LONG, MOST_SHAPES = 12, 60.0, 60, 4
+NUMBERS = re.compile(r"[0-9]+(?:\.[0-9]+)*")
+# A name that says since when something is not there any more, as `since_reply`, and not since when it is.
+SINCE = re.compile(r"(?:^|[._])since[_A-Z-]")
 
 
 class Kind(enum.Enum):
@@ -89,9 +94,14 @@ def is_named(field: Field, names: AbstractSet[str]) -> bool:
     return not field.words.isdisjoint(names)
 
 
+def is_kind(field: Field, names: AbstractSet[str]) -> bool:
+    """Whether a field is called so by its own name, whatever the objects are called in which it stands."""
+    return not words_of(field.name.rpartition(".")[2]).isdisjoint(names)
+
+
 def state_words(text: str) -> Set[str]:
-    """The words of a short value that say a state."""
-    return words_of(text) & STATE_WORDS if len(text) <= 60 else set()
+    """The words of a value that say a state."""
+    return words_of(text) & STATE_WORDS
 
 
 def by_one_value(field: Field) -> Optional[Kind]:
@@ -99,14 +109,20 @@ def by_one_value(field: Field) -> Optional[Kind]:
     if len(field.counts) != 1:
         return None
     value = next(iter(field.counts))
-    is_number = value == "1" or value == "0" and is_named(field, MEASURE_NAMES)
-    is_answer = is_pair({value.casefold()}) and not is_number and not is_named(field, KIND_NAMES)
+    is_number = value == "1" or value == "0" and is_kind(field, MEASURE_NAMES)
+    is_answer = is_pair({value.casefold()}) and not is_number and not is_kind(field, KIND_NAMES)
     return Kind.TOLD if is_named(field, STATE_NAMES) or state_words(value) or is_answer else Kind.NONE
+
+
+def is_of_contact(field: Field) -> bool:
+    """Whether a field is called after an age or a last contact: also as `last..`, and `since..` in front of a word."""
+    is_last = any(it.startswith("last") for it in field.words) or SINCE.search(field.name)
+    return bool(is_last) or is_named(field, CONTACT_NAMES)
 
 
 def by_contact(field: Field) -> Optional[Kind]:
     """Ages, and times of a last contact: they differ, unless all are times within a minute."""
-    is_contact = is_named(field, CONTACT_NAMES)
+    is_contact = is_of_contact(field)
     if not field.moments and (not is_contact or not field.spans):
         has_digits = 2 * sum(any(map(str.isdigit, text_of(value))) for _, value in field.said) > len(field.said)
         return Kind.ASKED if is_contact and has_digits else None
@@ -123,6 +139,9 @@ def by_words(field: Field) -> Optional[Kind]:
     with_words = sum(field.counts[text] for text, it in words.items() if it)
     if not with_words:
         return None
+    if all(len(text) > MOST_LONG for text, it in words.items() if it):
+        # a word among many others
+        return Kind.TOLD
     if len(words) > MOST_VALUES and 2 * with_words < len(field.said):
         # a word of some among other values, as a timeout among round trips
         return Kind.TOLD
@@ -147,7 +166,7 @@ def by_pair(field: Field) -> Optional[Kind]:
     values = {it.casefold() for it in field.counts} - NOTHING - {MISSING}
     if not values or not is_pair(values) or values == {"1"}:
         return None
-    if is_named(field, KIND_NAMES):
+    if is_kind(field, KIND_NAMES):
         return Kind.NONE
     return Kind.TOLD if is_named(field, BEGIN_NAMES) or field.is_of_hosts else Kind.ASKED
 
@@ -158,7 +177,17 @@ def by_nothing(field: Field) -> Optional[Kind]:
     is_for_none = sum(it < 0 for it in numbers) == 1 < len(numbers)
     if not is_for_none and not any(it.casefold() in NOTHING for it in field.counts):
         return None
-    return Kind.TOLD if field.is_of_hosts or is_named(field, KIND_NAMES) else Kind.ASKED
+    return Kind.TOLD if field.is_of_hosts or is_kind(field, KIND_NAMES) else Kind.ASKED
+
+
+def is_of_some(field: Field) -> bool:
+    """Whether each link that has a field has a value of its own, and others have none; or texts that all differ are of
+    a few shapes, but for the numbers in them, as `reply 3 ms` and `no reply, 7 tries`."""
+    if field.is_of_hosts or is_kind(field, KIND_NAMES):
+        return False
+    shapes = {NUMBERS.sub("#", it) for it in field.counts}
+    is_of_shapes = 1 < len(shapes) <= MOST_SHAPES and len(shapes) < len(field.counts) / 2
+    return bool(field.missing) or is_of_shapes and not is_numeric(field) and not field.spans and not field.moments
 
 
 def by_identity(field: Field) -> Optional[Kind]:
@@ -166,6 +195,8 @@ def by_identity(field: Field) -> Optional[Kind]:
     pairs = [(who, text_of(value).casefold()) for who, value in field.said]
     if len(set(it for _, it in pairs)) < 3:
         return None
+    if is_of_some(field) and len(set(it for _, it in pairs)) == len(pairs):
+        return Kind.TOLD
     for place in range(len(pairs[0][0])):
         of_host: Dict[str, Set[str]] = {}
         for who, value in pairs:
@@ -183,22 +214,25 @@ def is_numeric(field: Field) -> bool:
 def by_number(field: Field) -> Optional[Kind]:
     """Numbers: zero among others, or the largest that some counter holds, may stand for a link that is down. Zero right
     below the two ends, as in a matrix, is no link."""
-    if field.is_of_hosts or not is_numeric(field):
+    if not is_numeric(field):
         return None
     numbers = {it for it in field.numbers if it is not None}
-    if 0 in numbers and len(numbers) > 1 and not is_named(field, KIND_NAMES):
+    has_zero = 0 in numbers and len(numbers) > 1
+    if field.is_of_hosts:
+        return Kind.TOLD if has_zero and not is_kind(field, KIND_NAMES | MEASURE_NAMES) else None
+    if has_zero:
         return Kind.ASKED if field.name == "value" else Kind.TOLD
     is_exact = not all(it.is_integer() for it in numbers) and (len(numbers) > 2 or field.name.isdigit())
     is_measure = is_exact or len(numbers) > MOST_VALUES // 2
-    is_plain = is_measure or is_named(field, KIND_NAMES | MEASURE_NAMES | BEGIN_NAMES)
-    if not LARGEST.isdisjoint(numbers) or field.missing and not is_named(field, KIND_NAMES):
+    is_plain = is_measure or is_kind(field, KIND_NAMES | MEASURE_NAMES | BEGIN_NAMES)
+    if not LARGEST.isdisjoint(numbers) or field.missing and not is_kind(field, KIND_NAMES):
         return Kind.TOLD
     return Kind.NONE if is_plain else Kind.TOLD
 
 
 def by_few(field: Field) -> Optional[Kind]:
     """A few texts that say neither a name nor a kind may be states in words that are not known here."""
-    if is_named(field, KIND_NAMES) or len(field.counts) > MOST_VALUES:
+    if is_kind(field, KIND_NAMES) or len(field.counts) > MOST_VALUES:
         return None
     if field.is_of_hosts and not is_named(field, LOOK_NAMES):
         return None

@@ -13,6 +13,7 @@ from .naming import hosts_of
 from .programs import Program
 from .progress import Progress
 from .reports import Report, analysed
+from .taken import DOUBT, doubts_in
 from .worst import Worst, worst
 
 # The statuses that Nagios and its like know.
@@ -50,12 +51,19 @@ class Status:
         """Who does not reach the largest connected component."""
         return tuple(name for piece in self.pieces[1:] for name in piece)
 
+    @property
+    def doubts(self) -> Tuple[str, ...]:
+        """Notes on the dump by which k may be too high."""
+        return tuple(doubts_in(self.dump.notes))
+
     def level(self, at_least: int) -> int:
         """The status for an alarm: `OK` if k is so high; `CRITICAL` if k is 0, as when the overlay is split already;
-        and else `WARNING`. It is `UNKNOWN` of a group of one host, whose k of 0 says of no link that it is missing."""
+        and else `WARNING`, also if k is so high, and some that count in it may be down. It is `UNKNOWN` of a group of
+        one host, whose k of 0 says of no link that it is missing."""
         if self.report.group is not None and len(self.report.group) == 1:
             return UNKNOWN
-        return OK if self.report.k >= at_least else WARNING if self.report.k else CRITICAL
+        is_ok = self.report.k >= at_least and not any(it.startswith(DOUBT) for it in self.doubts)
+        return OK if is_ok else WARNING if self.report.k else CRITICAL
 
 
 def status(

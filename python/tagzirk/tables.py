@@ -8,10 +8,11 @@ import itertools
 import re
 from typing import Dict, Iterable, List, NamedTuple, Optional, Sequence, Tuple
 
+from .beside import said_behind
 from .errors import BadDump
 from .limits import need_few
 from .rows import rows_of
-from .values import HOST_FIELDS, LINK_ENDS, LISTING_ENDS, Scalar, Views
+from .values import HOST_FIELDS, LINK_ENDS, LISTING_ENDS, Said, Scalar, Views
 
 # What a column is called that has all peers of a host in one cell.
 MANY_FIELDS = ("peers", "neighbors", "neighbours", "links", "connections", "active_view")
@@ -23,14 +24,27 @@ DRAWN = {ord(it): drawn for drawn, all_such in (("|", "│┃║"), ("-", "─�
 DRAWN.update(dict.fromkeys(map(ord, "┼╪╬├╞╠┤╡╣┌╒╔┐╕╗└╘╚┘╛╝┬╤╦┴╧╩╭╮╯╰"), "+"))
 OF_RULES = frozenset("-+|: \t\r")
 FOOTER = re.compile(r"\(?\d+ rows?\b.*|Time:.*|\(?(?:no|empty) (?:rows?|set)\b.*", re.IGNORECASE)
+# A footer that says nothing but how many rows there are, or how long they took.
+COUNT = re.compile(
+    r"\(?([0-9]+) rows?(?: in set)?(?: ?\([0-9.]+ sec\))?\)?|Time: [0-9.]+ ms(?: \([0-9:.]+\))?", re.IGNORECASE
+)
 
 
 class Table(NamedTuple):
-    """A table: what it is called, the names of its columns, if it has a header, and its rows with their lines."""
+    """A table: what it is called, the names of its columns, if it has a header, and its rows with their lines; what
+    stands above and below it, and behind its rows, by their lines."""
 
     kind: str
     header: List[str]
     rows: List[Tuple[int, List[str]]]
+    beside: List[Tuple[str, str]]
+    behind: Dict[int, Said]
+
+    @property
+    def names(self) -> List[str]:
+        """What the columns are called: by their numbers where a name is empty, or stands there twice."""
+        lower = [it.lower() for it in self.header]
+        return [it if it and lower.count(it.lower()) == 1 else str(at) for at, it in enumerate(self.header, 1)]
 
 
 class Ends(NamedTuple):
@@ -114,19 +128,27 @@ def drawn_table(text: str) -> Optional[Table]:
     if not rules or head is None or head + 1 not in rules:
         return None
     is_framed = lines[head][1].strip()[0] == lines[head][1].strip()[-1] == "|"
-    table, is_below = Table("a table", split_drawn(lines[head][1], is_framed), []), False
+    table, is_below = Table("a table", split_drawn(lines[head][1], is_framed), [], [], {}), False
+    table.beside.extend(("title", line.strip()) for at, (_, line) in enumerate(lines[:head]) if at not in rules)
     for place in range(head + 1, len(lines)):
         number, line = lines[place]
         if place in rules:
             continue
         if "|" not in line and FOOTER.fullmatch(line.strip()):
             is_below = True
+            table.beside.extend(footer_of(line, len(table.rows)))
             continue
         cells = split_drawn(line, is_framed)
         if is_below or len(cells) != len(table.header):
             raise BadDump(f"line {number} is no row of the table above it: {line.strip()[:60]}")
         table.rows.append((number, cells))
     return table
+
+
+def footer_of(line: str, rows: int) -> List[Tuple[str, str]]:
+    """A footer, unless it says the number of rows alone, or how long these took."""
+    found = COUNT.fullmatch(line.strip())
+    return [] if found and found[1] in (None, str(rows)) else [("footer", line.strip())]
 
 
 def between_columns(line: str) -> str:
@@ -152,11 +174,14 @@ def parsed_rows(text: str, begin: int, between: str) -> List[Tuple[int, List[str
     return rows
 
 
-def without_rule(rows: List[Tuple[int, List[str]]]) -> List[Tuple[int, List[str]]]:
-    """The rows without a line below the header, and without their count at the end, as psql and sqlite write them."""
+def without_rule(rows: List[Tuple[int, List[str]]], beside: List[Tuple[str, str]]) -> List[Tuple[int, List[str]]]:
+    """The rows without a line below the header, and without their count at the end, as psql and sqlite write them. If
+    this says more, it stands beside."""
     if rows and all(len(it) > 1 and set(it) <= set("-=") for it in rows[0][1]):
         rows = rows[1:]
     is_count = len(rows) > 1 and FOOTER.fullmatch(" ".join(rows[-1][1])) and len(rows[-1][1]) < len(rows[0][1])
+    if is_count:
+        beside.extend(footer_of(" ".join(rows[-1][1]), len(rows) - 1))
     return rows[:-1] if is_count else rows
 
 
@@ -170,7 +195,8 @@ def with_header(text: str, columns: Optional[str]) -> Optional[Tuple[Table, Ends
     ends = ends_in_header(header, columns)
     if not ends:
         return None
-    table = Table("a table", header, without_rule(parsed_rows(text, begin + 1, between)))
+    beside: List[Tuple[str, str]] = []
+    table = Table("a table", header, without_rule(parsed_rows(text, begin + 1, between), beside), beside, {})
     names = {header[it].lower() for it in ends.places}
     others = ((number, cells_at(row, ends)) for number, row in table.rows if row != header)
     again = next(((number, cell) for number, cells in others for cell in cells if cell.lower() in names), None)
@@ -185,16 +211,16 @@ def with_header(text: str, columns: Optional[str]) -> Optional[Tuple[Table, Ends
 
 def without_header(text: str) -> Table:
     """The table whose lines are all rows, but for comments."""
-    rows = [(row.number, row.text) for row in rows_of(text)]
-    between = between_columns(rows[0][1]) if rows else ","
+    rows = rows_of(text)
+    between = between_columns(rows[0].text) if rows else ","
     found = []
-    for number, line in rows:
+    for number, line in ((row.number, row.text) for row in rows):
         try:
             cells = next(csv.reader([line], delimiter=between, skipinitialspace=True, strict=True))
         except csv.Error as why:
             raise BadDump(f"line {number}: it is no row of a table: {why}") from None
         found.append((number, [it.strip() for it in cells if between != " " or it.strip()]))
-    return Table("a table without a header", [], found)
+    return Table("a table without a header", [], found, [], {row.number: said_behind(row) for row in rows})
 
 
 def cells_at(row: Sequence[str], ends: Ends) -> Iterable[str]:
@@ -225,7 +251,8 @@ def table_of(text: str, columns: Optional[str]) -> Optional[Tuple[Table, Ends]]:
 
 def of_table(table: Table, ends: Ends) -> Views:
     """What hosts list by a table."""
-    views, repeated = Views(told_of(table, ends)), 0
+    views, repeated, names = Views(told_of(table, ends), [*table.beside]), 0, table.names
+    views.columns = {str(at): it for at, it in enumerate(names, 1)}
     for number, cells in table.rows:
         if cells == table.header:
             repeated += 1
@@ -235,7 +262,7 @@ def of_table(table: Table, ends: Ends) -> Views:
         if table.header and any(cells[len(table.header) :]):
             raise BadDump(f"line {number} has {len(cells)} columns, and the header has {len(table.header)}")
         one, other = cells_at(cells, ends)
-        said = said_in(cells, table.header, ends)
+        said = {**said_in(cells, names, ends), **table.behind.get(number, {})}
         if one and not other and ends.is_listing:
             views.enter(one, said)
         elif not one or not other:

@@ -5,10 +5,10 @@ from __future__ import annotations
 
 from typing import Callable, Dict, List, NamedTuple, Optional, Sequence, Set, Tuple
 
+from .account import LEFT, account_of, doubtful
 from .asked import Asked
 from .errors import BadDump
 from .fields import MISSING, Field, fields_of, moment_of, most_of, number_of, span_of, text_of
-from .notes import COMMENTED
 from .states import Kind, clearness, kind_of
 from .values import Scalar, Statement, Views, one_of
 
@@ -18,8 +18,8 @@ MOST_SHOWN = 5
 HOST, LINK = "host:", "link:"
 
 
-# How the note on fields begins that may say what is down.
-DOUBT = "taken all, though some may be down"
+# How the note on fields begins that may say what is down, and that on such which a person knows.
+DOUBT, ANYWAY = "taken all, though some may be down", "taken all the same, as --all asks"
 
 
 class Up(NamedTuple):
@@ -40,7 +40,7 @@ def taken_of(views: Views, asked: Asked) -> Tuple[Views, List[str]]:
     """
     notes, settled = [], []
     for it in map(up_of, asked.up):
-        field = field_of(fields_of(views), it)
+        field = field_of(views, it)
         views, note = only(views, field, it)
         notes.append(note)
         settled.append((field.is_of_hosts, field.name))
@@ -48,33 +48,41 @@ def taken_of(views: Views, asked: Asked) -> Tuple[Views, List[str]]:
     differ = sorted((it for it, kind in kinds if kind is Kind.ASKED), key=clearness, reverse=True)
     if differ and not asked.all:
         raise BadDump(question(differ))
-    if differ:
-        notes.append(f"taken all the same, as --all asks: {many(differ)}")
     same = [it for it, kind in kinds if kind is Kind.TOLD and len(it.counts) == 1]
     notes += [f"{it.name} is {next(iter(it.counts))} of all {len(it.said)} {it.of}" for it in same[:MOST_SHOWN]]
     maybe = [it for it, kind in kinds if kind is Kind.TOLD and len(it.counts) > 1]
-    if maybe:
-        notes.append(f"{DOUBT}: {many(maybe)}; --up FIELD=VALUE takes what has this value")
-    return views, notes
+    doubts = [many([*differ, *maybe])] * bool(differ or maybe) + doubtful(views)
+    if doubts and asked.all:
+        notes.append(f"{ANYWAY}: {'; '.join(doubts)}")
+    elif doubts:
+        advice = "--up FIELD=VALUE takes what has this value" if maybe else "leave out of the dump what is down"
+        notes.append(f"{DOUBT}: {'; '.join(doubts)}; {advice}")
+    left = [it for it, kind in kinds if kind is Kind.NONE]
+    return views, [*notes, *account_of(views, [*same[MOST_SHOWN:], *left], asked.all)]
 
 
 def doubts_in(notes: Sequence[str]) -> List[str]:
-    """Those notes on a dump without which its k may be believed and be too high."""
-    return [it for it in notes if it.startswith((DOUBT, COMMENTED))]
+    """Those notes on a dump without which its k may be believed and be too high. With `--all` there are none."""
+    return [it for it in notes if it.startswith((DOUBT, LEFT))]
 
 
 def up_of(text: str) -> Up:
     """What the words of `--up` say."""
     name, equals, values = text.partition("=")
     if not equals or not name:
-        raise BadDump(f"--up takes FIELD=VALUE or FIELD=VALUE,VALUE, and not {text}")
+        tip = "; a column without a name is called by its number, as 3=1" if equals else ""
+        raise BadDump(f"--up takes FIELD=VALUE or FIELD=VALUE,VALUE, and not {text}{tip}")
     return Up(name, values)
 
 
-def field_of(fields: Sequence[Field], up: Up) -> Field:
-    """The field that is meant: of links or of hosts, and if it is of both, the one that is said."""
+def field_of(views: Views, up: Up) -> Field:
+    """The field that is meant: of links or of hosts, and if it is of both, the one that is said. A column may be meant
+    by its number."""
+    fields = fields_of(views)
     before = next((it for it in (HOST, LINK) if up.field.startswith(it)), "")
     name = up.field[len(before) :]
+    if all(it.name != name for it in fields):
+        name = views.columns.get(name, name)
     kinds = [it for it in fields if not before or it.is_of_hosts == (before == HOST)]
     found = [it for it in kinds if it.name == name] or [it for it in kinds if it.name.casefold() == name.casefold()]
     if not found:
@@ -106,7 +114,7 @@ def only(views: Views, field: Field, up: Up) -> Tuple[Views, str]:
 
 def without_hosts(views: Views, down: Set[str]) -> Views:
     """A dump without some hosts, and without all links and listings of these."""
-    left = Views(views.kind)
+    left = views.emptied()
     for it in views.statements:
         if it.one not in down and it.other not in down:
             left.take(it)
@@ -115,7 +123,7 @@ def without_hosts(views: Views, down: Set[str]) -> Views:
 
 def without_links(views: Views, down: Sequence[Statement]) -> Views:
     """A dump without some links and listings, whose hosts stay."""
-    left, gone = Views(views.kind), set(map(id, down))
+    left, gone = views.emptied(), set(map(id, down))
     for it in views.statements:
         if id(it) not in gone:
             left.take(it)

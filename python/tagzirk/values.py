@@ -3,6 +3,7 @@
 from __future__ import annotations
 
 import itertools
+import json
 from typing import Any, Dict, Iterable, List, Mapping, NamedTuple, Optional, Sequence, Tuple, Union
 
 from .errors import BadDump
@@ -10,9 +11,9 @@ from .errors import BadDump
 # What the list of peers of a host is called, and the host itself, in the order in which they are looked for.
 PEER_KEYS = ("peers", "neighbors", "neighbours", "active_view", "connections", "links")
 NAME_KEYS = ("name", "id", "host", "hostname", "node", "address", "addr", "key")
-# So many fields of an object, and of objects so deep in it, are what it says.
-MOST_FIELDS, MOST_DEEP = 64, 6
-# The values of a list of so many; one of objects counts as so many objects in one another.
+# So many fields of an object, and of objects so deep in it, are fields by themselves; further ones are one text.
+MOST_FIELDS, MOST_DEEP, FURTHER = 64, 6, "further fields"
+# So are those of objects in a list of so many; a list counts as so many objects in one another.
 MOST_LONG, OF_LISTS = 16, 3
 # What both ends of a link are called, as fields or columns; and of a listing a host and a peer that it lists.
 LINK_ENDS = (
@@ -50,12 +51,25 @@ class Statement(NamedTuple):
 
 class Views:
     """What each host lists: the dump as `overlay import --views` reads it. `kind` says how the file was read, and
-    `statements` has all that was said, in its order, with what stands beside it."""
+    `statements` has all that was said, in its order, with what stands beside it. `beside` has all else that stands in
+    the dump: what it is, and a value of it. `columns` has the names of columns by their numbers."""
 
-    def __init__(self, kind: str = "") -> None:
+    def __init__(self, kind: str = "", beside: Optional[List[Tuple[str, Scalar]]] = None) -> None:
         self.peers: Dict[str, Dict[str, None]] = {}
         self.statements: List[Statement] = []
         self.kind = kind
+        self.beside: List[Tuple[str, Scalar]] = [] if beside is None else beside
+        self.columns: Dict[str, str] = {}
+
+    def emptied(self) -> Views:
+        """The same dump without any host."""
+        views = Views(self.kind, self.beside)
+        views.columns = self.columns
+        return views
+
+    def pass_over(self, what: str, value: Scalar) -> None:
+        """Something stands in the dump that says neither a host nor a link, and belongs to none."""
+        self.beside.append((what, value))
 
     def enter(self, name: str, said: Optional[Said] = None) -> None:
         """A host has an entry. `said` is what the dump says of it otherwise."""
@@ -80,6 +94,11 @@ class Views:
             self.enter(other)
         else:
             self.link(one, other, said)
+
+    def say(self, place: int, said: Said) -> None:
+        """More is said of what a statement says."""
+        before = self.statements[place]
+        self.statements[place] = before._replace(said={**before.said, **said})
 
     def take(self, statement: Statement) -> None:
         """Says again what a statement says."""
@@ -138,10 +157,10 @@ def short(value: Any) -> str:
 
 def said_of(value: Mapping[Any, Any], *without: str) -> Dict[str, Scalar]:
     """What an object says, but for some fields: its scalars, those of objects in it by their keys with dots between,
-    and few scalars or objects in a list as one text. Of objects six deep and of 64 fields, no more is said.
+    and of lists all scalars, or objects, as one text. What is deeper, or behind the 64th field, is one text too.
 
-    >>> said_of({"name": "b", "state": {"up": True, "since": 7}, "flags": ["a", "b"]}, "name")
-    {'state.up': True, 'state.since': 7, 'flags': 'a,b'}
+    >>> said_of({"name": "b", "state": {"up": True, "since": 7}, "flags": ["a", "b"]}, "name", "state.since")
+    {'state.up': True, 'flags': 'a,b'}
     """
     said: Dict[str, Scalar] = {}
     take_in(said, "", value, without, MOST_DEEP)
@@ -150,39 +169,65 @@ def said_of(value: Mapping[Any, Any], *without: str) -> Dict[str, Scalar]:
 
 def take_in(said: Dict[str, Scalar], before: str, value: Mapping[Any, Any], without: Sequence[str], deep: int) -> None:
     """Takes in what an object says below such a key."""
-    for key, inner in value.items():
+    items = [(f"{before}{key}", inner) for key, inner in value.items() if f"{before}{key}" not in without]
+    for at, (name, inner) in enumerate(items):
         if len(said) >= MOST_FIELDS:
+            more = text_in(dict(items[at:]))
+            said[FURTHER] = f"{said[FURTHER]}, {more}" if FURTHER in said else more
             return
-        if key in without:
-            continue
-        if inner is None or isinstance(inner, (str, int, float)):
-            said[f"{before}{key}"] = inner
-        elif isinstance(inner, dict):
-            if deep and inner:
-                take_in(said, f"{before}{key}.", inner, (), deep - 1)
+        if isinstance(inner, dict) and inner and deep:
+            take_in(said, f"{name}.", inner, without, deep - 1)
         elif isinstance(inner, list):
-            if len(inner) <= MOST_LONG:
-                said.update((f"{before}{key}{other}", it) for other, it in joined(inner, deep).items())
+            said.update((f"{name}{other}", it) for other, it in joined(inner, deep).items())
         else:
-            # a date of YAML
-            said[f"{before}{key}"] = str(inner)
+            said[name] = inner if is_scalar(inner) else text_in(inner)
+
+
+def is_scalar(value: Any) -> bool:
+    return value is None or isinstance(value, (str, int, float))
+
+
+def text_in(value: Any) -> str:
+    """A value that is no scalar, as one text: as JSON has it, or as its own class has it, as a date of YAML.
+
+    >>> text_in({"a": [1]}), text_in({})
+    ('{"a": [1]}', '{}')
+    """
+    if not isinstance(value, (dict, list)):
+        return str(value)
+    try:
+        return json.dumps(value, ensure_ascii=False, default=str)
+    except RecursionError:
+        return "values in one another"
 
 
 def joined(values: List[Any], deep: int) -> Dict[str, Scalar]:
-    """What a short list says as one object: scalars as one text, and of objects each field so, with a dot before it.
+    """What a list says as one object: scalars as one text, and of few objects each field so, with a dot before it.
 
     >>> joined([1, "a"], 6), joined([{"up": True}, {"up": False, "n": 1}, {"up": True}], 6)
     ({'': '1,a'}, {'.up': 'True,False', '.n': '1'})
     """
     if is_list_of_names(values):
         return {"": ",".join(map(str, values))}
+    if deep < OF_LISTS or len(values) > MOST_LONG or not all(isinstance(it, dict) for it in values):
+        return {"": text_in(values)}
     found: Dict[str, Dict[str, None]] = {}
-    for it in values if deep >= OF_LISTS else ():
+    for it in values:
         inner: Dict[str, Scalar] = {}
-        take_in(inner, ".", it if isinstance(it, dict) else {}, (), deep - OF_LISTS)
+        take_in(inner, ".", it, (), deep - OF_LISTS)
         for key, value in inner.items():
             found.setdefault(key, {})[str(value)] = None
     return {key: ",".join(texts) for key, texts in found.items()}
+
+
+def both(around: Said, inner: Said) -> Dict[str, Scalar]:
+    """What is said in two places of one thing. What the inner one says otherwise is told below `data`.
+
+    >>> both({"state": "down", "w": 1}, {"state": "up", "w": 1})
+    {'state': 'down', 'w': 1, 'data.state': 'up'}
+    """
+    differ = {key for key in inner if key in around and around[key] != inner[key]}
+    return {**around, **{f"data.{key}" if key in differ else key: value for key, value in inner.items()}}
 
 
 def item_of(value: Any, by: Optional[str] = None) -> Tuple[str, Said]:
@@ -193,7 +238,9 @@ def item_of(value: Any, by: Optional[str] = None) -> Tuple[str, Said]:
     inner = naming_part(value, by)
     naming = next(key for key in ((by,) if by else NAME_KEYS) if isinstance(inner.get(key), (str, int, dict)))
     said = said_of(inner, naming)
-    return name, said if inner is value else {**said_of(value, "data"), **said}
+    if isinstance(inner[naming], dict):
+        said.update((f"{naming}.{key}", it) for key, it in item_of(inner[naming], by)[1].items())
+    return name, said if inner is value else both(said_of(value, "data"), said)
 
 
 def items_of(value: Any, by: Optional[str] = None) -> List[Tuple[str, Said]]:

@@ -5,10 +5,11 @@ from __future__ import annotations
 
 import itertools
 import re
-from typing import Any, Dict, List, NamedTuple, Optional, Union
+from typing import Any, Dict, List, NamedTuple, Optional, Set, Tuple, Union
 
 from .errors import BadDump, LibraryMissing
 from .limits import DEEPEST, MOST_SLOW_YAML, need_few_implied
+from .values import Scalar
 
 NOTHING = ("", "~", "null", "Null", "NULL")
 NUMBER = re.compile(r"0|-?[1-9][0-9]{0,17}")
@@ -16,6 +17,8 @@ NUMBER = re.compile(r"0|-?[1-9][0-9]{0,17}")
 TAG = re.compile(r"!|tag:yaml\.org,2002:(?:str|int|float|bool|null|seq|map|set|timestamp)")
 # How YAML begins, where the file's name does not say that it is YAML: an item of a list; a key with a list or an object
 # in brackets, which may go on in the next line; an object whose first key has no quotes.
+# A comment, with a word in it.
+COMMENT = re.compile(r"#[^\n]*\w[^\n]*")
 BRACKET = re.compile(r":\s*[\[{]")
 OBJECT = re.compile(r"\{\s*[^\s\"'{}\[\],:]+\s*:(?:\s.*)?")
 
@@ -51,6 +54,9 @@ class Reader:
     def __init__(self) -> None:
         self.open: List[Open] = []
         self.anchors: Dict[str, Any] = {}
+        self.aliases: Set[str] = set()
+        # where scalars begin and end in the text
+        self.scalars: List[Tuple[int, int]] = []
         self.documents, self.implied = 0, 0
         self.value: Any = None
 
@@ -89,11 +95,13 @@ class Reader:
         if event.anchor not in self.anchors:
             raise BadDump(f"line {line}: *{event.anchor} names nothing that stands above it")
         value = self.anchors[event.anchor]
+        self.aliases.add(event.anchor)
         self.implied = size_of(value, self.implied + 1)
         self.put(value, value if isinstance(value, str) else None, line)
 
     def scalar(self, event: Any, line: int) -> None:
         self.need_known(event, line)
+        self.scalars.append((event.start_mark.index, event.end_mark.index))
         text, is_plain = event.value, not event.style
         if text == "<<" and is_plain:
             raise BadDump(f"line {line}: keys << that join objects are not read: write them out")
@@ -140,8 +148,21 @@ def size_of(value: Any, so_far: int) -> int:
     return so_far
 
 
-def yaml_of(text: str) -> Any:
-    """The value that a text of YAML says.
+def beside_in(text: str, reader: Reader) -> List[Tuple[str, Scalar]]:
+    """What stands in a text of YAML beside its values: comments, and names of anchors that nothing repeats."""
+    between, at = [], 0
+    for begin, end in reader.scalars:
+        # a text of several lines may end behind the line break that ends it
+        between.append(text[at:begin])
+        between.append("\n" if text[begin:end].endswith("\n") else "")
+        at = end
+    found = COMMENT.findall("".join([*between, text[at:]]))
+    anchors = [it for it in reader.anchors if it not in reader.aliases]
+    return [("comments", it) for it in found] + [("anchors", it) for it in anchors]
+
+
+def yaml_of(text: str, beside: Optional[List[Tuple[str, Scalar]]] = None) -> Any:
+    """The value that a text of YAML says. What stands beside it is put into a list.
 
     >>> yaml_of("010: [8, '8', 1.10, no, null]")
     {'010': [8, '8', '1.10', 'no', None]}
@@ -162,4 +183,6 @@ def yaml_of(text: str) -> Any:
             reader.read(event)
     except yaml.YAMLError as why:
         raise BadDump("it is no YAML: " + " ".join(str(why).split()).replace(' in "<unicode string>"', "")) from None
+    if beside is not None:
+        beside += beside_in(text, reader)
     return reader.value

@@ -79,6 +79,19 @@ class Status(Commands):
         ):
             out, _, given = self.tagzirk("status", path, "--at-least", at_least)
             self.assertEqual((given, out.split(" - ")[0]), (status, word), out)
+        # where some may be down k may be lower, and what is not read is told; --all says that it is known
+        triangle = "source,target,q\na,b,{0}\nb,c,{1}\na,c,{1}\na,d,{1}\nb,d,{1}\nc,d,{1}\n"
+        doubtful = self.file("doubtful.csv", triangle.format("A", "B"))
+        beside = self.file("beside.csv", triangle.format(3.5, 4.5).replace("q", "cost"))
+        for path, words, status, begin in (
+            (doubtful, (), 1, "WARNING, taken all, though some may be down: of 6 links q is B (5) or A (1)"),
+            (doubtful, ("--all",), 0, "OK - k is 3"),
+            (beside, (), 0, "OK, but not read as states: of 6 links cost (4.5: 5, 3.5: 1)"),
+            (beside, ("--all",), 0, "OK - k is 3"),
+        ):
+            out, _, given = self.tagzirk("status", path, "--at-least", 3, *words)
+            self.assertEqual((given, out[: len(begin)]), (status, begin))
+            self.assertIn(" - k is 3: every two of 4 hosts", out)
         self.assertIn("|k=2;3:;1:;0 hosts=14;;;0 links=24;;;0\n", self.tagzirk("status", self.dump, "--at-least", 3)[0])
 
     def test_names(self):

@@ -11,7 +11,7 @@ from ..graphs import shown
 from ..markup import counted
 from ..progress import Progress
 from ..sites import Sites
-from ..status import UNKNOWN, WORDS, Dead, Status, status
+from ..status import OK, UNKNOWN, WORDS, Dead, Status, status
 from ..worst import Cut
 from .telling import site_lines, value_of_site, value_of_worst, worst_lines
 from .words import Parents, at_least_one, command, fault, options_of, places_of, some, told
@@ -21,6 +21,8 @@ if TYPE_CHECKING:
 
 NAMES = ("status", "analyse")
 MOST_WORST = 3
+# So many characters of a doubt are told in the line for Nagios.
+MOST_DOUBT = 240
 
 
 def add(commands: Commands, parents: Parents) -> None:
@@ -32,8 +34,8 @@ def add(commands: Commands, parents: Parents) -> None:
             "--at-least",
             type=at_least_one,
             metavar="K",
-            help="the first line and the status are for Nagios: 0 if k is K or more, 1 if it is less, 2 if it is 0, "
-            "3 if there is no answer",
+            help="the first line and the status are for Nagios: 0 if k is K or more, 1 if it is less, or if some that "
+            "count may be down, 2 if it is 0, 3 if there is no answer",
         )
         it.add_argument(
             "--without", action="append", default=[], metavar="HOSTS", help="as if these had crashed; @FILE is a list"
@@ -85,9 +87,18 @@ def tell(words: argparse.Namespace) -> int:
         lines = lines_of(it, sites)
         if level is not None:
             # figures stand behind the first |, so none may stand in a name
-            lines[0] = f"{WORDS[level]} - {lines[0].replace('|', '/')}|{figures_of(it, words.at_least)}"
+            first = f"{WORDS[level]}{doubt_of(it, words.at_least)} - {lines[0]}"
+            lines[0] = f"{first.replace('|', '/')}|{figures_of(it, words.at_least)}"
         print("\n".join(lines))
     return level or 0
+
+
+def doubt_of(it: Status, at_least: int) -> str:
+    """Why k may be too high that is high enough, behind the word of the status; nothing, if nothing says so."""
+    if not it.doubts or it.report.k < at_least:
+        return ""
+    told = shown(it.doubts[0])
+    return f", {'but ' * (it.level(at_least) == OK)}{told if len(told) <= MOST_DOUBT else told[:MOST_DOUBT] + '..'}"
 
 
 def figures_of(it: Status, at_least: int) -> str:
@@ -166,6 +177,7 @@ def value_of(it: Status, sites: Optional[Sites], at_least: Optional[int]) -> Dic
         "without_entry": it.dump.without_entry,
         "with_dead": None if it.dead is None else value_of_dead(it.dead),
         "notes": list(it.dump.notes),
+        "doubts": list(it.doubts),
     }
     if sites:
         value["sites"] = list(map(value_of_site, sites.hit(cut.crashed, cut.cut_off)))

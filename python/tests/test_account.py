@@ -1,0 +1,232 @@
+"""Tests of the account of a dump: in each form, whatever stands there beside hosts and links is named in a note, and a
+dump of hosts and links alone has none. They need the program overlay."""
+
+import pathlib
+import re
+import tempfile
+
+from tagzirk import Asked, TagzirkError
+from tagzirk.forms import FORMS, form_of
+from tagzirk.taken import doubts_in
+
+from .test_states import Dumps
+
+# A triangle of a, b and c in each form, with marks where something more may stand: of each its text, and what the note
+# or the refusal says of it. Values are no words of states, unless a mark is to be asked about.
+XML_NODES = '<node id="a"«node»/><node id="b"/><node id="c">«in-node»</node>'
+XML_EDGES = (
+    '<edge source="a" target="b"«edge»/><edge source="b" target="c">«in-edge»</edge><edge source="a" target="c"></edge>'
+)
+NODES = '[{"id": "a"«node»}, {"id": "b"}, {"id": "c"}]'
+LINKS = '[{"source": "a", "target": "b"«link»}, {"source": "b", "target": «end»}, {"source": "a", "target": "c"}]'
+HOSTS = '"a": {"peers": ["b", "c"]«host»}, "b": {"peers": ["a", "c"]}, "c": {"peers": ["a", «peer»]}'
+OF_LINKS = {
+    "node": (', "z": 7', "z (missing: 2, 7: 1)"),
+    "link": (', "z": 7', "z is missing (2) or 7 (1)"),
+    "beside": (', "z": {"y": 7}', "z (y: 7)"),
+    "hosts": (', "z": ["c"]', "z (missing: 2, listed: 1)"),
+    "of-hosts": (', "z": {"c": {"y": 7}}', "z.y (missing: 2, 7: 1)"),
+    "of-links": (', "z": ["x", "x", "y"]', "z (x: 2, y: 1)"),
+}
+CASES = [
+    ("net.edges", "«line»a b«behind»\nb c\na c\n", {
+        "line": ("% odd\n", "comments (% odd)"),
+        "behind": (" # odd", "comment (missing: 2, odd: 1)"),
+    }),
+    ("net.edges", "a b {«in»}\nb c {}\na c {}\n", {"in": ("'odd': 3", "odd is missing (2) or 3 (1)")}),
+    ("net.edges", "«line»a -> b«behind»\nb -> a\nb -> c\nc -> b\na -> c\nc -> a\n", {
+        "line": ("# odd\n", "comments (# odd)"),
+        "behind": (" # odd", "comment (missing: 5, odd: 1)"),
+    }),
+    ("net.edges", "(a, b)«behind»\n(b, c)\n(a, c)\n", {"behind": (" # odd", "comment (missing: 2, odd: 1)")}),
+    ("net.edges", "a b 1«behind»\nb c 1\na c 1\n", {
+        "": ("", "column 3 (1)"),
+        "behind": (" # odd", "comment (missing: 2, odd: 1)"),
+    }),
+    ("net.edges", "«line»a: b c«behind»\nb: a c\nc: a b\n", {
+        "line": ("# odd\n", "comments (# odd)"),
+        "behind": (" # odd", "comment (missing: 2, odd: 1)"),
+    }),
+    ("net.csv", "«line»source,target«head»\na,b«cell»\nb,c«cell»\na,c«cell»\n", {
+        "line": ("# odd\n", "comments (# odd)"),
+        "head cell": (",z", "z (z)"),
+        "cell": (",z", "has 3 columns, and the header has 2"),
+    }),
+    ("net.txt", "«title» x | y «head»\n---+---«rule»\n a | b «cell»\n b | c «cell»\n a | c «cell»\n«foot»", {
+        "title": ("odd\n", "title (odd)"),
+        "head rule cell": (("| z", "+---", "| 7"), "z (7)"),
+        "foot": ("(3 rows, odd)\n", "footer ((3 rows, odd))"),
+    }, {"columns": "x,y"}),
+    ("net.json", '{"nodes": NODES, "links": LINKS, "directed": false«beside»«hosts»«of-hosts»«of-links»}', OF_LINKS),
+    ("net.json", '{"type": "NetworkCollection", "collection": [{"type": "NetworkGraph", "nodes": NODES,'
+                 ' "links": LINKS«beside»}]«hosts»}', {it: OF_LINKS[it] for it in ("node", "link", "beside", "hosts")}),
+    ("net.json", '{"graph": {"nodes": {"a": {«node»}, "b": {}, "c": {}}, "edges": LINKS«beside»}«hosts»}', {
+        "node": ('"z": 7', "z (missing: 2, 7: 1)"),
+        "beside": OF_LINKS["beside"],
+        "hosts": OF_LINKS["hosts"],
+    }),
+    ("net.json", '{"elements": {"nodes": [{"data": {"id": "a"}«node»}, {"data": {"id": "b"}}, {"data": {"id": "c"}}],'
+                 ' "edges": [{"data": {"source": "a", "target": "b"}«link»}, {"data": {"source": "b", "target": "c"}},'
+                 ' {"data": {"source": "a", "target": "c"}}]}«beside»}',
+     {it: OF_LINKS[it] for it in ("node", "link", "beside")}),
+    ("net.json", '{"nodes": NODES, "adjacency": [["b", "c"], ["a", "c"], ["a", "b"]]«beside»}',
+     {it: OF_LINKS[it] for it in ("node", "beside")}),
+    ("net.json", "LINKS", {"link": OF_LINKS["link"], "end": ('{"id": "c", "z": 7}', "target.z is missing (2) or 7")}),
+    ("net.json", '{HOSTS}', {
+        "host": (', "z": 7', "z (missing: 2, 7: 1)"),
+        "peer": ('{"id": "b", "z": 7}', "z is missing (5) or 7 (1)"),
+    }),
+    ("net.json", '{"hosts": {HOSTS}«beside»}', {"beside": (', "z": 7', "z (7)")}),
+    ("net.json", '{"x": [["a", "b"], ["b", "c"], ["a", "c"]], "y": 7«beside»}', {
+        "": ("", "y (7)"),
+        "beside": (', "z": [[7]]', "z ([7])"),
+    }, {"links": "x"}),
+    ("net.yaml", "«line»a: [b, c]«behind»\nb: [a, c]\nc: [a, «anchor» b]\n", {
+        "line": ("# odd\n", "comments (# odd)"),
+        "behind": (" # odd", "comments (# odd)"),
+        "anchor": ("&odd", "anchors (odd)"),
+    }),
+    ("net.graphml", f'<graphml><!--«comment»--><graph«graph» edgedefault="undirected">«in-graph»{XML_NODES}{XML_EDGES}'
+                    "</graph>«behind»</graphml>", {
+        "comment": ("odd", "comments (odd)"),
+        "graph": (' id="odd"', "graph.id (odd)"),
+        "in-graph": ("<desc>odd</desc>", "desc (odd)"),
+        "behind": ('<x y="odd"/>', "x.y (odd)"),
+        "node": (' z="7"', "z (missing: 2, 7: 1)"),
+        "in-node": ('<data key="z">7</data>', "z (missing: 2, 7: 1)"),
+        "edge": (' id="odd"', "id (missing: 2, odd: 1)"),
+        "in-edge": ('<data key="z"><w color="7"/></data>', "w.color is missing (2) or 7 (1)"),
+    }),
+    ("net.gexf", f'<gexf version="1.3"><meta>«meta»</meta><graph><nodes«count»>{XML_NODES}</nodes><edges>{XML_EDGES}'
+                 "</edges></graph></gexf>", {
+        "meta": ("<creator>odd</creator>", "creator (odd)"),
+        "count": (' count="7"', "nodes.count (7)"),
+        "in-edge": ('<attvalues><attvalue for="z" value="7"/></attvalues>', "z is missing (2) or 7 (1)"),
+        "in-node": ('<viz:color r="7"/>', "color.r is missing (2) or 7 (1)"),
+    }),
+    ("net.gml", '«line»graph [ «graph» node [ id 1 label "a" «node» ] node [ id 2 label "b" ] node [ id 3 label "c" ] edge'
+                " [ source 1 target 2 «edge» ] edge [ source 2 target 3 ] edge [ source 1 target 3 ] ]«behind»\n", {
+        "line": ("# odd\n", "comments (# odd)"),
+        "graph": ('name "odd"', "name (odd)"),
+        "node": ("z 7", "z (missing: 2, 7: 1)"),
+        "edge": ("z 7", "z is missing (2) or 7 (1)"),
+        "behind": (" z [ y 7 ]", "z.y (7)"),
+    }),
+    ("net.net", '«line»*Vertices 3\n1 "a"«node»\n2 "b"\n3 "c"\n*Edges«edges»\n1 2«edge»\n2 3\n1 3\n', {
+        "line": ("% odd\n", "comments (% odd)"),
+        "node": (" 7", "column 3 (missing: 2, 7: 1)"),
+        "edges": (' :1 "odd"', "section (:1 odd)"),
+        "edge": (" 7", "column 3 is missing (2) or 7 (1)"),
+    }),
+    ("net.lgf", "«line»@nodes\nlabel«column»\na«cell»\nb«cell»\nc«cell»\n@edges\n label\na b 0\nb c 1\na c 2\n«attributes»", {
+        "line": ("# odd\n", "comments (# odd)"),
+        "column cell": (" 7", "column 7 (7)"),
+        "attributes": ("@attributes\nodd 7\n", "@attributes (odd 7)"),
+    }),
+    ("net.lgr", "«line»LEDA.GRAPH\nstring\nint\n-2\n3\n|{a}|\n|{b}|\n|{c}|\n3\n1 2 0 |{«edge»}|\n2 3 0 |{}|\n1 3 0 |{}|\n", {
+        "line": ("# odd\n", "comments (# odd)"),
+        "edge": ("z", "label is missing (2) or z (1)"),
+    }),
+    ("net.gdf", "nodedef>name VARCHAR«column»\na«cell»\nb«cell»\nc«cell»\n«line»edgedef>node1,node2\na,b«edge»\nb,c\na,c\n", {
+        "line": ("# odd\n", "comments (# odd)"),
+        "column cell": (",z", "z (z)"),
+        "edge": (",7", "column 3 is missing (2) or 7 (1)"),
+    }),
+    ("net.tgf", "1 a\n2 b\n3 c\n#\n1 2«edge»\n2 3\n1 3\n", {"edge": (" odd", "label is missing (2) or odd (1)")}),
+    ("net.plain", "graph 1 2 2\nnode a 1 1 1 1 a solid box black white\nnode b 1 1 1 1 b solid box black white\n"
+                  "node c 1 1 1 1 c solid box black white\nedge a b 1 0 0«edge» solid black\nedge b c 1 0 0 solid black\n"
+                  "edge a c 1 0 0 solid black\nstop\n", {
+        "": ("", "style (solid)"),
+        "edge": (" odd 1 1", "label is missing (2) or odd (1)"),
+    }),
+    ("net.col", "«line»p edge 3 3\ne 1 2«edge»\ne 2 3\ne 1 3\n«n»", {
+        "line": ("c odd\n", "comments (odd)"),
+        "n": ("n 1 7\n", "lines n (1 7)"),
+        "edge": (" 7", "column 3 is missing (2) or 7 (1)"),
+    }),
+    ("net.mtx", "%%MatrixMarket matrix coordinate pattern symmetric\n«line»3 3 3\n2 1«edge»\n3 2\n3 1\n", {
+        "line": ("% odd\n", "comments (% odd)"),
+        "edge": (" 7", "column 3 is missing (2) or 7 (1)"),
+    }),
+    ("net.metis", "«line»3 3«kind»\n«size»2 3\n«size»1 3\n«size»1 2\n", {
+        "line": ("% odd\n", "comments (% odd)"),
+        "kind size": ((" 100", "7 "), "weight 1 (7)"),
+    }, {"form": "metis"}),
+    ("net.lgl", "# a\nb\nc«edge»\n# b\nc\n", {"edge": (" 7", "column 2 is missing (2) or 7 (1)")}, {"form": "lgl"}),
+    ("net.adj", "«line»a 2\nb«edge»\nc\nb 1\nc\nc 0\n", {
+        "line": ("#odd\n", "comments (#odd)"),
+        "edge": (" # odd", "comment (missing: 2, odd: 1)"),
+    }, {"form": "multiline"}),
+    ("net.matrix", "«line»«diagonal» 1 0 1\n1 0 1 0\n0 «across» 0 1\n1 0 1 0\n", {
+        "line": ("# odd\n", "comments (# odd)"),
+        "diagonal": ("7", "diagonal is 0 (3) or 7 (1)"),
+        "across": ("7", "across is missing (3) or 7 (1)"),
+    }, {"form": "matrix"}),
+    ("net.dot", "«line»graph«name» { «statement» a«node» -- b«edge»; b«port» -- c; a -- c «behind» }", {
+        "line": ("// odd\n", "comments (// odd)"),
+        "name": (" odd", "name of the graph (odd)"),
+        "statement": ("label=odd;", "graph.label (odd)"),
+        "behind": ("/* odd */", "comments (/* odd */)"),
+        "edge": (" [z=7]", "z is missing (2) or 7 (1)"),
+        "port": (":odd", "ports (odd)"),
+    }),
+    ("net.dot", "graph { a -- b; b -- c; a -- c; «statement» }", {
+        "statement": ("subgraph odd { c }", "subgraph (missing: 2, odd: 1)"),
+    }),
+    ("net.dot", "graph { «statement» a -- b; b -- c; a -- c }", {
+        "statement": ("node [z=7];", "z (7)"),
+    }),
+    ("net.mmd", "graph TD\n«line» a«node» --- b\n b «arrow» c\n a --- c\n«style»", {
+        "line": ("%% odd\n", "comments (%% odd)"),
+        "node": ("[odd]", "label (missing: 2, odd: 1)"),
+        "arrow": ("---|odd|", "label is missing (2) or odd (1)"),
+        "style": ("class a odd\n", "class (a odd)"),
+    }),
+    ("folder", {"a.json": '{"peers": ["b", "c"]«host»}', "b.json": '["a", "c"]', "c.json": '["a", "b"]'}, {
+        "host": (', "z": 7', "z (missing: 2, 7: 1)"),
+    }),
+    ("folder", {"a.txt": "«line»b«behind»\nc\n", "b.txt": "a\nc\n", "c.txt": "a\nb\n"}, {
+        "line": ("# odd\n", "comments (# odd)"),
+        "behind": (" # odd", "comment (missing: 5, odd: 1)"),
+    }),
+    ("net.graph", "«line»# 1 a\nnode 1\n# 2 b\nnode 2\nlink 1 2\n", {"line": ("# odd\n", "comments (# odd)")}),
+]
+# What stands at a mark if nothing else does.
+PLAIN = {"end": '"c"', "peer": '"b"', "arrow": "---", "diagonal": "0", "across": "1"}
+MARK = re.compile("«([^»]*)»")
+
+
+def filled(template, texts):
+    """A template, or a folder of such, with texts at its marks."""
+    if isinstance(template, dict):
+        return {name: filled(it, texts) for name, it in template.items()}
+    bare = template.replace("NODES", NODES).replace("LINKS", LINKS).replace("HOSTS", HOSTS)
+    return MARK.sub(lambda found: texts.get(found[1], PLAIN.get(found[1], "")), bare)
+
+
+class Accounts(Dumps):
+    def told(self, name, text, words):
+        """What is told of a dump: its doubts, or why it is refused."""
+        with tempfile.TemporaryDirectory() as room:
+            self.room = pathlib.Path(room)
+            try:
+                return " ".join(doubts_in(self.read(self.put(name, text), Asked(**words)).notes))
+            except TagzirkError as why:
+                return str(why)
+
+    def test_what_stands_in_a_dump_is_told(self):
+        for number, (name, template, marks, *words) in enumerate(CASES):
+            for names, (text, told) in {"": ("", ""), **marks}.items():
+                texts = dict(zip(names.split(), text)) if isinstance(text, tuple) else dict.fromkeys(names.split(), text)
+                with self.subTest(number=number, name=name, mark=names):
+                    found = self.told(name, filled(template, texts), *(words or [{}]))
+                    self.assertIn(told, found)
+                    self.assertEqual(bool(told), bool(found), found)
+
+    def test_each_form_is_there(self):
+        there = {"csv", "weighted", "adjacency", "gexf"}  # these are in it as lines, and as XML
+        for name, template, _, *words in CASES:
+            there |= {words[0].get("form")} if words else set()
+            there |= {form_of(filled(template, {}), name)} if isinstance(template, str) else set()
+        # views of names, and graph6, have no room for more
+        self.assertEqual({*FORMS} - there, {"views", "graph6"})
