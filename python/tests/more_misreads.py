@@ -74,7 +74,8 @@ TOLD = [
     ("by-link.json", graph({}, {}, z={f"{a}-{b}": 7 for a, b in DOWN}), "z (8, as n1-n3: 7)"),
     ("codes-beside.json", graph({}, {}, z=[4 if it in UP else 9 for it in ALL]), "z (9: 8, 4: 7)"),
     ("places.json", dead_graph(z=[0]), "z (0)"),
-    ("jgf-metadata.json", json.dumps({"graph": {"nodes": {it: {} for it in NODES}, "edges": EDGES, "metadata": {"out": ["n0"]}}}),
+    ("jgf-metadata.json", json.dumps({"graph": {"nodes": {it: {} for it in NODES}, "edges": EDGES,
+     "metadata": {"out": ["n0"]}}}),
      "graph.metadata.out (missing: 6, listed: 1)"),
     ("collection.json", json.dumps({"type": "NetworkCollection", "collection": [
         {"type": "NetworkGraph", "nodes": [{"id": it} for it in NODES], "links": EDGES}, {"lost": ["n0"]}]}),
@@ -119,11 +120,14 @@ TOLD = [
     ("begun.json", seen("created", [1764493200, 1764493211], [0]), "created is 0 (16)"),
     ("named-twice.json", json.dumps([{"name": it, "peers": [{"id": {"name": x, "z": is_up(it, x)}} for x in others(it)]}
                                      for it in HOSTS]), "id.z is false (16) or true (14)"),
-    ("few.json", json.dumps([{"source": "n1", "target": "n2", "z": "ja"}, {"source": "n1", "target": "n3", "z": "nein"}]),
+    ("few.json", json.dumps([{"source": "n1", "target": "n2", "z": "ja"},
+     {"source": "n1", "target": "n3", "z": "nein"}]),
      "z (ja: 1, nein: 1)"),
     # fields of hosts
-    ("zustand.json", json.dumps(dead_hosts(lambda it: {"zustand": "da"}, {"zustand": "weg"})), "zustand (da: 6, weg: 1)"),
-    ("sessions.json", json.dumps(dead_hosts(lambda it: {"sessions": 3}, {"sessions": 0})), "sessions is 3 (6) or 0 (1)"),
+    ("zustand.json", json.dumps(dead_hosts(lambda it: {"zustand": "da"}, {"zustand": "weg"})),
+     "zustand (da: 6, weg: 1)"),
+    ("sessions.json", json.dumps(dead_hosts(lambda it: {"sessions": 3}, {"sessions": 0})),
+     "sessions is 3 (6) or 0 (1)"),
     ("stopped", TREES, "shutdown is missing (5) or clean (1)"),
     ("hosts-lists.json", each(lambda it: {"peers": others(it), "z": [*up_of(it), "n9"]}), "--peers KEY"),
     # comments, texts and names
@@ -152,21 +156,27 @@ TOLD = [
      "comment (missing: 5, away: 1)"),
     ("arrows.edges", "".join(f"{a} <-> {b}{'' if is_up(a, b) else ' # away'}\n" for a, b in ALL), "comment (away: 8"),
     ("cluster.dot", "graph {\n" + dead_lines("", "{a} -- {b};\n") + "subgraph cluster_old { n0 } }", "subgraph ("),
-    ("defaults.dot", "graph { node [z=1]; n0;\n node [z=2];\n" + dead_lines("", "{a} -- {b};\n") + "}", "z (2: 6, 1: 1)"),
-    ("comment.dot", "graph {\n" + dead_lines("", "{a} -- {b};\n") + "/* n0 is away */ }", "comments (/* n0 is away */)"),
-    ("attribute.dot", 'graph { label="without n0";\n' + dead_lines("", "{a} -- {b};\n") + "}", "graph.label (without n0)"),
+    ("defaults.dot", "graph { node [z=1]; n0;\n node [z=2];\n" + dead_lines("", "{a} -- {b};\n") + "}",
+     "z (2: 6, 1: 1)"),
+    ("comment.dot", "graph {\n" + dead_lines("", "{a} -- {b};\n") + "/* n0 is away */ }",
+     "comments (/* n0 is away */)"),
+    ("attribute.dot", 'graph { label="without n0";\n' + dead_lines("", "{a} -- {b};\n") + "}",
+     "graph.label (without n0)"),
     ("ports.dot", "graph {\n" + lines("", '"{a}" -- "{b}"{it};', "", ":z") + "}", "ports (z)"),
     ("class.mmd", "graph TD\n" + dead_lines("", "{a} --- {b}\n") + "class n0 away\n", "class (n0 away)"),
     ("dashes.mmd", "graph TD\n" + lines("", "{a} {it} {b}", "---", "-.-"), "arrow is"),
-    ("label.plain", "graph 1 2 2\n" + "".join(f"node {it} 1 1 1 1 {it} solid box black white\n" for it in HOSTS) + lines(
+    ("label.plain", "graph 1 2 2\n" + "".join(f"node {it} 1 1 1 1 {it} solid box black white\n" for it in HOSTS)
+     + lines(
         "", "edge {a} {b} 1 0 0{it} solid black", "", " away 1 1") + "stop\n", "label is away (8) or missing (7)"),
     ("reversal.lgr", "LEDA.GRAPH\nstring\nint\n-2\n6\n" + "".join(f"|{{{it}}}|\n" for it in HOSTS) + "15\n" + "".join(
-        f"{a[1:]} {b[1:]} 0 |{{{'' if is_up(a, b) else 'away'}}}|\n" for a, b in ALL), "label is away (8) or missing (7)"),
+        f"{a[1:]} {b[1:]} 0 |{{{'' if is_up(a, b) else 'away'}}}|\n" for a, b in ALL),
+     "label is away (8) or missing (7)"),
     ("diagonal.matrix", "\n".join(" ".join("7" if a == b == 2 else it for b, it in enumerate(row))
                                   for a, row in enumerate(MATRIX)), "diagonal is 0 (5) or 7 (1)"),
     ("nameless.csv", lines("source,target,\n", "{a},{b},{it}", "x", "y"), "column 3 is y (8) or x (7)"),
     ("twice.csv", lines("source,target,z,z\n", "{a},{b},{it},1", "x", "y"), "column 3 is y (8) or x (7)"),
-    ("title.txt", "all but n3 answer\n a | b \n---+---\n" + lines("", " {a} | {b} ", "", ""), "title (all but n3 answer)"),
+    ("title.txt", "all but n3 answer\n a | b \n---+---\n" + lines("", " {a} | {b} ", "", ""),
+     "title (all but n3 answer)"),
     ("footer.txt", " source | target \n---+---\n" + lines("", " {a} | {b} ", "", "") + "(15 rows, 8 old)\n",
      "footer ((15 rows, 8 old))"),
     ("files", {**{f"{it}.json": json.dumps(peers({}, {})[it]) for it in HOSTS}, ".n3.away": ""},
