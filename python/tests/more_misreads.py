@@ -75,7 +75,7 @@ TOLD = [
     ("codes-beside.json", graph({}, {}, z=[4 if it in UP else 9 for it in ALL]), "z (9: 8, 4: 7)"),
     ("places.json", dead_graph(z=[0]), "z (0)"),
     ("jgf-metadata.json", json.dumps({"graph": {"nodes": {it: {} for it in NODES}, "edges": EDGES,
-                                                "metadata": {"out": ["n0"]}}}),
+     "metadata": {"out": ["n0"]}}}),
      "graph.metadata.out (missing: 6, listed: 1)"),
     ("collection.json", json.dumps({"type": "NetworkCollection", "collection": [
         {"type": "NetworkGraph", "nodes": [{"id": it} for it in NODES], "links": EDGES}, {"lost": ["n0"]}]}),
@@ -121,7 +121,7 @@ TOLD = [
     ("named-twice.json", json.dumps([{"name": it, "peers": [{"id": {"name": x, "z": is_up(it, x)}} for x in others(it)]}
                                      for it in HOSTS]), "id.z is false (16) or true (14)"),
     ("few.json", json.dumps([{"source": "n1", "target": "n2", "z": "ja"},
-                              {"source": "n1", "target": "n3", "z": "nein"}]),
+     {"source": "n1", "target": "n3", "z": "nein"}]),
      "z (ja: 1, nein: 1)"),
     # fields of hosts
     ("zustand.json", json.dumps(dead_hosts(lambda it: {"zustand": "da"}, {"zustand": "weg"})),
@@ -165,8 +165,8 @@ TOLD = [
     ("ports.dot", "graph {\n" + lines("", '"{a}" -- "{b}"{it};', "", ":z") + "}", "ports (z)"),
     ("class.mmd", "graph TD\n" + dead_lines("", "{a} --- {b}\n") + "class n0 away\n", "class (n0 away)"),
     ("dashes.mmd", "graph TD\n" + lines("", "{a} {it} {b}", "---", "-.-"), "arrow is"),
-    ("label.plain", "graph 1 2 2\n"
-     + "".join(f"node {it} 1 1 1 1 {it} solid box black white\n" for it in HOSTS) + lines(
+    ("label.plain", "graph 1 2 2\n" + "".join(f"node {it} 1 1 1 1 {it} solid box black white\n" for it in HOSTS)
+     + lines(
         "", "edge {a} {b} 1 0 0{it} solid black", "", " away 1 1") + "stop\n", "label is away (8) or missing (7)"),
     ("reversal.lgr", "LEDA.GRAPH\nstring\nint\n-2\n6\n" + "".join(f"|{{{it}}}|\n" for it in HOSTS) + "15\n" + "".join(
         f"{a[1:]} {b[1:]} 0 |{{{'' if is_up(a, b) else 'away'}}}|\n" for a, b in ALL),

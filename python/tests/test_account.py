@@ -104,7 +104,8 @@ CASES = [
         "in-edge": ('<attvalues><attvalue for="z" value="7"/></attvalues>', "z is missing (2) or 7 (1)"),
         "in-node": ('<viz:color r="7"/>', "color.r is missing (2) or 7 (1)"),
     }),
-    ("net.gml", '«line»graph [ «graph» node [ id 1 label "a" «node» ] node [ id 2 label "b" ] node [ id 3 label "c" ] edge'
+    ("net.gml",
+     '«line»graph [ «graph» node [ id 1 label "a" «node» ] node [ id 2 label "b" ] node [ id 3 label "c" ] edge'
                 " [ source 1 target 2 «edge» ] edge [ source 2 target 3 ] edge [ source 1 target 3 ] ]«behind»\n", {
         "line": ("# odd\n", "comments (# odd)"),
         "graph": ('name "odd"', "name (odd)"),
@@ -118,23 +119,27 @@ CASES = [
         "edges": (' :1 "odd"', "section (:1 odd)"),
         "edge": (" 7", "column 3 is missing (2) or 7 (1)"),
     }),
-    ("net.lgf", "«line»@nodes\nlabel«column»\na«cell»\nb«cell»\nc«cell»\n@edges\n label\na b 0\nb c 1\na c 2\n«attributes»", {
+    ("net.lgf",
+     "«line»@nodes\nlabel«column»\na«cell»\nb«cell»\nc«cell»\n@edges\n label\na b 0\nb c 1\na c 2\n«attributes»", {
         "line": ("# odd\n", "comments (# odd)"),
         "column cell": (" 7", "column 7 (7)"),
         "attributes": ("@attributes\nodd 7\n", "@attributes (odd 7)"),
     }),
-    ("net.lgr", "«line»LEDA.GRAPH\nstring\nint\n-2\n3\n|{a}|\n|{b}|\n|{c}|\n3\n1 2 0 |{«edge»}|\n2 3 0 |{}|\n1 3 0 |{}|\n", {
+    ("net.lgr",
+     "«line»LEDA.GRAPH\nstring\nint\n-2\n3\n|{a}|\n|{b}|\n|{c}|\n3\n1 2 0 |{«edge»}|\n2 3 0 |{}|\n1 3 0 |{}|\n", {
         "line": ("# odd\n", "comments (# odd)"),
         "edge": ("z", "label is missing (2) or z (1)"),
     }),
-    ("net.gdf", "nodedef>name VARCHAR«column»\na«cell»\nb«cell»\nc«cell»\n«line»edgedef>node1,node2\na,b«edge»\nb,c\na,c\n", {
+    ("net.gdf",
+     "nodedef>name VARCHAR«column»\na«cell»\nb«cell»\nc«cell»\n«line»edgedef>node1,node2\na,b«edge»\nb,c\na,c\n", {
         "line": ("# odd\n", "comments (# odd)"),
         "column cell": (",z", "z (z)"),
         "edge": (",7", "column 3 is missing (2) or 7 (1)"),
     }),
     ("net.tgf", "1 a\n2 b\n3 c\n#\n1 2«edge»\n2 3\n1 3\n", {"edge": (" odd", "label is missing (2) or odd (1)")}),
     ("net.plain", "graph 1 2 2\nnode a 1 1 1 1 a solid box black white\nnode b 1 1 1 1 b solid box black white\n"
-                  "node c 1 1 1 1 c solid box black white\nedge a b 1 0 0«edge» solid black\nedge b c 1 0 0 solid black\n"
+                  "node c 1 1 1 1 c solid box black white\nedge a b 1 0 0«edge» solid black\n"
+                  "edge b c 1 0 0 solid black\n"
                   "edge a c 1 0 0 solid black\nstop\n", {
         "": ("", "style (solid)"),
         "edge": (" odd 1 1", "label is missing (2) or odd (1)"),
@@ -217,7 +222,8 @@ class Accounts(Dumps):
     def test_what_stands_in_a_dump_is_told(self):
         for number, (name, template, marks, *words) in enumerate(CASES):
             for names, (text, told) in {"": ("", ""), **marks}.items():
-                texts = dict(zip(names.split(), text)) if isinstance(text, tuple) else dict.fromkeys(names.split(), text)
+                marked = text if isinstance(text, tuple) else [text] * len(names.split())
+                texts = dict(zip(names.split(), marked))
                 with self.subTest(number=number, name=name, mark=names):
                     found = self.told(name, filled(template, texts), *(words or [{}]))
                     self.assertIn(told, found)
