@@ -180,7 +180,7 @@ fn shape_of_phase(form: RowForm, cells: &[Cell], phase: usize) -> Option<PhaseSh
 }
 
 /// The cell at a place; nothing behind the last.
-pub(crate) fn cell_at(cells: &[Cell], place: usize) -> Cell
+pub fn cell_at(cells: &[Cell], place: usize) -> Cell
     ensures { result ≡ cell_at cells.now place }
 {
     match cells.get(place) {

@@ -53,19 +53,19 @@ impl Row {
     }
 
     /// Whether a phase has a delivered share.
-    pub(crate) fn has_delivered(&self) -> bool {
+    pub fn has_delivered(&self) -> bool {
         self.phases.iter().any(|phase| phase.delivered.is_some())
     }
 
     /// Whether it is known of each phase what its broadcasts cost.
-    pub(crate) fn has_costs(&self) -> bool
+    pub fn has_costs(&self) -> bool
         ensures { result ≡ has_costs self.now }
     {
         self.phases.iter().all(|phase| phase.costs.is_some())
     }
 
     /// Whether the shape after each phase is known.
-    pub(crate) fn has_shape(&self) -> bool
+    pub fn has_shape(&self) -> bool
         ensures { result ≡ has_shape self.now }
     {
         self.phases.iter().all(|phase| phase.shape.is_some())

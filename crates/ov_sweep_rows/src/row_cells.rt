@@ -15,7 +15,7 @@ use ov_grow_options::{Crash, GrowOptions, Pace};
 use ov_ids::NodeId;
 
 /// The cells of the setting that these options are of, in the order of their columns.
-pub(crate) fn setting_cells(options: &GrowOptions) -> [Cell; 18]
+pub fn setting_cells(options: &GrowOptions) -> [Cell; 18]
     ensures cells { result ≡ cells_of.setting_cells options.now }
     ensures back { AreReadBack setting_forms result }
     ensures within { AreWithinLimits options.now.params }
@@ -44,7 +44,7 @@ pub(crate) fn setting_cells(options: &GrowOptions) -> [Cell; 18]
 }
 
 /// The cells of the further options, in the order of their columns.
-pub(crate) fn further_cells(options: &GrowOptions) -> [Cell; 3]
+pub fn further_cells(options: &GrowOptions) -> [Cell; 3]
     ensures cells { result ≡ cells_of.further_cells options.now }
     ensures back { IfSome options.now.sender MayBeGrown → AreReadBack further_forms result }
 {

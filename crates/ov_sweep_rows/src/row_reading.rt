@@ -16,7 +16,7 @@ use crate::cells_to_row::row_with;
 use crate::columns::{Column, columns_of};
 use crate::{FieldFault, FieldForm, Row, RowFault, RowForm};
 use csv::{ByteRecord, ReaderBuilder};
-use std::alloc::{AllocError, Global};
+use std::alloc::Global;
 
 /// Reads the rows of a text: a header, and one row of its form a line, as `header_text` and `row_text` write them. The
 /// same header between rows is skipped, so that files of rows may be put together. A row that is not of this form is

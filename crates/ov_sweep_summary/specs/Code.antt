@@ -1,0 +1,2 @@
+-- What only the contracts of private functions use. A reader of the public contracts need not rely on it.
+pub mod Means

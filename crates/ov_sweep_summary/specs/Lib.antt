@@ -1,0 +1,2 @@
+pub mod SplitBounds
+pub mod Code
