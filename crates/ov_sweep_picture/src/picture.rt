@@ -4,7 +4,7 @@ use crate::plot_panel::{Panel, push_panel};
 use ov_ids::OutOfMemory;
 use ov_sweep_rows::Phase;
 use ov_sweep_summary::{
-    SETTING_NAMES, SettingName, SettingRuns, differing, phase_name, run_counts, swept_command,
+    SETTING_NAMES, SettingRuns, differing, phase_name, run_counts, swept_command,
 };
 use std::alloc::{AllocError, Global};
 use std::fmt::Write;
@@ -111,19 +111,13 @@ fn push_columns_name(
     }
     for (place, option) in differing.iter().enumerate() {
         text.push_str(if place == 0 { "" } else { ", " })?;
-        if let Some(name) = SETTING_NAMES.get(*option) {
-            push_unit(text, name)?;
+        if let Some(option) = SETTING_NAMES.get(*option) {
+            let (name, unit) = (option.name, option.unit);
+            text.push_str(name)?;
+            if !unit.is_empty() {
+                write!(text, " ({unit})")?;
+            }
         }
     }
     text.push_str("</text>\n")
-}
-
-/// Appends the name of an option, with its unit if it has one.
-fn push_unit(text: &mut String, option: &SettingName) -> Result<(), AllocError> {
-    let SettingName { name, unit, .. } = *option;
-    if unit.is_empty() {
-        write!(text, "{name}")
-    } else {
-        write!(text, "{name} ({unit})")
-    }
 }

@@ -1,6 +1,6 @@
-use crate::plot_means::{MEASURES, axis_ends};
+use crate::plot_means::{STRIPS, axis_ends};
 use ov_sweep_rows::Phase;
-use ov_sweep_summary::{SettingRuns, ascending_ks, runs_of};
+use ov_sweep_summary::{SettingRuns, ascending_ks, split_runs};
 use std::alloc::{AllocError, Global};
 
 /// How wide the picture is. This and all lengths below are in units of the picture, which are pixels at its own size.
@@ -75,7 +75,7 @@ pub(crate) struct Layout {
     /// How many lines of labels there are.
     pub(crate) labels: usize,
     /// Where the axes of the strips of broadcasts end, if they are drawn.
-    pub(crate) ends: Option<[f64; MEASURES]>,
+    pub(crate) ends: Option<[f64; STRIPS]>,
 }
 
 impl Layout {
@@ -87,7 +87,7 @@ impl Layout {
     /// How high all strips of broadcasts are.
     pub(crate) fn strips(&self) -> f64 {
         match self.ends {
-            Some(_) => CAPTION + number(MEASURES) * STRIP,
+            Some(_) => CAPTION + number(STRIPS) * STRIP,
             None => 0.0,
         }
     }
@@ -130,7 +130,10 @@ fn most_share(settings: &[SettingRuns<'_>]) -> f64 {
     let mut highest = 0.0;
     for setting in settings {
         for phase in Phase::ALL {
-            highest = runs_of(setting, phase).interval().high.max(highest);
+            highest = split_runs(&setting.runs, phase)
+                .interval()
+                .high
+                .max(highest);
         }
     }
     for share in ROUND_SHARES {

@@ -1,23 +1,23 @@
 use crate::picture_layout::LEFT;
 use crate::plot_panel::Panel;
 use crate::strip_axis_and_mark::{Strip, StripMark, push_mark, push_strip_axis};
-use ov_sweep_rows::{FourDecimals, Phase, Row};
-use ov_sweep_summary::{CostMeasure, Known, Measure, SettingRuns, ends_after, mean_after};
+use ov_sweep_rows::{FourDecimals, Measured, Phase, Row};
+use ov_sweep_summary::{Measure, SettingRuns, ends_after, is_known, mean_after};
 use std::alloc::AllocError;
 use std::fmt::Write;
 
 /// How many measures of broadcasts are drawn.
-pub(crate) const MEASURES: usize = 7;
+pub(crate) const STRIPS: usize = 7;
 
 /// The measures of broadcasts, in the order of their strips.
-const DRAWN: [Measure; MEASURES] = [
-    Measure::Delivered,
-    Measure::Cost(CostMeasure::Hops),
-    Measure::Cost(CostMeasure::Redundancy),
-    Measure::Cost(CostMeasure::Gossip),
-    Measure::Cost(CostMeasure::Ihave),
-    Measure::Cost(CostMeasure::Graft),
-    Measure::Cost(CostMeasure::Prune),
+const DRAWN: [Measure; STRIPS] = [
+    (Measured::Delivered, 0, "delivered"),
+    (Measured::Costs, 4, "hops"),
+    (Measured::Costs, 5, "redundancy"),
+    (Measured::Costs, 0, "gossip"),
+    (Measured::Costs, 1, "ihave"),
+    (Measured::Costs, 2, "graft"),
+    (Measured::Costs, 3, "prune"),
 ];
 
 /// What stands above the strips.
@@ -52,11 +52,11 @@ const ENDS: [f64; 23] = [
 ];
 
 /// Where the axis of each strip ends, if a run has costs; else no strips are drawn.
-pub(crate) fn axis_ends(settings: &[SettingRuns<'_>]) -> Option<[f64; MEASURES]> {
-    if !Known::of(settings).costs {
+pub(crate) fn axis_ends(settings: &[SettingRuns<'_>]) -> Option<[f64; STRIPS]> {
+    if !is_known(settings, Measured::Costs) {
         return None;
     }
-    let mut ends = [1.0; MEASURES];
+    let mut ends = [1.0; STRIPS];
     for (place, measure) in DRAWN.iter().enumerate() {
         if let Some(free) = ends.get_mut(place) {
             *free = axis_end(settings, *measure);
@@ -78,19 +78,13 @@ fn axis_end(settings: &[SettingRuns<'_>], measure: Measure) -> f64 {
 
 /// The most that a run of these settings has of a measure after a phase, in parts of 10,000.
 fn most_of(settings: &[SettingRuns<'_>], measure: Measure) -> u64 {
+    let (measured, place, _) = measure;
     let mut most = 0;
     for setting in settings {
-        most = most_of_runs(&setting.runs, measure).max(most);
-    }
-    most
-}
-
-/// The most that one of these runs has of it.
-fn most_of_runs(runs: &[&Row], measure: Measure) -> u64 {
-    let mut most = 0;
-    for phase in Phase::ALL {
-        if let Some((_, high)) = ends_after(runs, phase, measure) {
-            most = high.max(most);
+        for phase in Phase::ALL {
+            if let Some((_, high)) = ends_after(&setting.runs, phase, measured, place) {
+                most = high.max(most);
+            }
         }
     }
     most
@@ -132,7 +126,7 @@ fn push_strip(
     measure: Measure,
     settings: &[SettingRuns<'_>],
 ) -> Result<(), AllocError> {
-    push_strip_axis(text, strip, panel.right(settings.len()), measure.head())?;
+    push_strip_axis(text, strip, panel.right(settings.len()), measure.2)?;
     for (place, setting) in settings.iter().enumerate() {
         push_means(
             text,
@@ -153,10 +147,11 @@ fn push_means(
     runs: &[&Row],
     rooms: [(Phase, f64); 3],
 ) -> Result<(), AllocError> {
+    let (measured, place, _) = measure;
     for (phase, x) in rooms {
         if let (Some(mean), Some((low, high))) = (
-            mean_after(runs, phase, measure),
-            ends_after(runs, phase, measure),
+            mean_after(runs, phase, measured, place),
+            ends_after(runs, phase, measured, place),
         ) {
             let mark = StripMark {
                 low: plotted(low),

@@ -2,9 +2,9 @@ use crate::picture_layout::{CAPTION, LABEL, LEFT, Layout, PHASE, PLOT, STRIP, nu
 use crate::plot_dots::push_dots;
 use crate::plot_means::push_strips;
 use crate::plot_shares::push_share;
-use crate::strip_axis_and_mark::{Strip, push_strip_axis};
+use crate::strip_axis_and_mark::{Strip, push_strip_axis, push_tick};
 use ov_sweep_rows::{Phase, cell_at};
-use ov_sweep_summary::{SETTING_NAMES, SettingRuns, ascending_ks, runs_of, shown_cell};
+use ov_sweep_summary::{SETTING_NAMES, SettingRuns, ascending_ks, shown_cell, split_runs};
 use std::alloc::{AllocError, Global};
 use std::fmt::Write;
 
@@ -79,9 +79,10 @@ pub(crate) fn push_panel(
     settings: &[SettingRuns<'_>],
     differing: &[usize],
 ) -> Result<(), AllocError> {
-    push_axes(text, panel, panel.right(settings.len()))?;
+    let right = panel.right(settings.len());
+    push_axes(text, panel, right)?;
+    push_strip_axis(text, panel.shares(), right, "runs split, %")?;
     for (place, setting) in settings.iter().enumerate() {
-        push_edge(text, panel, panel.middle(place) + panel.layout.column / 2.0)?;
         push_column(alloc, text, panel, panel.middle(place), setting)?;
     }
     push_strips(text, panel, settings)?;
@@ -91,7 +92,7 @@ pub(crate) fn push_panel(
     Ok(())
 }
 
-/// Appends the axes of a panel that ends at `right`, and a line for each k that is written.
+/// Appends the axes of a panel that ends at `right`, with a line for each k that is written.
 fn push_axes(text: &mut String, panel: Panel<'_>, right: f64) -> Result<(), AllocError> {
     let width = right - LEFT;
     let height = panel.layout.k_height();
@@ -101,32 +102,13 @@ fn push_axes(text: &mut String, panel: Panel<'_>, right: f64) -> Result<(), Allo
         "<rect class=\"zero\" x=\"{LEFT}\" y=\"{band:.1}\" width=\"{width:.1}\" height=\"{height:.1}\"/>\n"
     )?;
     push_ticks(text, panel, right)?;
-    push_axis_lines(text, panel, right)?;
-    let middle = panel.bottom() - PLOT / 2.0;
-    write!(
-        text,
-        "<text class=\"middle\" transform=\"translate(20 {middle:.1}) rotate(-90)\">{AXIS}</text>\n"
-    )?;
-    push_strip_axis(text, panel.shares(), right, "runs split, %")
-}
-
-/// Appends the two axes.
-fn push_axis_lines(text: &mut String, panel: Panel<'_>, right: f64) -> Result<(), AllocError> {
     let bottom = panel.bottom();
     let top = bottom - PLOT;
+    let middle = bottom - PLOT / 2.0;
     write!(
         text,
-        "<path class=\"axis\" fill=\"none\" d=\"M{LEFT} {top:.1}V{bottom:.1}H{right:.1}\"/>\n"
-    )
-}
-
-/// Appends the line where a column ends.
-fn push_edge(text: &mut String, panel: Panel<'_>, x: f64) -> Result<(), AllocError> {
-    let top = panel.top;
-    let foot = panel.foot();
-    write!(
-        text,
-        "<path class=\"line\" d=\"M{x:.1} {top:.1}V{foot:.1}\"/>\n"
+        "<path class=\"axis\" fill=\"none\" d=\"M{LEFT} {top:.1}V{bottom:.1}H{right:.1}\"/>\n\
+         <text class=\"middle\" transform=\"translate(20 {middle:.1}) rotate(-90)\">{AXIS}</text>\n"
     )
 }
 
@@ -147,28 +129,15 @@ fn push_ticks(text: &mut String, panel: Panel<'_>, right: f64) -> Result<(), All
         let k = tick.saturating_mul(apart);
         if k <= most {
             let y = panel.zero() - f64::from(k) * panel.layout.k_height();
-            write!(
-                text,
-                "<path class=\"line\" d=\"M{LEFT} {y:.1}H{right:.1}\"/>\n"
-            )?;
-            push_tick(text, y + 4.5, k)?;
+            let words = if k == 0 { "split " } else { "" };
+            push_tick(text, y, right, words, f64::from(k))?;
         }
     }
     Ok(())
 }
 
-/// Appends a number of the vertical axis.
-fn push_tick(text: &mut String, y: f64, k: u32) -> Result<(), AllocError> {
-    let x = LEFT - 10.0;
-    let meaning = if k == 0 { "split " } else { "" };
-    write!(
-        text,
-        "<text class=\"end\" x=\"{x}\" y=\"{y:.1}\">{meaning}{k}</text>\n"
-    )
-}
-
-/// Appends the column of a setting, with its middle at `middle`: the dots of its runs after each phase, and above them
-/// the share that is split.
+/// Appends the column of a setting, with its middle at `middle`: the line where it ends, the dots of its runs after each
+/// phase, and above them the share that is split.
 fn push_column(
     alloc: Global,
     text: &mut String,
@@ -176,10 +145,23 @@ fn push_column(
     middle: f64,
     setting: &SettingRuns<'_>,
 ) -> Result<(), AllocError> {
+    let end = middle + panel.layout.column / 2.0;
+    let top = panel.top;
+    let foot = panel.foot();
+    write!(
+        text,
+        "<path class=\"line\" d=\"M{end:.1} {top:.1}V{foot:.1}\"/>\n"
+    )?;
     for (phase, x) in panel.rooms(middle) {
         let ks = ascending_ks(alloc, &setting.runs, phase)?;
         push_dots(text, panel.layout, phase, &ks, x, panel.zero())?;
-        push_share(text, panel.shares(), phase, runs_of(setting, phase), x)?;
+        push_share(
+            text,
+            panel.shares(),
+            phase,
+            split_runs(&setting.runs, phase),
+            x,
+        )?;
     }
     Ok(())
 }
@@ -194,8 +176,9 @@ fn push_labels(
     settings: &[SettingRuns<'_>],
 ) -> Result<(), AllocError> {
     let y = panel.foot() + 18.0 + number(line) * LABEL;
-    let name = SETTING_NAMES.get(option).map_or("", |option| option.name);
-    push_name(text, y, name)?;
+    if let Some(option) = SETTING_NAMES.get(option) {
+        push_name(text, y, option.name)?;
+    }
     for (place, setting) in settings.iter().enumerate() {
         let x = panel.middle(place);
         let cell = shown_cell(alloc, cell_at(&setting.cells, option))?;

@@ -36,22 +36,25 @@ pub(crate) fn push_strip_axis(
 ) -> Result<(), AllocError> {
     push_name(text, strip.top + 12.0, name)?;
     for number in [0.0, strip.most] {
-        let y = strip.height_of(number);
-        write!(
-            text,
-            "<path class=\"line\" d=\"M{LEFT} {y:.1}H{right:.1}\"/>\n"
-        )?;
-        push_number(text, y + 4.5, number)?;
+        push_tick(text, strip.height_of(number), right, "", number)?;
     }
     Ok(())
 }
 
-/// Appends a number before the vertical axis.
-fn push_number(text: &mut String, y: f64, number: f64) -> Result<(), AllocError> {
+/// Appends a line at a height of a panel that ends at `right`, and before its vertical axis a number behind some words.
+pub(crate) fn push_tick(
+    text: &mut String,
+    y: f64,
+    right: f64,
+    words: &str,
+    number: f64,
+) -> Result<(), AllocError> {
     let x = LEFT - 10.0;
+    let below = y + 4.5;
     write!(
         text,
-        "<text class=\"end\" x=\"{x}\" y=\"{y:.1}\">{number}</text>\n"
+        "<path class=\"line\" d=\"M{LEFT} {y:.1}H{right:.1}\"/>\n\
+         <text class=\"end\" x=\"{x}\" y=\"{below:.1}\">{words}{number}</text>\n"
     )
 }
 

@@ -3,7 +3,7 @@ use ov_grow_options::GrowOptions;
 use ov_ids::NodeId;
 
 /// One broadcast of a run.
-#[derive(Clone, Copy, Debug, PartialEq, Eq)]
+#[derive(Clone, Copy)]
 pub struct MessageRow {
     /// The options of the run, its seed among them.
     pub options: GrowOptions,

@@ -7,7 +7,7 @@ use ov_ids::Refill;
 use std::fmt::{Display, Formatter, Result, Write};
 
 /// What stands in one column of a row.
-#[derive(Clone, Copy, Debug, PartialEq, Eq)]
+#[derive(Clone, Copy, PartialEq)]
 pub enum Cell {
     /// Nothing: an option that was not given, or a share without broadcasts.
     Empty,

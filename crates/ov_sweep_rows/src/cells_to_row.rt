@@ -11,7 +11,8 @@ ghost use Rattle.ov_sweep_rows.specs.Cells.{phase_cells, setting_cells, shape_ce
 ghost use Rattle.ov_sweep_rows.specs.Columns.{forms};
 ghost use Rattle.ov_sweep_rows.specs.Fields.{HasNoMore};
 ghost use Rattle.ov_sweep_rows.specs.Code.Taking.{EqualFrom, IsBetween, IsBetweenOrNothing, IsCrash, IsDecimals};
-ghost use Rattle.ov_sweep_rows.specs.Code.Taking.{IsDecimalsOrNothing, IsOrder, IsRefill, TakeFrom, cell_at};
+ghost use Rattle.ov_sweep_rows.specs.Code.Taking.{IsDecimalsOrNothing, IsOrder, IsRefill, TakeFrom};
+ghost use Rattle.ov_sweep_rows.specs.Cells.{cell_at};
 ghost use Rattle.ov_sweep_rows.specs.Code.Written.{cost_forms, further_forms, parameter_forms, phase_forms};
 ghost use Rattle.ov_sweep_rows.specs.Code.Written.{costs_from, option_forms, shape_forms, shapes_from};
 ghost use Rattle.ov_sweep_rows.specs.declared.cell.Cell.TheVariants as told;

@@ -15,7 +15,7 @@ use ov_grow_options::{Crash, GrowOptions, Pace};
 use ov_ids::NodeId;
 
 /// The cells of the setting that these options are of, in the order of their columns.
-pub fn setting_cells(options: &GrowOptions) -> [Cell; 18]
+pub(crate) fn setting_cells(options: &GrowOptions) -> [Cell; 18]
     ensures cells { result ≡ cells_of.setting_cells options.now }
     ensures back { AreReadBack setting_forms result }
     ensures within { AreWithinLimits options.now.params }
@@ -44,7 +44,7 @@ pub fn setting_cells(options: &GrowOptions) -> [Cell; 18]
 }
 
 /// The cells of the further options, in the order of their columns.
-pub fn further_cells(options: &GrowOptions) -> [Cell; 3]
+pub(crate) fn further_cells(options: &GrowOptions) -> [Cell; 3]
     ensures cells { result ≡ cells_of.further_cells options.now }
     ensures back { IfSome options.now.sender MayBeGrown → AreReadBack further_forms result }
 {
@@ -53,6 +53,21 @@ pub fn further_cells(options: &GrowOptions) -> [Cell; 3]
         sender_cell(options.sender),
         flag_cell(options.detect),
     ]
+}
+
+/// The cells of all options of a setting: those of its columns, and then those of the further options.
+pub fn option_cells(options: &GrowOptions) -> [Cell; 21] {
+    let mut cells = [Cell::Empty; 21];
+    for (place, cell) in setting_cells(options)
+        .iter()
+        .chain(&further_cells(options))
+        .enumerate()
+    {
+        if let Some(free) = cells.get_mut(place) {
+            *free = *cell;
+        }
+    }
+    cells
 }
 
 /// The cells of a phase, in the order of their columns.
@@ -179,7 +194,8 @@ fn sender_cell(sender: Option<NodeId>) -> Cell
     }
 }
 
-fn share_cell(share: Option<DeliveredShare>) -> Cell
+/// The cell of a delivered share; empty without one.
+pub(crate) fn share_cell(share: Option<DeliveredShare>) -> Cell
     ensures cell { result ≡ share_cell share }
     ensures back { read_as form.DecimalsOrNothing (cell_text result) ≡ Some result }
 {

@@ -1,2 +1,2 @@
+pub mod Means
 pub mod SplitBounds
-pub mod Code

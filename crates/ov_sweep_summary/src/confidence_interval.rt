@@ -2,7 +2,7 @@
 const DEVIATIONS: f64 = 1.959963984540054;
 
 /// An interval of shares, each from 0 to 1.
-#[derive(Clone, Copy, Debug, PartialEq)]
+#[derive(Clone, Copy)]
 pub struct Interval {
     /// Its lower end.
     pub low: f64,

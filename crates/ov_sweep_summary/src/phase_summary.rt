@@ -1,13 +1,12 @@
+use crate::SplitRuns;
 use ov_sweep_rows::{Phase, Row};
 use std::alloc::{AllocError, Global};
 
 /// What the runs of one setting came to after one phase.
-#[derive(Clone, Copy, Debug, PartialEq)]
+#[derive(Clone, Copy)]
 pub(crate) struct PhaseSummary {
-    /// How many runs there are.
-    pub(crate) runs: u32,
-    /// After how many of them the overlay is split.
-    pub(crate) split: u32,
+    /// How many runs there are, and after how many of them the overlay is split.
+    pub(crate) counted: SplitRuns,
     /// The k that 25 %, 50 % and 75 % of the runs have at most.
     pub(crate) quartiles: [u32; 3],
     /// The least of the least degrees.
@@ -25,26 +24,33 @@ pub(crate) fn phase_summary(
     let ks = ascending_ks(alloc, runs, phase)?;
     let (least_degree, mean_least_degree) = least_degrees(runs, phase);
     Ok(PhaseSummary {
-        runs: count(runs.len()),
-        split: split_count(runs, phase),
+        counted: split_runs(runs, phase),
         quartiles: [quartile(&ks, 1), quartile(&ks, 2), quartile(&ks, 3)],
         least_degree,
         mean_least_degree,
     })
 }
 
-/// After how many of these runs the overlay is split.
-pub(crate) fn split_count(runs: &[&Row], phase: Phase) -> u32 {
-    count(
-        runs.iter()
-            .filter(|run| run.after(phase).is_split())
-            .count(),
-    )
+/// How many runs these are, and after how many of them the overlay is split.
+pub fn split_runs(runs: &[&Row], phase: Phase) -> SplitRuns {
+    let mut split: u32 = 0;
+    for run in runs {
+        if run.after(phase).is_split() {
+            split = split.saturating_add(1);
+        }
+    }
+    SplitRuns {
+        split,
+        runs: count(runs.len()),
+    }
 }
 
 /// The k of each run after a phase, in ascending order.
 pub fn ascending_ks(alloc: Global, runs: &[&Row], phase: Phase) -> Result<Vec<u32>, AllocError> {
-    let mut ks: Vec<u32> = runs.iter().map(|run| run.after(phase).k).collect(alloc)?;
+    let mut ks = Vec::new(alloc);
+    for run in runs {
+        ks.push(run.after(phase).k)?;
+    }
     ks.sort()?;
     Ok(ks)
 }

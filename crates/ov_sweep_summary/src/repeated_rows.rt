@@ -6,7 +6,7 @@ use std::alloc::Global;
 use std::fmt::Write;
 
 /// Rows with the options and the seed of an earlier one: each counts as a run more.
-#[derive(Clone, Copy, Debug, PartialEq, Eq)]
+#[derive(Clone, Copy)]
 pub struct RepeatedRuns {
     /// How many there are.
     pub count: u64,

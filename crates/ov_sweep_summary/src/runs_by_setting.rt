@@ -2,7 +2,7 @@ use crate::setting_names::{SETTING_NAMES, SettingName};
 use indexmap::IndexSet;
 use ov_grow_options::GrowOptions;
 use ov_ids::OutOfMemory;
-use ov_sweep_rows::{Cell, Row, cell_at, further_cells, setting_cells};
+use ov_sweep_rows::{Cell, Row, cell_at, option_cells};
 use std::alloc::{AllocError, Global};
 use std::fmt::Write;
 
@@ -18,30 +18,13 @@ pub struct SettingRuns<'a> {
     pub runs: Vec<&'a Row>,
 }
 
-impl SettingRuns<'_> {
-    /// Whether a run has delivered shares.
-    pub(crate) fn has_delivered(&self) -> bool {
-        self.runs.iter().any(|run| run.has_delivered())
-    }
-
-    /// Whether it is known of a run what its broadcasts cost.
-    pub(crate) fn has_costs(&self) -> bool {
-        self.runs.iter().any(|run| run.has_costs())
-    }
-
-    /// Whether the shapes of a run are known.
-    pub(crate) fn has_shape(&self) -> bool {
-        self.runs.iter().any(|run| run.has_shape())
-    }
-}
-
 /// The settings of rows, in the order of their first appearance, each with its rows in their order. OutOfMemory (99) if
 /// an allocation is refused.
 pub fn settings_of(alloc: Global, rows: &[Row]) -> Result<Vec<SettingRuns<'_>>, OutOfMemory> {
     let mut keys = IndexSet::new(alloc);
     let mut settings: Vec<SettingRuns<'_>> = Vec::new(alloc);
     for row in rows {
-        let cells = all_cells(&row.options);
+        let cells = option_cells(&row.options);
         let (place, is_new) = keys.insert_full(key_of(alloc, &cells)?)?;
         if is_new {
             settings.push(SettingRuns {
@@ -54,21 +37,6 @@ pub fn settings_of(alloc: Global, rows: &[Row]) -> Result<Vec<SettingRuns<'_>>, 
         }
     }
     Ok(settings)
-}
-
-/// The cells of all options of a setting: those of its columns, and then those of the further options.
-fn all_cells(options: &GrowOptions) -> [Cell; 21] {
-    let mut cells = [Cell::Empty; 21];
-    for (place, cell) in setting_cells(options)
-        .iter()
-        .chain(&further_cells(options))
-        .enumerate()
-    {
-        if let Some(free) = cells.get_mut(place) {
-            *free = *cell;
-        }
-    }
-    cells
 }
 
 /// A text that says a setting.
@@ -97,9 +65,12 @@ fn differ_at(settings: &[SettingRuns<'_>], place: usize) -> bool {
         return false;
     };
     let cell = cell_at(&first.cells, place);
-    settings
-        .iter()
-        .any(|setting| cell_at(&setting.cells, place) != cell)
+    for setting in settings {
+        if cell_at(&setting.cells, place) != cell {
+            return true;
+        }
+    }
+    false
 }
 
 /// What people read in a cell of a setting: `none` where nothing is given.
@@ -120,7 +91,7 @@ pub(crate) fn common_command(
     let Some(first) = settings.first() else {
         return Ok(text);
     };
-    let usual = all_cells(&GrowOptions::default());
+    let usual = option_cells(&GrowOptions::default());
     for (place, SettingName { name, takes, .. }) in SETTING_NAMES.iter().enumerate() {
         let cell = cell_at(&first.cells, place);
         if differing.contains(&place) || cell == cell_at(&usual, place) {

@@ -1,9 +1,8 @@
-use crate::phase_summary::{count, phase_summary, split_count};
+use crate::phase_summary::{count, split_runs};
 use crate::runs_by_setting::{differing, run_counts, shown_cell};
-use crate::setting_names::SETTING_NAMES;
 use crate::settings_by_size::places_by_size;
-use crate::summary_text_writing::{HEADS, phase_name, push_split};
-use crate::text_table::TextTable;
+use crate::summary_text_writing::{heads, name_at, option_texts, phase_name, push_split};
+use crate::text_table::push_table;
 use crate::{SettingRuns, SplitRuns, Verdict, first_below};
 use ov_grow_options::Share;
 use ov_ids::OutOfMemory;
@@ -11,11 +10,11 @@ use ov_sweep_rows::{Cell, Phase, cell_at};
 use std::alloc::{AllocError, Global};
 use std::fmt::Write;
 
-/// How many of `HEADS` are of the runs that are split.
-const SPLIT_HEADS: usize = 4;
+/// The heads of the columns of how many runs are split.
+const SPLIT_HEADS: [&str; 4] = ["runs", "split", "share", "95 % interval"];
 
 /// What is asked of settings: after which phase they are split in less than so many of 100 runs.
-#[derive(Clone, Copy, Debug, PartialEq, Eq)]
+#[derive(Clone, Copy)]
 pub struct SplitQuestion {
     /// After which phase.
     pub phase: Phase,
@@ -33,21 +32,16 @@ pub fn split_answer_text(
 ) -> Result<String, OutOfMemory> {
     let differing = differing(alloc, settings)?;
     let order = places_by_size(alloc, settings)?;
-    let mut text = question_text(alloc, question)?;
-    push_table(alloc, &mut text, settings, &order, &differing, question)?;
+    let percent = question.bound.of_hundred();
+    let phase = phase_name(question.phase);
+    let mut text = format!(in alloc;
+        "Split after {phase} in less than {percent} of 100 runs, by the 95 % interval? The smallest setting first:\n\n"
+    )?;
+    push_answers(alloc, &mut text, settings, &order, &differing, question)?;
     push_answer(alloc, &mut text, settings, &order, &differing, question)?;
     let (fewest, _) = run_counts(settings);
     push_few_runs(&mut text, count(fewest), question.bound)?;
     Ok(text)
-}
-
-/// What is asked, in words, and an empty line.
-fn question_text(alloc: Global, question: &SplitQuestion) -> Result<String, AllocError> {
-    let percent = question.bound.of_hundred();
-    let phase = phase_name(question.phase);
-    format!(in alloc;
-        "Split after {phase} in less than {percent} of 100 runs, by the 95 % interval? The smallest setting first:\n\n"
-    )
 }
 
 /// The line that says that so many runs of a setting are too few to be below a bound, even if none of them is split,
@@ -77,16 +71,8 @@ pub(crate) fn push_few_runs(text: &mut String, runs: u32, bound: Share) -> Resul
     )
 }
 
-/// How many runs of a setting there are, and how many of them are split.
-pub fn runs_of(setting: &SettingRuns<'_>, phase: Phase) -> SplitRuns {
-    SplitRuns {
-        split: split_count(&setting.runs, phase),
-        runs: count(setting.runs.len()),
-    }
-}
-
 /// Appends the table.
-fn push_table(
+fn push_answers(
     alloc: Global,
     text: &mut String,
     settings: &[SettingRuns<'_>],
@@ -94,33 +80,26 @@ fn push_table(
     differing: &[usize],
     question: &SplitQuestion,
 ) -> Result<(), AllocError> {
-    let mut table = TextTable::new(alloc);
-    table.push(heads(alloc, differing, question.bound)?)?;
+    let mut lines = Vec::new(alloc);
+    lines.push(answer_heads(alloc, differing, question.bound)?)?;
     for place in order {
         if let Some(setting) = settings.get(*place) {
-            table.push(line_of(alloc, setting, differing, question)?)?;
+            lines.push(line_of(alloc, setting, differing, question)?)?;
         }
     }
-    table.push_to(alloc, text)
+    push_table(alloc, text, &lines)
 }
 
 /// The heads of the columns.
-fn heads(alloc: Global, differing: &[usize], bound: Share) -> Result<Vec<String>, AllocError> {
-    let mut line = Vec::new(alloc);
-    for place in differing {
-        line.push(String::from_str(alloc, name_at(*place))?)?;
-    }
-    for head in HEADS.iter().take(SPLIT_HEADS) {
-        line.push(String::from_str(alloc, head)?)?;
-    }
+fn answer_heads(
+    alloc: Global,
+    differing: &[usize],
+    bound: Share,
+) -> Result<Vec<String>, AllocError> {
+    let mut line = heads(alloc, differing, &SPLIT_HEADS)?;
     let percent = bound.of_hundred();
     line.push(format!(in alloc; "below {percent} %")?)?;
     Ok(line)
-}
-
-/// The name of the option at a place.
-fn name_at(place: usize) -> &'static str {
-    SETTING_NAMES.get(place).map_or("", |option| option.name)
 }
 
 /// The line of a setting.
@@ -130,13 +109,10 @@ fn line_of(
     differing: &[usize],
     question: &SplitQuestion,
 ) -> Result<Vec<String>, AllocError> {
-    let mut line = Vec::new(alloc);
-    for place in differing {
-        line.push(shown_cell(alloc, cell_at(&setting.cells, *place))?)?;
-    }
-    let summary = phase_summary(alloc, &setting.runs, question.phase)?;
-    push_split(alloc, &mut line, &summary)?;
-    line.push(said_of(alloc, runs_of(setting, question.phase), question.bound)?)?;
+    let mut line = option_texts(alloc, &setting.cells, differing)?;
+    let counted = split_runs(&setting.runs, question.phase);
+    push_split(alloc, &mut line, counted)?;
+    line.push(said_of(alloc, counted, question.bound)?)?;
     Ok(line)
 }
 
@@ -160,7 +136,6 @@ fn more_text(alloc: Global, runs: SplitRuns, bound: Share) -> Result<String, All
         write!(text, "yes after {more} more without a split")?;
     }
     if runs.split > 0 {
-        text.push_str("; ")?;
         push_at_this_share(&mut text, runs, bound)?;
     }
     Ok(text)
@@ -169,11 +144,11 @@ fn more_text(alloc: Global, runs: SplitRuns, bound: Share) -> Result<String, All
 /// Appends what more runs would tell at the share of today, and how many.
 fn push_at_this_share(text: &mut String, runs: SplitRuns, bound: Share) -> Result<(), AllocError> {
     let Some(needed) = runs.runs_at_this_share(bound) else {
-        return text.push_str("at this share no number tells");
+        return text.push_str("; at this share no number tells");
     };
     let more = needed.saturating_sub(u128::from(runs.runs));
     let word = if runs.is_rarer(bound) { "yes" } else { "no" };
-    write!(text, "{word} after {more} more at this share")
+    write!(text, "; {word} after {more} more at this share")
 }
 
 /// Appends the smallest setting that is below the bound; or that none is, and which may be.
@@ -213,7 +188,7 @@ fn runs_in_order(
     let mut runs = Vec::new(alloc);
     for place in order {
         if let Some(setting) = settings.get(*place) {
-            runs.push(runs_of(setting, phase))?;
+            runs.push(split_runs(&setting.runs, phase))?;
         }
     }
     Ok(runs)

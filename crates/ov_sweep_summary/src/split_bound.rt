@@ -11,7 +11,7 @@ const SQUARE: u128 = 3_841_458_820_694;
 const ONE: u128 = 1_000_000_000_000;
 
 /// So many runs, and after how many of them the overlay is split.
-#[derive(Clone, Copy, Debug, PartialEq, Eq)]
+#[derive(Clone, Copy)]
 pub struct SplitRuns {
     /// After how many of them the overlay is split.
     pub split: u32,
@@ -20,7 +20,7 @@ pub struct SplitRuns {
 }
 
 /// What runs say of a bound on the share that is split, by Wilson's interval of their share, at a confidence of 95 %.
-#[derive(Clone, Copy, Debug, PartialEq, Eq)]
+#[derive(Clone, Copy, PartialEq)]
 pub enum Verdict {
     /// The interval lies below the bound.
     Below,

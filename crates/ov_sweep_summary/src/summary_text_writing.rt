@@ -1,19 +1,19 @@
-use crate::means_of_measures::{Known, mean_text};
-use crate::measure::Measure;
+use crate::means_of_measures::{is_known, known_measures, mean_after};
+use crate::measure::{MEANINGS, Measure};
 use crate::phase_summary::{PhaseSummary, count, phase_summary};
 use crate::runs_by_setting::{common_command, differing, run_counts, shown_cell};
 use crate::setting_names::SETTING_NAMES;
 use crate::split_answer::push_few_runs;
-use crate::text_table::TextTable;
+use crate::text_table::push_table;
 use crate::{SettingRuns, SplitRuns, Survival};
 use ov_grow_options::Share;
 use ov_ids::OutOfMemory;
-use ov_sweep_rows::{Phase, cell_at};
+use ov_sweep_rows::{Cell, Phase, cell_at};
 use std::alloc::{AllocError, Global};
 use std::fmt::Write;
 
 /// The heads of the columns behind the options.
-pub(crate) const HEADS: [&str; 10] = [
+const HEADS: [&str; 10] = [
     "runs",
     "split",
     "share",
@@ -42,23 +42,6 @@ const MEANS: &str = "
 Means of all runs that have the number, rounded down; none if no run has it.
 ";
 
-const DELIVERED: &str = "\
-delivered: how often a node delivered a broadcast of the phase, over broadcasts times live nodes.
-";
-
-const COSTS: &str = "\
-gossip, ihave, graft, prune: how many messages of these kinds were sent for the broadcasts of the phase.
-hops: the mean over the broadcasts of the most links by which a node got the message.
-redundancy: the mean over the broadcasts that n nodes got, n being 2 or more, of GOSSIP / (n - 1) - 1: 0 if each got
-the message once.
-";
-
-const SHAPE: &str = "\
-largest: nodes of the largest component; path, diameter: the mean and the longest shortest path in it.
-clustering: the share of pairs of a node's neighbours that are linked, the mean over all nodes.
-degree 25 %: a quarter of the nodes have so many links at most.
-";
-
 /// The summary of a sweep for people, in plain text: for each phase a table with a line for each setting. Only the
 /// options in which settings differ are columns; the others stand in the first line. Behind them stand how many runs
 /// there are; how many of them are split, their share, and its interval with a confidence of 95 % (Wilson); the
@@ -72,47 +55,44 @@ pub fn summary_text(alloc: Global, settings: &[SettingRuns<'_>]) -> Result<Strin
         push_phase(alloc, &mut text, settings, &differing, phase)?;
     }
     text.push_str(MEANING)?;
-    let known = Known::of(settings);
-    let measures = known.measures(alloc)?;
+    let measures = known_measures(alloc, settings)?;
     if !measures.is_empty() {
-        push_means(alloc, &mut text, settings, &differing, &measures)?;
-        push_meaning(&mut text, known)?;
+        for phase in Phase::ALL {
+            push_means(alloc, &mut text, settings, &differing, &measures, phase)?;
+        }
+        push_meaning(&mut text, settings)?;
     }
     Ok(text)
 }
 
 /// Appends what the means are that are known.
-fn push_meaning(text: &mut String, known: Known) -> Result<(), AllocError> {
+fn push_meaning(text: &mut String, settings: &[SettingRuns<'_>]) -> Result<(), AllocError> {
     text.push_str(MEANS)?;
-    if known.delivered {
-        text.push_str(DELIVERED)?;
-    }
-    if known.costs {
-        text.push_str(COSTS)?;
-    }
-    if known.shape {
-        text.push_str(SHAPE)?;
+    for (measured, meaning) in &MEANINGS {
+        if is_known(settings, *measured) {
+            text.push_str(meaning)?;
+        }
     }
     Ok(())
 }
 
-/// Appends a table of means for each phase.
+/// Appends the table of means of a phase.
 fn push_means(
     alloc: Global,
     text: &mut String,
     settings: &[SettingRuns<'_>],
     differing: &[usize],
     measures: &[Measure],
+    phase: Phase,
 ) -> Result<(), AllocError> {
-    for phase in Phase::ALL {
-        let name = phase_name(phase);
-        write!(text, "\nMeans after {name}\n")?;
-        let mut table = TextTable::new(alloc);
-        table.push(mean_heads(alloc, differing, measures)?)?;
-        push_mean_lines(alloc, &mut table, settings, differing, measures, phase)?;
-        table.push_to(alloc, text)?;
+    let name = phase_name(phase);
+    write!(text, "\nMeans after {name}\n")?;
+    let mut lines = Vec::new(alloc);
+    lines.push(mean_heads(alloc, differing, measures)?)?;
+    for setting in settings {
+        lines.push(mean_line(alloc, setting, differing, measures, phase)?)?;
     }
-    Ok(())
+    push_table(alloc, text, &lines)
 }
 
 /// The heads of a table of means.
@@ -122,28 +102,13 @@ fn mean_heads(
     measures: &[Measure],
 ) -> Result<Vec<String>, AllocError> {
     let mut line = option_heads(alloc, differing)?;
-    for measure in measures {
-        line.push(String::from_str(alloc, measure.head())?)?;
+    for (_, _, head) in measures {
+        line.push(String::from_str(alloc, head)?)?;
     }
     Ok(line)
 }
 
-/// Adds the means of each setting.
-fn push_mean_lines(
-    alloc: Global,
-    table: &mut TextTable,
-    settings: &[SettingRuns<'_>],
-    differing: &[usize],
-    measures: &[Measure],
-    phase: Phase,
-) -> Result<(), AllocError> {
-    for setting in settings {
-        table.push(mean_line(alloc, setting, differing, measures, phase)?)?;
-    }
-    Ok(())
-}
-
-/// The means of a setting.
+/// The means of a setting, with four decimal digits; `none` if no run has the number.
 fn mean_line(
     alloc: Global,
     setting: &SettingRuns<'_>,
@@ -151,9 +116,12 @@ fn mean_line(
     measures: &[Measure],
     phase: Phase,
 ) -> Result<Vec<String>, AllocError> {
-    let mut line = option_cells(alloc, setting, differing)?;
-    for measure in measures {
-        line.push(mean_text(alloc, &setting.runs, phase, *measure)?)?;
+    let mut line = option_texts(alloc, &setting.cells, differing)?;
+    for (measured, place, _) in measures {
+        match mean_after(&setting.runs, phase, *measured, *place) {
+            None => line.push(String::from_str(alloc, "none")?)?,
+            Some(mean) => line.push(format!(in alloc; "{mean}")?)?,
+        }
     }
     Ok(line)
 }
@@ -191,12 +159,12 @@ fn push_phase(
 ) -> Result<(), AllocError> {
     let name = phase_name(phase);
     write!(text, "\nAfter {name}\n")?;
-    let mut table = TextTable::new(alloc);
-    table.push(heads(alloc, differing)?)?;
+    let mut lines = Vec::new(alloc);
+    lines.push(heads(alloc, differing, &HEADS)?)?;
     for setting in settings {
-        table.push(line_of(alloc, setting, differing, phase)?)?;
+        lines.push(line_of(alloc, setting, differing, phase)?)?;
     }
-    table.push_to(alloc, text)
+    push_table(alloc, text, &lines)
 }
 
 /// What ends with a phase.
@@ -208,10 +176,14 @@ pub fn phase_name(phase: Phase) -> &'static str {
     }
 }
 
-/// The heads of all columns.
-fn heads(alloc: Global, differing: &[usize]) -> Result<Vec<String>, AllocError> {
+/// The heads of the columns of the options in which settings differ, and these behind them.
+pub(crate) fn heads(
+    alloc: Global,
+    differing: &[usize],
+    more: &[&'static str],
+) -> Result<Vec<String>, AllocError> {
     let mut line = option_heads(alloc, differing)?;
-    for head in HEADS {
+    for head in more {
         line.push(String::from_str(alloc, head)?)?;
     }
     Ok(line)
@@ -221,21 +193,28 @@ fn heads(alloc: Global, differing: &[usize]) -> Result<Vec<String>, AllocError> 
 fn option_heads(alloc: Global, differing: &[usize]) -> Result<Vec<String>, AllocError> {
     let mut line = Vec::new(alloc);
     for place in differing {
-        let name = SETTING_NAMES.get(*place).map_or("", |option| option.name);
-        line.push(String::from_str(alloc, name)?)?;
+        line.push(String::from_str(alloc, name_at(*place))?)?;
     }
     Ok(line)
 }
 
-/// What a setting has for them.
-fn option_cells(
+/// The name of the option at a place.
+pub(crate) fn name_at(place: usize) -> &'static str {
+    match SETTING_NAMES.get(place) {
+        Some(option) => option.name,
+        None => "",
+    }
+}
+
+/// What a setting of these cells has for them.
+pub(crate) fn option_texts(
     alloc: Global,
-    setting: &SettingRuns<'_>,
+    cells: &[Cell],
     differing: &[usize],
 ) -> Result<Vec<String>, AllocError> {
     let mut line = Vec::new(alloc);
     for place in differing {
-        line.push(shown_cell(alloc, cell_at(&setting.cells, *place))?)?;
+        line.push(shown_cell(alloc, cell_at(cells, *place))?)?;
     }
     Ok(line)
 }
@@ -247,9 +226,9 @@ fn line_of(
     differing: &[usize],
     phase: Phase,
 ) -> Result<Vec<String>, AllocError> {
-    let mut line = option_cells(alloc, setting, differing)?;
+    let mut line = option_texts(alloc, &setting.cells, differing)?;
     let summary = phase_summary(alloc, &setting.runs, phase)?;
-    push_split(alloc, &mut line, &summary)?;
+    push_split(alloc, &mut line, summary.counted)?;
     push_rest(alloc, &mut line, &summary)?;
     Ok(line)
 }
@@ -258,12 +237,11 @@ fn line_of(
 pub(crate) fn push_split(
     alloc: Global,
     line: &mut Vec<String>,
-    summary: &PhaseSummary,
+    counted: SplitRuns,
 ) -> Result<(), AllocError> {
-    let PhaseSummary { runs, split, .. } = *summary;
+    let SplitRuns { split, runs } = counted;
     line.push(format!(in alloc; "{runs}")?)?;
     line.push(format!(in alloc; "{split}")?)?;
-    let counted = SplitRuns { split, runs };
     let share = counted.percent();
     line.push(format!(in alloc; "{share:.1} %")?)?;
     let interval = counted.interval();
@@ -291,7 +269,7 @@ fn push_rest(
     line.push(format!(in alloc; "{mean_least_degree:.2}")?)?;
     let survival = Survival {
         k: summary.quartiles[1],
-        is_split: summary.split > 0,
+        is_split: summary.counted.split > 0,
     };
     line.push(format!(in alloc; "{survival}")?)?;
     Ok(())

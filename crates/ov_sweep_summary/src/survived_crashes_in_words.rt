@@ -1,7 +1,7 @@
 use std::fmt::{Display, Formatter, Result, Write};
 
 /// The number of an overlay. It is shown in words, with how many crashes the overlay survives.
-#[derive(Clone, Copy, Debug, PartialEq, Eq)]
+#[derive(Clone, Copy)]
 pub struct Survival {
     /// The fewest crashes that split it, 0 if it is split or has a single node.
     pub k: u32,

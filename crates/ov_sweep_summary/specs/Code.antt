@@ -1,2 +1,0 @@
--- What only the contracts of private functions use. A reader of the public contracts need not rely on it.
-pub mod Means
