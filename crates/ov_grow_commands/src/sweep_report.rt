@@ -4,9 +4,10 @@ use crate::picture_file::write_picture;
 use ov_arguments::{AskedPhase, Printed, SplitAsked, SweepRequest};
 use ov_ids::OutOfMemory;
 use ov_io::Sink;
-use ov_sweep_rows::{
-    Phase, Row, SplitQuestion, few_runs_text, repeated_runs, settings_of, split_answer_text,
-    summary_text, svg_text,
+use ov_sweep_picture::svg_text;
+use ov_sweep_rows::{Phase, Row};
+use ov_sweep_summary::{
+    SplitQuestion, few_runs_text, repeated_runs, settings_of, split_answer_text, summary_text,
 };
 use std::fs::File;
 

@@ -7,7 +7,7 @@ use Rattle.ov_grow.specs.MessageCosts.{AreCosts}
 use Rattle.ov_grow.specs.Replay.{Replays}
 use Rattle.ov_grow.specs.declared.message_cost.MessageCost.{MessageCost}
 use Rattle.ov_grow.specs.declared.phase_moment_and_deliveries.PhaseEnd.{PhaseEnd}
-use Rattle.ov_sweep_rows.specs.declared.message_row.MessageRow.{MessageRow}
+use Rattle.ov_sweep_rows.specs.declared.broadcast_row.MessageRow.{MessageRow}
 use Rattle.ov_sweep_rows.specs.declared.row.Phase.{Phase}
 use Rattle.ov_sweep_rows.specs.declared.row.Phase.TheVariants.{Settle, Crash, Heal}
 

@@ -1,4 +1,3 @@
-pub mod Bounding
 pub mod ReadBack
 pub mod Named
 pub mod CellByCell

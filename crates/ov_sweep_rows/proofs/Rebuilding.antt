@@ -15,7 +15,8 @@ use Rattle.ov_sweep_rows.specs.declared.row_form.RowForm.{RowForm}
 use Rattle.ov_sweep_rows.specs.Cells.{cells, cost_cells, further_cells, parameter_cells, phase_cells, setting_cells}
 use Rattle.ov_sweep_rows.specs.Cells.{shape_cells}
 use Rattle.ov_sweep_rows.specs.Columns.{forms, if_asked}
-use Rattle.ov_sweep_rows.specs.Code.Taking.{EqualFrom, IsRefill, TakeFrom, Takes, cell_at}
+use Rattle.ov_sweep_rows.specs.Code.Taking.{EqualFrom, IsRefill, TakeFrom, Takes}
+use Rattle.ov_sweep_rows.specs.Cells.{cell_at}
 use Rattle.ov_sweep_rows.specs.Code.Written.{cost_forms, costs_from, further_forms, option_forms, parameter_forms}
 use Rattle.ov_sweep_rows.specs.Code.Written.{phase_forms}
 use Rattle.ov_sweep_rows.specs.Code.Written.{shape_forms, shapes_from}

@@ -16,7 +16,8 @@ use Rattle.ov_sweep_rows.specs.declared.row_fault.FieldForm.TheVariants as form
 use Rattle.ov_sweep_rows.specs.Cells.{cells_read, decimals_in, most_long, most_short, number_between}
 use Rattle.ov_sweep_rows.specs.Cells.{or_nothing, parts_in, read_as}
 use Rattle.ov_sweep_rows.specs.Code.Taking.{IsBetween, IsBetweenOrNothing, IsCrash, IsDecimals, IsDecimalsOrNothing}
-use Rattle.ov_sweep_rows.specs.Code.Taking.{IsOrder, IsRefill, TakeFrom, Takes, cell_at}
+use Rattle.ov_sweep_rows.specs.Code.Taking.{IsOrder, IsRefill, TakeFrom, Takes}
+use Rattle.ov_sweep_rows.specs.Cells.{cell_at}
 use Rattle.ov_sweep_rows.proofs.CellByCell.{first_read, too_few}
 use Rattle.ov_sweep_rows.proofs.Rebuilding.{no_more}
 

@@ -1,7 +1,7 @@
 -- What stands in the columns of a row, and how it is written and read.
 use Rattle.std.specs.Prelude.{ℕ, ◌+◌, ◌-◌, ◌*◌, ◌/◌, ◌%◌, Bool, ◌&&◌, ◌==◌, nat_le, nat_lt, if◌then◌else◌}
 use Rattle.std.specs.Prelude.{List, [], ◌∷◌, ◌++◌, length, take, drop, slice_get, codes, decimal, Option, Some, None}
-use Rattle.std.specs.Prelude.{option_map}
+use Rattle.std.specs.Prelude.{get_or, option_map}
 use Rattle.ov_ids.specs.Options.{◌>>=◌}
 use Rattle.ov_ids.specs.ParamsState.{ParamsState}
 use Rattle.ov_ids.specs.RefillNames.{refill_name, refill_named}
@@ -18,6 +18,8 @@ use Rattle.ov_sweep_rows.specs.declared.costs_and_shape.PhaseCosts.{PhaseCosts}
 use Rattle.ov_sweep_rows.specs.declared.costs_and_shape.PhaseShape.{PhaseShape}
 use Rattle.ov_sweep_rows.specs.declared.delivered_share.DeliveredShare.{DeliveredShare}
 use Rattle.ov_sweep_rows.specs.declared.four_decimals.FourDecimals.{FourDecimals}
+use Rattle.ov_sweep_rows.specs.declared.measured.Measured.{Measured}
+use Rattle.ov_sweep_rows.specs.declared.measured.Measured.TheVariants as measured
 use Rattle.ov_sweep_rows.specs.declared.row.Phase.{Phase}
 use Rattle.ov_sweep_rows.specs.declared.row.Phase.TheVariants as phase
 use Rattle.ov_sweep_rows.specs.declared.row.PhaseRow.{PhaseRow}
@@ -112,6 +114,16 @@ cells rows_have row =
     ++ (if_asked rows_have.further (further_cells row.options)
     ++ (if_asked rows_have.costs (of_phases (λ p. cost_cells p.costs) row.phases)
     ++ if_asked rows_have.shape (of_phases (λ p. shape_cells p.shape) row.phases)))))
+
+-- the cell at a place, counted from 0; nothing behind the last
+abbrev pub cell_at : List Cell → ℕ → Cell
+cell_at cells place = get_or cells place cell.Empty
+
+-- what is told of a phase by means: its delivered share, what its broadcasts cost, its shape
+abbrev pub measured_cells : Measured → PhaseRow → List Cell
+measured_cells measured.Delivered p = share_cell p.delivered ∷ []
+measured_cells measured.Costs p = cost_cells p.costs
+measured_cells measured.Shape p = shape_cells p.shape
 
 -- ---- how a cell is written
 

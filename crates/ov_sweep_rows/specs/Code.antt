@@ -1,4 +1,3 @@
 -- What only the contracts of private functions use. A reader of the public contracts need not rely on it.
 pub mod Taking
 pub mod Written
-pub mod Means

@@ -7,8 +7,8 @@ use ov_ids::Refill;
 use std::fmt::{Display, Formatter, Result, Write};
 
 /// What stands in one column of a row.
-#[derive(Clone, Copy, Debug, PartialEq, Eq)]
-pub(crate) enum Cell {
+#[derive(Clone, Copy, PartialEq)]
+pub enum Cell {
     /// Nothing: an option that was not given, or a share without broadcasts.
     Empty,
     /// A number, in decimal digits.

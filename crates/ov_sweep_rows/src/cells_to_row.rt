@@ -11,7 +11,8 @@ ghost use Rattle.ov_sweep_rows.specs.Cells.{phase_cells, setting_cells, shape_ce
 ghost use Rattle.ov_sweep_rows.specs.Columns.{forms};
 ghost use Rattle.ov_sweep_rows.specs.Fields.{HasNoMore};
 ghost use Rattle.ov_sweep_rows.specs.Code.Taking.{EqualFrom, IsBetween, IsBetweenOrNothing, IsCrash, IsDecimals};
-ghost use Rattle.ov_sweep_rows.specs.Code.Taking.{IsDecimalsOrNothing, IsOrder, IsRefill, TakeFrom, cell_at};
+ghost use Rattle.ov_sweep_rows.specs.Code.Taking.{IsDecimalsOrNothing, IsOrder, IsRefill, TakeFrom};
+ghost use Rattle.ov_sweep_rows.specs.Cells.{cell_at};
 ghost use Rattle.ov_sweep_rows.specs.Code.Written.{cost_forms, further_forms, parameter_forms, phase_forms};
 ghost use Rattle.ov_sweep_rows.specs.Code.Written.{costs_from, option_forms, shape_forms, shapes_from};
 ghost use Rattle.ov_sweep_rows.specs.declared.cell.Cell.TheVariants as told;
@@ -180,7 +181,7 @@ fn shape_of_phase(form: RowForm, cells: &[Cell], phase: usize) -> Option<PhaseSh
 }
 
 /// The cell at a place; nothing behind the last.
-pub(crate) fn cell_at(cells: &[Cell], place: usize) -> Cell
+pub fn cell_at(cells: &[Cell], place: usize) -> Cell
     ensures { result ≡ cell_at cells.now place }
 {
     match cells.get(place) {

@@ -1,7 +1,7 @@
 use crate::FourDecimals;
 
 /// What is measured beside the numbers that each row has.
-#[derive(Clone, Copy, Debug, PartialEq, Eq)]
+#[derive(Clone, Copy)]
 pub struct Measures {
     /// What the broadcasts of each phase cost.
     pub costs: bool,
@@ -10,7 +10,7 @@ pub struct Measures {
 }
 
 /// What the broadcasts of a phase cost: how many messages of each kind nodes sent for them, as GROWING counts them.
-#[derive(Clone, Copy, Debug, PartialEq, Eq)]
+#[derive(Clone, Copy, PartialEq)]
 pub struct PhaseCosts {
     /// How many GOSSIP.
     pub gossip: u32,
@@ -27,7 +27,7 @@ pub struct PhaseCosts {
 }
 
 /// The shape of the links of a phase's snapshot.
-#[derive(Clone, Copy, Debug, PartialEq, Eq)]
+#[derive(Clone, Copy, PartialEq)]
 pub struct PhaseShape {
     /// How many nodes the largest component has.
     pub largest: u32,

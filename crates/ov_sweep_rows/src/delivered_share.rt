@@ -1,10 +1,7 @@
 ghost use Rattle.std.specs.Prelude.{◌≡◌, ◌≢◌, ◌*◌, ◌/◌, IfSome, IfNone};
 
-use crate::FourDecimals;
-use std::fmt::{Display, Formatter, Result, Write};
-
-/// A delivered share, in parts of 10,000, rounded down. It is shown with four decimal digits, as `0.9312`.
-#[derive(Clone, Copy, Debug, PartialEq, Eq)]
+/// A delivered share, in parts of 10,000, rounded down.
+#[derive(Clone, Copy, PartialEq)]
 pub struct DeliveredShare {
     /// How many parts of 10,000.
     pub parts: u64,
@@ -28,12 +25,5 @@ impl DeliveredShare {
         Some(DeliveredShare {
             parts: u64::from(deliveries) * DeliveredShare::WHOLE / most,
         })
-    }
-}
-
-impl Display for DeliveredShare {
-    fn fmt<W: Write>(&self, f: &mut Formatter<W>) -> Result {
-        let number = FourDecimals { parts: self.parts };
-        write!(f, "{number}")
     }
 }

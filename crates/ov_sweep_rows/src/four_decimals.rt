@@ -5,7 +5,7 @@ use ov_lines::read_number;
 use std::fmt::{Display, Formatter, Result, Write};
 
 /// A number with four decimal digits, in parts of 10,000, rounded down. It is shown as `0.9312`.
-#[derive(Clone, Copy, Debug, PartialEq, Eq)]
+#[derive(Clone, Copy, PartialEq)]
 pub struct FourDecimals {
     /// How many parts of 10,000.
     pub parts: u64,

@@ -6,7 +6,7 @@ use crate::{DeliveredShare, PhaseCosts, PhaseShape};
 use ov_grow_options::GrowOptions;
 
 /// The phases after each of which a run is looked at.
-#[derive(Clone, Copy, Debug, PartialEq, Eq)]
+#[derive(Clone, Copy, PartialEq)]
 pub enum Phase {
     /// The nodes have joined, and the overlay has settled.
     Settle,
@@ -33,7 +33,7 @@ impl Phase {
 }
 
 /// One run of a sweep: the options that it was grown with, its seed among them, and what it came to after each phase.
-#[derive(Clone, Copy, Debug, PartialEq, Eq)]
+#[derive(Clone, Copy, PartialEq)]
 pub struct Row {
     /// The options of the run.
     pub options: GrowOptions,
@@ -50,11 +50,6 @@ impl Row {
     {
         let options = self.options;
         options.sequential || options.sender.is_some() || options.detect
-    }
-
-    /// Whether a phase has a delivered share.
-    pub(crate) fn has_delivered(&self) -> bool {
-        self.phases.iter().any(|phase| phase.delivered.is_some())
     }
 
     /// Whether it is known of each phase what its broadcasts cost.
@@ -84,7 +79,7 @@ impl Row {
 }
 
 /// What a run came to after one phase.
-#[derive(Clone, Copy, Debug, PartialEq, Eq)]
+#[derive(Clone, Copy, PartialEq)]
 pub struct PhaseRow {
     /// How many nodes live.
     pub nodes: u32,

@@ -55,6 +55,21 @@ pub(crate) fn further_cells(options: &GrowOptions) -> [Cell; 3]
     ]
 }
 
+/// The cells of all options of a setting: those of its columns, and then those of the further options.
+pub fn option_cells(options: &GrowOptions) -> [Cell; 21] {
+    let mut cells = [Cell::Empty; 21];
+    for (place, cell) in setting_cells(options)
+        .iter()
+        .chain(&further_cells(options))
+        .enumerate()
+    {
+        if let Some(free) = cells.get_mut(place) {
+            *free = *cell;
+        }
+    }
+    cells
+}
+
 /// The cells of a phase, in the order of their columns.
 pub(crate) fn phase_cells(phase: &PhaseRow) -> [Cell; 6]
     ensures cells { result ≡ cells_of.phase_cells phase.now }
@@ -179,7 +194,8 @@ fn sender_cell(sender: Option<NodeId>) -> Cell
     }
 }
 
-fn share_cell(share: Option<DeliveredShare>) -> Cell
+/// The cell of a delivered share; empty without one.
+pub(crate) fn share_cell(share: Option<DeliveredShare>) -> Cell
     ensures cell { result ≡ share_cell share }
     ensures back { read_as form.DecimalsOrNothing (cell_text result) ≡ Some result }
 {

@@ -4,29 +4,24 @@ ghost use Rattle.ov_sweep_rows.specs.Rows.{number_of};
 use csv::{Error as CsvError, ErrorKind};
 use std::alloc::{AllocError, AllocFailed};
 use std::fmt::{Display, Formatter, Result, Write};
-use thiserror::Error;
 
 /// Why a text of rows is refused. (The numbers are chosen here.)
-#[derive(Clone, Copy, Debug, PartialEq, Eq, Error)]
+#[derive(Clone, Copy, PartialEq)]
 pub enum RowFault {
     /// The first line is not the header (70).
-    #[error("line 1 must be the header of the rows, nodes,active,passive and so on, with refill behind ttl")]
     Header,
     /// The row at this line has so many fields, and not one for each column (70).
-    #[error("line {line}: the row has {fields} fields and must have {columns}")]
     FieldCount {
         line: u64,
         fields: u64,
         columns: u64,
     },
     /// A field of the row at this line is not what its column takes (70).
-    #[error("line {line}: {field}")]
     Field {
         line: u64,
         field: FieldFault,
     },
     /// An allocation was refused (99).
-    #[error("out of memory")]
     OutOfMemory,
 }
 
@@ -43,7 +38,7 @@ impl RowFault {
 }
 
 /// A field that is not what its column takes.
-#[derive(Clone, Copy, Debug, PartialEq, Eq)]
+#[derive(Clone, Copy, PartialEq)]
 pub struct FieldFault {
     /// The place of the column, counted from 0.
     pub place: usize,
@@ -54,7 +49,7 @@ pub struct FieldFault {
 }
 
 /// What a column takes.
-#[derive(Clone, Copy, Debug, PartialEq, Eq)]
+#[derive(Clone, Copy, PartialEq)]
 pub enum FieldForm {
     /// A number of nodes to grow.
     Nodes,
@@ -86,6 +81,28 @@ pub enum FieldForm {
     Flag,
     /// A node that makes broadcasts, or nothing.
     Sender,
+}
+
+impl Display for RowFault {
+    fn fmt<W: Write>(&self, f: &mut Formatter<W>) -> Result {
+        match self {
+            RowFault::Header => f.write_str(
+                "line 1 must be the header of the rows, nodes,active,passive and so on, with refill behind ttl",
+            ),
+            RowFault::FieldCount {
+                line,
+                fields,
+                columns,
+            } => {
+                write!(
+                    f,
+                    "line {line}: the row has {fields} fields and must have {columns}"
+                )
+            }
+            RowFault::Field { line, field } => write!(f, "line {line}: {field}"),
+            RowFault::OutOfMemory => f.write_str("out of memory"),
+        }
+    }
 }
 
 impl Display for FieldForm {

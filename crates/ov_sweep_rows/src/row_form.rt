@@ -6,7 +6,7 @@ ghost use Rattle.ov_sweep_rows.specs.Code.Written.{costs_from, shapes_from};
 use crate::{Measures, Row};
 
 /// Which columns rows have, beside those of the setting, the seed, and what a run came to after each phase.
-#[derive(Clone, Copy, Debug, PartialEq, Eq)]
+#[derive(Clone, Copy)]
 pub struct RowForm {
     /// The further options.
     pub further: bool,

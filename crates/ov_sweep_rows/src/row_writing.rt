@@ -13,7 +13,7 @@ use crate::row_cells::{
     cost_cells, further_cells, message_cells, phase_cells, seed_cell, setting_cells, shape_cells,
 };
 use crate::{MessageRow, Phase, Row, RowForm};
-use csv::{ByteRecord, Error as CsvError, WriterBuilder};
+use csv::{ByteRecord, WriterBuilder};
 use ov_ids::OutOfMemory;
 use std::alloc::{AllocError, Global};
 use std::fmt::Write;
@@ -155,21 +155,16 @@ fn text_of_cells(alloc: Global, cells: &[Cell]) -> Result<Vec<u8>, OutOfMemory>
     text_of(alloc, &fields)
 }
 
-/// The record, with its end.
+/// The record, with its end. A writer into memory fails only if an allocation was refused.
 fn text_of(alloc: Global, fields: &ByteRecord) -> Result<Vec<u8>, OutOfMemory>
     ensures { IfOk result (λ text. text.items ≡ row_text default_writer (fields_of fields.now)) }
 {
     let mut writer = WriterBuilder::new().from_writer(Vec::new(alloc));
-    if let Err(error) = writer.write_byte_record(fields) {
-        return Err(refused(error));
+    if let Err(_error) = writer.write_byte_record(fields) {
+        return Err(OutOfMemory);
     }
     match writer.into_inner() {
         Ok(text) => Ok(text),
-        Err(error) => Err(refused(error.into_error())),
+        Err(_error) => Err(OutOfMemory),
     }
-}
-
-/// A writer into memory fails only if an allocation was refused.
-fn refused(_error: CsvError) -> OutOfMemory {
-    OutOfMemory
 }

@@ -1,5 +1,5 @@
 -- How rows are taken from records.
-use Rattle.std.specs.Prelude.{◌≡◌, ◌≢◌, ◌≤◌, ◌⊎◌, ℕ, suc, ◌+◌, List, [], ◌∷◌, ◌++◌, get_or, ⊤}
+use Rattle.std.specs.Prelude.{◌≡◌, ◌≢◌, ◌≤◌, ◌⊎◌, ℕ, suc, ◌+◌, List, [], ◌∷◌, ◌++◌, ⊤}
 use Rattle.std.specs.Prelude.{Some, None, IsSome, codes, map, slice_get, take}
 use Rattle.csv.specs.declared.error.ErrorKind.{ErrorKind}
 use Rattle.csv.specs.declared.error.ErrorKind.TheVariants as kind
@@ -12,7 +12,7 @@ use Rattle.ov_sweep_rows.specs.declared.row_fault.FieldForm.TheVariants as form
 use Rattle.ov_sweep_rows.specs.declared.row_form.RowForm.{RowForm}
 use Rattle.ov_sweep_rows.specs.declared.row_fault.RowFault.{RowFault}
 use Rattle.ov_sweep_rows.specs.declared.row_fault.RowFault.TheVariants.{Header, FieldCount, Field, OutOfMemory}
-use Rattle.ov_sweep_rows.specs.Cells.{cells_read, most_long, most_short, read_as}
+use Rattle.ov_sweep_rows.specs.Cells.{cell_at, cells_read, most_long, most_short, read_as}
 use Rattle.ov_sweep_rows.specs.Columns.{columns}
 use Rattle.ov_sweep_rows.specs.Fields.{SayRow, text_at}
 use Rattle.ov_sweep_rows.specs.Refusals.{IsFieldFault, IsNoRow}
@@ -106,10 +106,6 @@ Takes form.Decimals c = IsDecimals c
 Takes form.DecimalsOrNothing c = IsDecimalsOrNothing c
 Takes form.Flag c = IsBetween 0 1 c
 Takes form.Sender c = IsBetweenOrNothing 1 256 c
-
--- the cell at a place, counted from 0; nothing behind the last
-abbrev pub cell_at : List Cell → ℕ → Cell
-cell_at cells place = get_or cells place cell.Empty
 
 -- columns of these forms may read the cells from a place on; the first of these forms is the one at this place of them
 abbrev pub TakeFrom : List Cell → ℕ → ℕ → List FieldForm → Type 0

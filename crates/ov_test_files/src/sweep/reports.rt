@@ -2,9 +2,10 @@
 use crate::sweep::rows::HEADER;
 use ov_grow_options::Share;
 use ov_ids::OutOfMemory;
-use ov_sweep_rows::{
-    Interval, Row, RowFault, Setting, SplitRuns, Verdict, read_rows, settings_of, summary_text,
-    svg_text, wilson_interval,
+use ov_sweep_picture::svg_text;
+use ov_sweep_rows::{Row, RowFault, read_rows};
+use ov_sweep_summary::{
+    Interval, SettingRuns, SplitRuns, Verdict, settings_of, summary_text, wilson_interval,
 };
 use std::alloc::{AllocError, Global};
 
@@ -86,12 +87,12 @@ fn text(alloc: Global) -> Result<String, AllocError> {
 }
 
 /// Whether the summary of these settings is that of the four rows.
-fn is_summary(alloc: Global, settings: &[Setting<'_>]) -> Result<bool, OutOfMemory> {
+fn is_summary(alloc: Global, settings: &[SettingRuns<'_>]) -> Result<bool, OutOfMemory> {
     Ok(summary_text(alloc, settings)?.as_str().starts_with(SUMMARY))
 }
 
 /// Whether the picture of these settings is that of the four rows.
-fn is_picture(alloc: Global, settings: &[Setting<'_>]) -> Result<bool, OutOfMemory> {
+fn is_picture(alloc: Global, settings: &[SettingRuns<'_>]) -> Result<bool, OutOfMemory> {
     Ok(has_parts(svg_text(alloc, settings)?.as_str()))
 }
 
