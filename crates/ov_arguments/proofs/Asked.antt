@@ -1,20 +1,13 @@
 -- What the arguments give is what a parse of them finds.
 use Rattle.std.proofs.Common.{◌≡◌, ◌∙◌, ℕ, List, [], Option, Some, None, true, false, option_map, codes, refl, ap, ap₂}
 use Rattle.std.proofs.Common.{◌⊎◌, sym, subst, inl, inr, Result, IsErrAnd, IsErrOf, arith, slice_index}
-use Rattle.std.proofs.Common.{◌+◌, ◌<◌, ◌∷◌, drop, get_or, length, IfOk, IsOkAnd, Ok, Err}
-use Rattle.std.specs.declared.alloc.AllocError.{AllocError}
-use Rattle.std.proofs.lemmas.List.{at_drop_more}
 use Rattle.std.specs.Box.{box_value}
 use Rattle.ov_ids.specs.Options.{◌>>=◌}
 use Rattle.clap.proofs.OnLiterals.{clap_on_literals}
-use Rattle.clap.proofs.SimpleLemmas.{is_false}
-use Rattle.clap.proofs.WalkLemmas.{both, first_value-rows}
-use Rattle.clap.specs.Words.{AddsArg, AddsSubcommand, App, HasKind, HasMatchesOf, IsAmong, Row, Rule, Text, app_of}
-use Rattle.clap.specs.Words.{fault_of, first_of, first_value, is_simple, is_simple_and_free, kind_of, rows_of, rule_of}
+use Rattle.clap.proofs.WalkLemmas.{first_value-rows}
+use Rattle.clap.specs.Words.{App, HasKind, HasMatchesOf, IsAmong, Row, Text}
+use Rattle.clap.specs.Words.{fault_of, first_of, first_value, is_simple, is_simple_and_free, kind_of, rows_of}
 use Rattle.clap.specs.Words.{subcommand_name_of, subcommand_of, subcommand_rows, subcommand_rows_of}
-use Rattle.clap.specs.Words.{new_app, new_rule, with_rule, with_subcommand}
-use Rattle.clap.specs.declared.builder.arg.Arg.{Arg}
-use Rattle.clap.specs.declared.builder.command.Command.{Command}
 use Rattle.clap.specs.declared.error.Error.{Error}
 use Rattle.clap.specs.declared.error.kind.ErrorKind.{ErrorKind}
 use Rattle.clap.specs.declared.error.kind.ErrorKind.TheVariants.{OutOfMemory as no_memory}
@@ -24,13 +17,12 @@ use Rattle.clap.specs.declared.parser.matches.Found.{Found}
 use Rattle.ov_arguments.specs.Arguments.{AreReadableFor, IsAsked, IsAskedByCommand, command_given}
 use Rattle.ov_arguments.specs.Arguments.{entry_asked, entry_of}
 use Rattle.ov_arguments.specs.Arguments.{fault_of_parse, file_asked, format_of}
-use Rattle.ov_arguments.specs.Arguments.{group_asked, group_list_asked, is_flagged, least_asked, overlay_command}
+use Rattle.ov_command_tree.specs.Commands.{overlay_command}
+use Rattle.ov_command_tree.specs.Flags.{is_flagged}
+use Rattle.ov_arguments.specs.Arguments.{group_asked, group_list_asked, least_asked}
 use Rattle.ov_arguments.specs.Arguments.{text_given, workers_asked}
-use Rattle.ov_arguments.specs.Code.Options.{app_of_row, rule_of_option, with_commands, with_options}
 use Rattle.ov_arguments.specs.declared.arguments.ArgumentsFault.TheVariants.{OutOfMemory}
 use Rattle.ov_arguments.specs.declared.arguments.Request.{Request}
-use Rattle.ov_arguments.specs.declared.clap_commands_and_help.CommandRow.{CommandRow}
-use Rattle.ov_arguments.specs.declared.clap_commands_and_help.OptionRow.{OptionRow}
 use Rattle.ov_arguments.specs.declared.arguments.Request.TheVariants.{Run, Analyse, Import, Picture, Graph, Tell}
 
 -- `clap` says what this command finds
@@ -274,61 +266,3 @@ module _ (command : App) (arguments : List (List ℕ)) (m : ArgMatches) (f : Fou
       → AreReadableFor (Some name) (first_value f)
   readable_given = readable_same (command_given arguments) (Some name) (text_given arguments) (first_value f)
       (command_found command arguments m name is has named) (λ n. given_found command arguments m f n is has rows)
-
--- one argument more
-pub with_one_more : (old new : Command) (arg : Arg) (app : App) (rule : Rule) → AddsArg old arg new → arg.global ≡ false
-    → app_of old ≡ app → rule_of arg ≡ rule
-    → app_of new ≡ with_rule app rule
-with_one_more old new arg app rule adds own is same = adds.shape own ∙ ap₂ with_rule is same
-
--- one subcommand more
-pub with_subcommand_more : (old sub new : Command) (app own : App) → AddsSubcommand old sub new → app_of old ≡ app
-    → app_of sub ≡ own → own.top.is_plain ≡ true
-    → app_of new ≡ with_subcommand app own.top
-with_subcommand_more old sub new app own adds is same plain =
-    let told : (app_of sub).top.is_plain ≡ true = ap (λ (a : App). a.top.is_plain) same ∙ plain in
-    adds.shape (is_false _ (both _ _ (both _ _ (both _ _ told).1).1).0)
-    ∙ ap₂ with_subcommand is (ap (λ (a : App). a.top) same)
-
--- one subcommand more, that a call returned
-pub with_command_more : (old new : Command) (more : Result Command AllocError) (app own : App)
-    → IsOkAnd more (λ m. AddsSubcommand old m new) → IfOk more (λ m. app_of m ≡ own) → app_of old ≡ app
-    → own.top.is_plain ≡ true
-    → app_of new ≡ with_subcommand app own.top
-with_command_more old new (Ok m) app own adds is same plain = with_subcommand_more old m new app own adds same is plain
-with_command_more old new (Err e) app own adds is same plain = absurd adds
-
--- one option more: of a command to which those of a list are added, from a place on
-pub one_option_more : (app : App) (rows : List OptionRow) (i : ℕ) (d : OptionRow) → i < length rows
-    → with_options (with_rule app (rule_of_option (get_or rows i d))) (drop (i + 1) rows)
-    ≡ with_options app (drop i rows)
-unfolding with_options
-one_option_more app rows i d within = sym (at_drop_more (with_options app) rows i d within)
-
--- options leave a command as plain as it was
-options_plain : (app : App) (rows : List OptionRow) → (with_options app rows).top.is_plain ≡ app.top.is_plain
-unfolding with_options
-options_plain app [] = refl
-options_plain app (row ∷ rows) = options_plain (with_rule app (rule_of_option row)) rows
-
--- a command with a file and options is plain
-pub file_and_options_plain : (name : List ℕ) (rows : List OptionRow)
-    → (with_options (with_rule (new_app name) (new_rule (codes "file"))) rows).top.is_plain ≡ true
-file_and_options_plain name rows = options_plain (with_rule (new_app name) (new_rule (codes "file"))) rows
-
--- one command more: of a command to which those of a list are added, from a place on
-pub one_command_more : (app : App) (rows : List CommandRow) (i : ℕ) (d : CommandRow) → i < length rows
-    → with_commands (with_subcommand app (app_of_row (get_or rows i d)).top) (drop (i + 1) rows)
-    ≡ with_commands app (drop i rows)
-unfolding with_commands
-one_command_more app rows i d within = sym (at_drop_more (with_commands app) rows i d within)
-
--- what has the commands of a list below one command has them below an equal one
-pub below_equal : (app own all : App) (rows : List CommandRow) → all ≡ with_commands app rows → app ≡ own
-    → all ≡ with_commands own rows
-below_equal app own all rows is same = is ∙ ap (λ a. with_commands a rows) same
-
--- the list of which a call says that it has its commands below
-abbrev pub rows_below : (result : Result Command AllocError) (app : App) (rows : List CommandRow)
-    → IfOk result (λ c. app_of c ≡ with_commands app rows) → List CommandRow
-rows_below result app rows is = rows

@@ -5,107 +5,24 @@ use Rattle.std.specs.List.{starts_with}
 use Rattle.std.specs.Str.{bytes_eq}
 use Rattle.std.specs.declared.io.ErrorKind.{ErrorKind}
 use Rattle.std.specs.declared.io.ErrorKind.TheVariants.{InvalidData}
-use Rattle.clap.specs.Simple.{on_top}
-use Rattle.clap.specs.Words.{App, Rule, fault_of, first_of, new_app, new_rule, subcommand_of, with_rule}
-use Rattle.clap.specs.Words.{with_subcommand}
-use Rattle.clap.specs.declared.builder.action.ArgAction.TheVariants.{Set, SetTrue}
+use Rattle.clap.specs.Words.{fault_of, first_of, subcommand_of}
 use Rattle.clap.specs.declared.error.kind.ErrorKind.{ErrorKind as ParseErrorKind}
 use Rattle.clap.specs.declared.error.kind.ErrorKind.TheVariants as parse_error
 use Rattle.ov_ids.specs.Options.{◌>>=◌}
 use Rattle.ov_lines.specs.Lines.{ids_of, long_bits, number_within, workers_of}
+use Rattle.ov_command_tree.specs.Commands.{overlay_command}
+use Rattle.ov_command_tree.specs.Flags.{is_flagged}
+use Rattle.ov_command_tree.specs.Telling.{telling_asked}
 use Rattle.ov_arguments.specs.declared.arguments.Request.{Request}
 use Rattle.ov_arguments.specs.declared.arguments.Request.TheVariants.{Run, Analyse, Import, Picture, Graph, Tell}
 use Rattle.ov_arguments.specs.declared.import_and_picture_requests.AskedEntry.{AskedEntry}
 use Rattle.ov_arguments.specs.declared.import_and_picture_requests.AskedEntry.TheVariants.{Pair, Fan}
 use Rattle.ov_arguments.specs.declared.import_and_picture_requests.DumpFormat.{DumpFormat}
 use Rattle.ov_arguments.specs.declared.import_and_picture_requests.DumpFormat.TheVariants.{Views, Edges, Dot}
-use Rattle.ov_arguments.specs.Telling.{telling_asked}
 use Rattle.ov_arguments.specs.declared.arguments.ArgumentsFault.{ArgumentsFault}
 use Rattle.ov_arguments.specs.declared.arguments.ArgumentsFault.TheVariants.{BadArguments, OutOfMemory}
 
 -- ---- what is in the arguments, in the words of `clap`, which says what a command finds in which arguments
-
--- an option with a text, `--NAME TEXT` or `--NAME=TEXT`
-abbrev pub option : List ℕ → Rule
-option name = record (new_rule name) { long = Some name; action = Some Set }
-
--- an option without a text, `--NAME`
-abbrev pub flag : List ℕ → Rule
-flag name = record (new_rule name) { long = Some name; action = Some SetTrue }
-
--- `run [FILE] [--explain] [--strict] [--progress]`
-abbrev pub run_command : App
-run_command =
-    with_rule
-    (with_rule
-    (with_rule (with_rule (new_app (codes "run")) (new_rule (codes "file"))) (flag (codes "explain")))
-    (flag (codes "strict")))
-    (flag (codes "progress"))
-
--- `analyse [FILE] [--group TEXT] [--without TEXT] [--at-least TEXT] [--workers TEXT] [--certificate] [--names]
--- [--explain] [--progress]`
-abbrev pub analyse_command : App
-analyse_command =
-    with_rule
-    (with_rule
-    (with_rule
-    (with_rule
-    (with_rule
-    (with_rule
-    (with_rule
-    (with_rule (with_rule (new_app (codes "analyse")) (new_rule (codes "file"))) (option (codes "group")))
-    (option (codes "without")))
-    (option (codes "at-least")))
-    (option (codes "workers")))
-    (flag (codes "certificate")))
-    (flag (codes "names")))
-    (flag (codes "explain")))
-    (flag (codes "progress"))
-
--- `import [FILE] [--views] [--edges] [--dot] [--either] [--entries]`
-abbrev pub import_command : App
-import_command =
-    with_rule
-    (with_rule
-    (with_rule
-    (with_rule
-    (with_rule (with_rule (new_app (codes "import")) (new_rule (codes "file"))) (flag (codes "views")))
-    (flag (codes "edges")))
-    (flag (codes "dot")))
-    (flag (codes "either")))
-    (flag (codes "entries"))
-
--- `picture [FILE] [--names TEXT] [--pair TEXT] [--fan TEXT] [--dot]`
-abbrev pub picture_command : App
-picture_command =
-    with_rule
-    (with_rule
-    (with_rule
-    (with_rule (with_rule (new_app (codes "picture")) (new_rule (codes "file"))) (option (codes "names")))
-    (option (codes "pair")))
-    (option (codes "fan")))
-    (flag (codes "dot"))
-
--- `graph [FILE]`
-abbrev pub graph_command : App
-graph_command = with_rule (new_app (codes "graph")) (new_rule (codes "file"))
-
--- `overlay` alone; its own name is none of the arguments
-abbrev pub overlay_app : App
-overlay_app = on_top (λ s. record s { no_binary_name = true }) (new_app (codes "overlay"))
-
--- `overlay` with these five
-abbrev pub overlay_command : App
-overlay_command =
-    with_subcommand
-    (with_subcommand
-    (with_subcommand
-    (with_subcommand
-    (with_subcommand overlay_app run_command.top)
-    analyse_command.top)
-    import_command.top)
-    picture_command.top)
-    graph_command.top
 
 -- the name of the command that the arguments give, if they give one
 abbrev pub command_given : List (List ℕ) → Option (List ℕ)
@@ -168,11 +85,6 @@ workers_asked (Some text) = workers_of text
 abbrev pub file_asked : Option (List ℕ) → Option (List ℕ)
 file_asked None = None
 file_asked (Some text) = if bytes_eq text (codes "-") then None else Some text
-
--- whether the text of a flag says that it is there
-abbrev pub is_flagged : Option (List ℕ) → Bool
-is_flagged None = false
-is_flagged (Some text) = bytes_eq text (codes "true")
 
 -- the form of a dump that the flags of `import` ask for: that of the one that is there. None of them asks for the form
 -- that the dump itself suggests, and two for nothing

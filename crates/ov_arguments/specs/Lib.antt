@@ -1,5 +1,1 @@
 pub mod Arguments
-pub mod CommandNames
-pub mod GrowArguments
-pub mod Code
-pub mod Telling

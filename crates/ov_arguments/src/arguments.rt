@@ -2,21 +2,19 @@ ghost use Rattle.std.specs.Prelude.{◌≡◌, ◌≢◌, ◌<◌, length, map, 
 ghost use Rattle.std.specs.Prelude.{option_map, IfOk, IfSome, IsErrOf};
 ghost use Rattle.std.specs.IoError.{error_kind};
 ghost use Rattle.clap.specs.Words.{found_of, first_value};
+ghost use Rattle.ov_command_tree.specs.Flags.{is_flagged};
 ghost use Rattle.ov_arguments.specs.Arguments.{AreReadable, AreReadableFor, AreTaken, AreTakenAsCommand, HasGroupOfIds};
 ghost use Rattle.ov_arguments.specs.Arguments.{IsAsked, IsAskedByCommand, IsOfGiven, entry_of, file_asked, group_asked};
-ghost use Rattle.ov_arguments.specs.Arguments.{group_list_asked, is_flagged};
+ghost use Rattle.ov_arguments.specs.Arguments.{group_list_asked};
 ghost use Rattle.ov_arguments.specs.Arguments.{is_read_later, least_asked, least_of, workers_asked};
 ghost use Rattle.ov_arguments.specs.Arguments.{fault_of_parse, fault_of_text, format_of, number_of};
 ghost use Rattle.ov_arguments.specs.declared.arguments.ArgumentsFault.TheVariants.{BadArguments};
 ghost use Rattle.ov_arguments.specs.declared.arguments.ArgumentsFault.TheVariants.{OutOfMemory as out_of_memory};
 
-use crate::clap_commands_and_help::command;
-use crate::help_and_version::{Telling, telling_asked};
-use crate::import_and_picture_requests::{
-    ImportRequest, PictureRequest, import_of, picture_of, text_of,
-};
+use crate::import_and_picture_requests::{ImportRequest, PictureRequest, import_of, picture_of};
 use clap::error::ErrorKind;
 use clap::{ArgMatches, Error as ClapError};
+use ov_command_tree::{Telling, command, has_flag, telling_asked, text_of};
 use ov_ids::{NodeId, OutOfMemory, Workers};
 use ov_lines::{read_ids, read_number, read_workers};
 use std::alloc::{AllocError, Global};
@@ -326,16 +324,6 @@ fn file_of(alloc: Global, matches: &ArgMatches) -> Result<Option<String>, AllocE
         return Ok(None);
     }
     Ok(Some(String::from_str(alloc, file)?))
-}
-
-/// Whether a flag is there.
-pub(crate) fn has_flag(matches: &ArgMatches, name: &str) -> bool
-    ensures { result ≡ is_flagged (first_value (found_of matches.now) name.now) }
-{
-    let Some(text) = matches.get_str(name) else {
-        return false;
-    };
-    text == "true"
 }
 
 /// The ids of the group that is given, or nothing. A list that is read later is asked for by its text.

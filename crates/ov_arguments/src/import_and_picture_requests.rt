@@ -1,14 +1,16 @@
 ghost use Rattle.std.specs.Prelude.{◌≡◌, codes, string_bytes, option_map, Some, None, IfOk, IsErrOf};
 ghost use Rattle.clap.specs.Words.{found_of, first_value};
 ghost use Rattle.ov_lines.specs.Lines.{ids_of};
-ghost use Rattle.ov_arguments.specs.Arguments.{entry_of, fan_asked, format_asked, format_of, is_flagged, pair_asked};
+ghost use Rattle.ov_arguments.specs.Arguments.{entry_of, fan_asked, format_asked, format_of, pair_asked};
+ghost use Rattle.ov_command_tree.specs.Flags.{is_flagged};
 ghost use Rattle.ov_arguments.specs.declared.arguments.ArgumentsFault.TheVariants.{BadArguments};
 
-use crate::arguments::{ArgumentsFault, has_flag};
+use crate::arguments::ArgumentsFault;
 use clap::ArgMatches;
+use ov_command_tree::{has_flag, text_of};
 use ov_ids::{NodeId, OutOfMemory};
 use ov_lines::read_ids;
-use std::alloc::{AllocError, Global};
+use std::alloc::Global;
 
 /// The form of a dump.
 #[derive(Clone, Copy)]
@@ -104,21 +106,6 @@ pub(crate) fn picture_of(
         entry,
         dot: has_flag(found, "dot"),
     })
-}
-
-/// The text of an option, if it is there.
-pub(crate) fn text_of(
-    alloc: Global,
-    found: &ArgMatches,
-    name: &str,
-) -> Result<Option<String>, AllocError>
-    ensures { IfOk result
-        (λ text. first_value (found_of found.now) name.now ≡ option_map string_bytes text) }
-{
-    let Some(text) = found.get_str(name) else {
-        return Ok(None);
-    };
-    Ok(Some(String::from_str(alloc, text)?))
 }
 
 /// The entry that the two options ask for.

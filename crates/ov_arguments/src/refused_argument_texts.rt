@@ -1,13 +1,10 @@
-use crate::argument_tips::{joined_list, push_list, with_tip};
 use crate::arguments::{is_read_later, read_least};
 use crate::certificate_option_tip::certificate_tip;
-use crate::clap_commands_and_help::command;
-use crate::command_name_check::is_command;
-use crate::grow_and_sweep_clap_commands::command_tree;
 use clap::error::ErrorKind;
 use clap::{ArgMatches, Command};
+use ov_argument_tips::{joined_list, push_list, shown, with_tip};
+use ov_command_tree::{command, command_tree, is_command};
 use ov_ids::OutOfMemory;
-use ov_io::shown_name;
 use ov_lines::{comma_hint, read_ids, read_workers};
 use std::alloc::{AllocError, Global};
 use std::fmt::Write;
@@ -107,16 +104,6 @@ fn told_by<'a>(alloc: Global, arguments: &[String]) -> Result<Command<'a>, Alloc
 /// Whether a text is letters alone.
 fn is_word(text: &str) -> bool {
     text.bytes().all(|byte| byte.is_ascii_alphabetic())
-}
-
-/// The arguments as a person can read them, each on one line: control characters are shown as their codes. None of
-/// them is part of the name of an option, of ids or of a number, so that nothing else is wrong with what is shown.
-pub(crate) fn shown(alloc: Global, arguments: &[String]) -> Result<Vec<String>, AllocError> {
-    let mut shown = Vec::new(alloc);
-    for argument in arguments {
-        shown.push(shown_name(alloc, argument.as_str())?)?;
-    }
-    Ok(shown)
 }
 
 /// What is wrong with the texts that a command was given, if they ask for nothing.

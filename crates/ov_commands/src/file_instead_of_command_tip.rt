@@ -1,4 +1,4 @@
-use ov_arguments::is_command;
+use ov_command_tree::is_command;
 use ov_lines::{command_tip, is_folder, kind_of_file};
 use ov_reasons::{print_folder_tip, print_tip};
 

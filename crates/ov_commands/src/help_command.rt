@@ -6,7 +6,7 @@ ghost use Rattle.ov_commands.specs.Statuses.{HasDone};
 use crate::command_fault::CommandFault;
 use crate::file_conversion_commands::status_of;
 use crate::graph_file_out_of_certificate_file::written;
-use ov_arguments::{Telling, telling_text};
+use ov_command_tree::{Telling, telling_text};
 use ov_io::Sink;
 use ov_reasons::without_memory;
 use std::io::Write;
