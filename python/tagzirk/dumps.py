@@ -9,7 +9,7 @@ import re
 import sys
 from dataclasses import dataclass, field, replace
 from functools import lru_cache
-from typing import Dict, List, NamedTuple, Optional, Sequence, TextIO, Tuple
+from typing import Dict, List, NamedTuple, Optional, Sequence, TextIO, Tuple, Union
 
 from .asked import Asked, demand_used
 from .beside import plain_lines
@@ -296,28 +296,34 @@ def dump_of(
     views = listings_of(data, name, options.asked)
     if views is None and options.only:
         views = plain_views(decoded(data), form)
-    beside: List[str] = []
-    if views is None:
-        own = [f"--{options.asked.form}"] if options.asked.form in NATIVE else []
-        try:
-            dump = imported(data, name, [*own, *options.words], notes, overlay)
-        except Refused as why:
-            if not any(it in why.reason for it in OF_DOT):
-                raise
-            views = of_dot(decoded(data))
-        else:
-            views = more_in_dot(data, dump, options, overlay)
-            lines = plain_lines(decoded(data)) if form in OF_LINES else Views()
-            if options.asked.up and any(it.said for it in lines.statements):
-                views = lines
-            elif views is None:
-                beside = taken_of(lines, options.asked._replace(up=()))[1]
-    if views is None:
+    found = natively(data, name, form, options, notes, overlay) if views is None else views
+    if isinstance(found, Dump):
         demand_used(options.asked, "nothing but names stands in it", "form", "skip")
+        dump = found
     else:
-        dump = of_views(views, name, options, [*notes, f"{name} was read as {views.kind}"], overlay)
-    dump = replace(dump, notes=(*dump.notes, *beside))
+        dump = of_views(found, name, options, [*notes, f"{name} was read as {found.kind}"], overlay)
     return with_notes(dump, lines_in(decoded(data)) if form in OF_LINES else [])
+
+
+def natively(
+    data: bytes, name: str, form: str, options: Options, notes: Sequence[str], overlay: Optional[Program]
+) -> Union[Dump, Views]:
+    """A dump of a form of `overlay import`, as this reads it, with what stands behind and between its lines; or what it
+    says, if DOT says more than that, or if a person says what is up."""
+    own = [f"--{options.asked.form}"] if options.asked.form in NATIVE else []
+    try:
+        dump = imported(data, name, [*own, *options.words], notes, overlay)
+    except Refused as why:
+        if not any(it in why.reason for it in OF_DOT):
+            raise
+        return of_dot(decoded(data))
+    views = more_in_dot(data, dump, options, overlay)
+    if views is not None or form not in OF_LINES:
+        return views or dump
+    lines = plain_lines(decoded(data))
+    if options.asked.up and any(it.said for it in lines.statements):
+        return lines
+    return replace(dump, notes=(*dump.notes, *taken_of(lines, options.asked._replace(up=()))[1]))
 
 
 def with_only(dump: Dump, patterns: Sequence[str]) -> Dump:
