@@ -40,7 +40,8 @@ def take_leftovers(views: Views, value: Any, used: Used) -> None:
     ([('at', 7)], {'lost': 'listed'})
     """
     names = used.names or {it: it for it in views.peers}
-    for key, inner in left_in(value, {id(it) for it in used.parts}, "", MOST_DEEP) or ():
+    parts = {id(it) for it in used.parts if it is not None}
+    for key, inner in left_in(value, parts, "", MOST_DEEP) or ():
         take(views, key, inner, names, MOST_DEEP)
 
 

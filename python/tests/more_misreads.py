@@ -155,6 +155,7 @@ TOLD = [
     ("list.adjlist", "".join(f"{it}: {' '.join(others(it))}{' # away' if it == 'n3' else ''}\n" for it in HOSTS),
      "comment (missing: 5, away: 1)"),
     ("arrows.edges", "".join(f"{a} <-> {b}{'' if is_up(a, b) else ' # away'}\n" for a, b in ALL), "comment (away: 8"),
+    ("two-arrows.edges", lines("", "{a} {it} {b}", "<->", "<=>"), "arrow is <=> (8) or <-> (7)"),
     ("cluster.dot", "graph {\n" + dead_lines("", "{a} -- {b};\n") + "subgraph cluster_old { n0 } }", "subgraph ("),
     ("defaults.dot", "graph { node [z=1]; n0;\n node [z=2];\n" + dead_lines("", "{a} -- {b};\n") + "}",
      "z (2: 6, 1: 1)"),
