@@ -6,6 +6,7 @@ from __future__ import annotations
 from typing import Any, List, Mapping, NamedTuple, Optional, Set, Tuple
 
 from .errors import BadDump
+from .hosts import LISTED
 from .values import Said, Scalar, Views, is_scalar, item_of, said_of, text_in
 
 # Deeper than this nothing is read by itself.
@@ -18,8 +19,6 @@ OF_FORMS = {
     "type": ("NetworkGraph", "NetworkCollection"),
 }
 NOTHING: Tuple[Any, ...] = (None, "", [], {})
-# What is said of a host that a list names.
-LISTED = "listed"
 
 
 class Used(NamedTuple):

@@ -129,6 +129,8 @@ TOLD = [
     ("sessions.json", json.dumps(dead_hosts(lambda it: {"sessions": 3}, {"sessions": 0})),
      "sessions is 3 (6) or 0 (1)"),
     ("stopped", TREES, "shutdown is missing (5) or clean (1)"),
+    ("all-listed.json", json.dumps(dead_hosts(lambda it: {}, {"peers_down": HOSTS})),
+     "peers_down is missing (20) or listed (6)"),
     ("hosts-lists.json", each(lambda it: {"peers": others(it), "z": [*up_of(it), "n9"]}), "--peers KEY"),
     # comments, texts and names
     ("comment.yaml", "# n3 is down\n" + yaml("z: 1", "z: 1"), "comments (# n3 is down)"),
