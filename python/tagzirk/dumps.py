@@ -30,9 +30,9 @@ from .texts import decoded, text_of
 from .values import Views
 
 GRAPH_FILE = re.compile(r"(?:[ \t\r]*(?:#[^\n]*)?\n)*[ \t\r]*(?:node|link) +\d")
+# The first line of a graph file that `tagzirk mend` wrote.
+OF_MEND = re.compile(r"# tagzirk mend --to [0-9]+")
 NAME = re.compile(r"# ([0-9]+) (.*)")
-# How the first line begins of a graph file that a command of this package wrote.
-OWN_MARK = "# tagzirk "
 ONE_SIDED = re.compile(r"^listed by one end only: (\d+)$", re.MULTILINE)
 WITHOUT_ENTRY = re.compile(r"^listed without an entry: (\d+)$", re.MULTILINE)
 # What overlay says of a first line that may be a header.
@@ -134,14 +134,13 @@ def read_graph_file(text: str) -> NamedGraph[str]:
 
 
 def comments_of(text: str) -> List[str]:
-    """The comments in a graph file that name no node, and are no first line that a command of this package writes.
+    """The comments in a graph file that name no node, but for the first line, if `tagzirk mend` wrote it.
 
     >>> comments_of("# tagzirk mend --to 2\\n# of today\\n# 4 oslo\\nnode 4\\n# 7 rome\\nlink 4 7  # slow\\n")
     ['# of today', '# 7 rome', '# slow']
     """
     lines = [it.strip() for it in text.split("\n")]
-    if lines[0].startswith(OWN_MARK):
-        lines[0] = ""
+    lines[0] = "" if OF_MEND.fullmatch(lines[0]) else lines[0]
     found = []
     for line, below in zip(lines, [*lines[1:], ""]):
         said, words = NAME.fullmatch(line), below.split()

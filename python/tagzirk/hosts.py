@@ -9,6 +9,10 @@ from .errors import BadDump
 from .values import PEER_KEYS, Said, Scalar, Views, is_list_of_names, items_of, key_in, one_of, said_of, short, text_in
 
 
+# What a further list says of each peer that it names.
+LISTED = "listed"
+
+
 class SeveralLists(BadDump):
     """Hosts have several lists, any of which may have their peers."""
 
@@ -138,7 +142,7 @@ def said_of_each(
         if others == names or not any(isinstance(it, (dict, list)) for it in value.values()):
             return by_field(items_of(value, by))
     if names and others == names:
-        return by_field(items_of(value, by)) if not is_list_of_names(value) else {}
+        return by_field(items_of(value, by)) if not is_list_of_names(value) else {"": dict.fromkeys(names, LISTED)}
     if is_list_of_names(value) and isinstance(peers, list) and len(value) == len(peers) > 1:
         if not (others or set()) & names:
             return {"": {name: it for (name, _), it in zip(items_of(peers, by), value)}}

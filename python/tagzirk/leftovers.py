@@ -6,6 +6,7 @@ from __future__ import annotations
 from typing import Any, List, Mapping, NamedTuple, Optional, Set, Tuple
 
 from .errors import BadDump
+from .hosts import LISTED
 from .values import Said, Scalar, Views, is_scalar, item_of, said_of, text_in
 
 # Deeper than this nothing is read by itself.
@@ -18,8 +19,6 @@ OF_FORMS = {
     "type": ("NetworkGraph", "NetworkCollection"),
 }
 NOTHING: Tuple[Any, ...] = (None, "", [], {})
-# What is said of a host that a list names.
-LISTED = "listed"
 
 
 class Used(NamedTuple):
@@ -40,7 +39,8 @@ def take_leftovers(views: Views, value: Any, used: Used) -> None:
     ([('at', 7)], {'lost': 'listed'})
     """
     names = used.names or {it: it for it in views.peers}
-    for key, inner in left_in(value, {id(it) for it in used.parts}, "", MOST_DEEP) or ():
+    parts = {id(it) for it in used.parts if it is not None}
+    for key, inner in left_in(value, parts, "", MOST_DEEP) or ():
         take(views, key, inner, names, MOST_DEEP)
 
 

@@ -173,12 +173,13 @@ def chain_of(text: str) -> Chain:
 
 def of_arrows(rows: List[Row]) -> Views:
     """Names with arrows between them; of a chain each arrow is by itself."""
-    views, all_arrows = Views("lines of names with an arrow: a -> b says that a lists b"), set()
-    for row in rows:
-        chain = chain_of(row.text)
+    views = Views("lines of names with an arrow: a -> b says that a lists b")
+    chains = [chain_of(row.text) for row in rows]
+    all_arrows = {arrow for chain in chains for arrow in chain.arrows}
+    for row, chain in zip(rows, chains):
         for one, arrow, other in zip(chain.names, chain.arrows, chain.names[1:]):
-            views.edge(one, other, arrow.endswith(">") and not arrow.startswith("<"), said_behind(row))
-            all_arrows.add(arrow)
+            said = {**said_behind(row), **({"arrow": arrow} if len(all_arrows) > 1 else {})}
+            views.edge(one, other, arrow.endswith(">") and not arrow.startswith("<"), said)
     if all(it.startswith("<") or not it.endswith(">") for it in all_arrows):
         views.kind = "lines of two names, each a link"
     return views

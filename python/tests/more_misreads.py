@@ -129,6 +129,8 @@ TOLD = [
     ("sessions.json", json.dumps(dead_hosts(lambda it: {"sessions": 3}, {"sessions": 0})),
      "sessions is 3 (6) or 0 (1)"),
     ("stopped", TREES, "shutdown is missing (5) or clean (1)"),
+    ("all-listed.json", json.dumps(dead_hosts(lambda it: {}, {"peers_down": HOSTS})),
+     "peers_down is missing (20) or listed (6)"),
     ("hosts-lists.json", each(lambda it: {"peers": others(it), "z": [*up_of(it), "n9"]}), "--peers KEY"),
     # comments, texts and names
     ("comment.yaml", "# n3 is down\n" + yaml("z: 1", "z: 1"), "comments (# n3 is down)"),
@@ -155,6 +157,7 @@ TOLD = [
     ("list.adjlist", "".join(f"{it}: {' '.join(others(it))}{' # away' if it == 'n3' else ''}\n" for it in HOSTS),
      "comment (missing: 5, away: 1)"),
     ("arrows.edges", "".join(f"{a} <-> {b}{'' if is_up(a, b) else ' # away'}\n" for a, b in ALL), "comment (away: 8"),
+    ("two-arrows.edges", lines("", "{a} {it} {b}", "<->", "<=>"), "arrow is <=> (8) or <-> (7)"),
     ("cluster.dot", "graph {\n" + dead_lines("", "{a} -- {b};\n") + "subgraph cluster_old { n0 } }", "subgraph ("),
     ("defaults.dot", "graph { node [z=1]; n0;\n node [z=2];\n" + dead_lines("", "{a} -- {b};\n") + "}",
      "z (2: 6, 1: 1)"),
