@@ -26,7 +26,6 @@ use Rattle.ov_grow.specs.MessageCosts.{AreCostsBy, cost_of, made_in}
 use Rattle.ov_sweep.specs.PhaseCosts.{phase_costs}
 use Rattle.ov_sweep.specs.Rows.{AreNumbersOf, ArePhaseCosts, IsAsked, IsLeastDegree, IsShapeOf, IsShare, IsToldOf}
 use Rattle.ov_sweep.specs.Rows.{OneRow}
-use Rattle.ov_grow.specs.declared.broadcast_log.BroadcastMark.{BroadcastMark}
 use Rattle.ov_grow.specs.declared.message_cost.MessageCost.{MessageCost}
 use Rattle.ov_sweep_rows.specs.declared.costs_and_shape.Measures.{Measures}
 use Rattle.ov_sweep_rows.specs.declared.costs_and_shape.PhaseCosts.{PhaseCosts}
@@ -92,7 +91,7 @@ one_asked IsRight one true (Some x) None a b = absurd b
 one_asked IsRight one false x y a b = a ∙ sym b
 
 -- where growing stands, broadcasts have one list of costs
-pub one_costs_by : (log : Option (List BroadcastMark)) (s : Growth) (cs ds : List MessageCost) → AreCostsBy log s cs
+pub one_costs_by : (log : _) (s : Growth) (cs ds : List MessageCost) → AreCostsBy log s cs
     → AreCostsBy log s ds → cs ≡ ds
 one_costs_by None s cs ds a b = a ∙ sym b
 one_costs_by (Some marks) s cs ds (live, are, is) (nodes, also, same) =
