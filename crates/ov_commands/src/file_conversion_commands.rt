@@ -29,12 +29,12 @@ pub fn import_asked(
 {
     tell_typing(rt, file.as_deref(), FileKind::Views);
     let mut sink = Sink::new(rt.stdout());
-    match file.as_deref() {
-        None => import_from(rt, rt.stdin(), None, dump, &mut sink),
-        Some(path) => {
-            let reader = opened(rt, path)?;
-            import_from(rt, reader, Some(path), dump, &mut sink)
-        }
+    let Some(path) = file.as_deref() else {
+        return import_from(rt, rt.stdin(), None, dump, &mut sink);
+    };
+    match opened(rt, path) {
+        Ok(reader) => import_from(rt, reader, Some(path), dump, &mut sink),
+        Err(fault) => Err(CommandFault::Run(fault)),
     }
 }
 
@@ -136,12 +136,12 @@ pub fn graph_asked(rt: &HostRuntime, file: Option<String>) -> Result<u8, Command
 {
     tell_typing(rt, file.as_deref(), FileKind::Certificate);
     let mut sink = Sink::new(rt.stdout());
-    match file.as_deref() {
-        None => graph_from(rt, rt.stdin(), None, &mut sink),
-        Some(path) => {
-            let reader = opened(rt, path)?;
-            graph_from(rt, reader, Some(path), &mut sink)
-        }
+    let Some(path) = file.as_deref() else {
+        return graph_from(rt, rt.stdin(), None, &mut sink);
+    };
+    match opened(rt, path) {
+        Ok(reader) => graph_from(rt, reader, Some(path), &mut sink),
+        Err(fault) => Err(CommandFault::Run(fault)),
     }
 }
 
