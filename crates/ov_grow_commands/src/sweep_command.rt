@@ -88,7 +88,10 @@ fn print_rows(rt: &HostRuntime, rows: &[Row]) -> Result<(), GrowCommandFault> {
     let header = header_text(rt.alloc(), form)?;
     let mut sink = Sink::new(rt.stdout());
     sink.write_all(&header)?;
-    Ok(write_rows(rt.alloc(), form, rows, &mut sink)?)
+    match write_rows(rt.alloc(), form, rows, &mut sink) {
+        Ok(()) => Ok(()),
+        Err(fault) => Err(GrowCommandFault::from(fault)),
+    }
 }
 
 /// Grows the overlays of a sweep, and prints their rows, or what is told of them, and writes the picture if one is
