@@ -117,6 +117,9 @@ def pajek(text: str) -> Graph:
                 graph.link(words[0], other, section == "*arcslist", relation)
         else:
             raise BadDump(f"{line.place}a line of Pajek stands before any section")
+    lacking = next((it for it in graph.hosts if told and it not in told), None)
+    if lacking:
+        raise BadDump(f"it declares {len(graph.hosts)} vertices, and {lacking} has no line of its own: is it torn?")
     return graph
 
 
@@ -242,7 +245,8 @@ def line_points(line: Line, word: str) -> int:
 def plain(text: str) -> Graph:
     """What `dot -Tplain` writes: where each node stands, and each edge."""
     graph = Graph("Graphviz' plain text, each edge a link, since it does not say directions")
-    for line in lines_of(text):
+    lines = lines_of(text)
+    for line in lines:
         words = line.words
         if words[0] == "node":
             words = need_words(line, 11)
@@ -254,6 +258,8 @@ def plain(text: str) -> Graph:
             said = dict(zip(("style", "color"), behind[-2:]))
             graph.link(words[1], words[2], False, {**({"label": " ".join(behind[:-4])} if behind[4:] else {}), **said})
         elif words[0] == "stop":
+            for it in [" ".join(words[1:]), *(it.text for it in lines)]:
+                graph.beside += [("behind stop", it)] if it else []
             return graph
         elif words[0] != "graph":
             raise BadDump(f"{line.place}a line of such a text begins with node, edge or stop")
