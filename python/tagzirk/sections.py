@@ -237,6 +237,19 @@ def is_tgf(text: str) -> bool:
     return has_names and bool(ends) and all(len(it) == 2 and set(it) <= known for it in ends)
 
 
+def looks_like_tgf(text: str) -> bool:
+    """Whether a text looks like TGF, whatever does not fit in it: one line or two are # alone, and above the first each
+    line is a whole number and a label that is none, and below it begin lines with two whole numbers."""
+    if not re.search(r"^[ \t]*#[ \t\r]*$", text, re.MULTILINE):
+        return False
+    lines = [line.text for line in lines_of(text)]
+    at = lines.index("#")
+    above = [re.fullmatch(r"[0-9]+[ \t]+(.*\S)", it) for it in lines[:at]]
+    has_labels = any(it and not re.match(r"[0-9.]+(?:\s|$)", it[1]) for it in above)
+    below = [it for it in lines[at + 1 :] if it != "#"]
+    return all(above) and has_labels and bool(below) and all(re.match(r"[0-9]+\s+[0-9]+(?:\s|$)", it) for it in below)
+
+
 def line_points(line: Line, word: str) -> int:
     """How many points the line of an edge has."""
     return Line(line.number, word).numbers(1)[0]

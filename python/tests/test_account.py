@@ -1,6 +1,7 @@
 """Tests of the account of a dump: in each form, whatever stands there beside hosts and links is named in a note, and a
 dump of hosts and links alone has none. They need the program overlay."""
 
+import gzip
 import pathlib
 import re
 import tempfile
@@ -261,6 +262,26 @@ class Accounts(Dumps):
                     found = self.told(name, filled(template, texts), *(words or [{}]))
                     self.assertIn(told, found)
                     self.assertEqual(bool(told), bool(found), found)
+
+    def test_the_header_of_gzip_is_told(self):
+        packed = gzip.compress(b"a b\nb c\na c\n", mtime=0)
+        for flags, more, told in ((0, b"", ""), (8, b"net.edges\0", ""), (8, b"odd\0", "name in gzip (odd)"),
+                                  (16, b"odd\0", "comment of gzip (odd)"),
+                                  (28, b"\1\0xnet.edges\0odd\0", "comment of gzip (odd)")):
+            place = self.room / "net.edges.gz"
+            place.write_bytes(packed[:3] + bytes([flags]) + packed[4:10] + more + packed[10:])
+            with self.subTest(flags=flags, more=more):
+                doubts = doubts_in(self.read(str(place)).notes)
+                self.assertEqual(doubts, [f"not read as states: {told}"] if told else [])
+
+    def test_what_does_not_fit_is_refused(self):
+        for name, text, told in (
+            ("net.tgf", "1 a\n2 b\n#\n1 2\n2 3\n1 3\n", "it looks like TGF and does not fit"),
+            ("net.tgf", "1 a\n2 b\n3 c\n#\n1 2\n2 3\n#\n1 3\n", "it looks like TGF and does not fit"),
+            ("net.net", '*Vertices 3\n1 "a"\n2 "b"\n*Edges\n1 2\n2 3\n1 3\n', "3 has no line of its own"),
+        ):
+            with self.subTest(text):
+                self.assertIn(told, self.told(name, text, {}))
 
     def test_each_form_is_there(self):
         there = {"csv", "weighted", "adjacency", "gexf"}  # these are in it as lines, and as XML
