@@ -110,7 +110,7 @@ def says_nothing(field: Field) -> bool:
 def item_of(field: Field) -> Item:
     """A field that was not used."""
     said = sum(field.counts.values()) - field.missing
-    name = f"column {field.name}" if field.name.isdigit() else shown(field.name)
+    name = f"column {field.name}" if field.name.isdigit() else shown(field.name) or '""'
     counts = patterns_of(field)
     whole = said + field.missing
     of, rank = f"of {whole} {field.of if whole != 1 else field.of[:-1]}", rank_of(field, counts)

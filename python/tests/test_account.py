@@ -283,6 +283,21 @@ class Accounts(Dumps):
             with self.subTest(text):
                 self.assertIn(told, self.told(name, text, {}))
 
+    def test_fields_without_room_are_named(self):
+        columns = [f"c{at}" for at in range(40)]
+        rows = [["a", "b", "x", *"1" * 40], ["b", "c", "y", *"0" * 40]]
+        lines = [["source", "target", "status", *columns], *rows]
+        told = self.told("net.csv", "".join(",".join(it) + "\n" for it in lines), {})
+        self.assertIn("and c4, c5, c6", told)
+        self.assertIn("c27 and 12 more fields", told)
+        links = '[{"source": "a", "target": "b", "": 1}, {"source": "b", "target": "c", "": 2}]'
+        named = self.told("net.json", links, {})
+        self.assertIn('of 2 links "" is 1 (1) or 2 (1)', named)
+
+    def test_a_count_that_fits_is_no_news(self):
+        rows = "+---+---+\n| source | target |\n+---+---+\n| a | b |\n| b | c |\n| a | c |\n+---+---+\n3 rows in set\n"
+        self.assertEqual([it for it in self.read(self.put("net.txt", rows)).notes if "footer" in it], [])
+
     def test_each_form_is_there(self):
         there = {"csv", "weighted", "adjacency", "gexf"}  # these are in it as lines, and as XML
         for name, template, _, *words in CASES:
