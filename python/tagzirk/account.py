@@ -7,7 +7,8 @@ import collections
 import re
 from typing import Dict, List, NamedTuple, Sequence
 
-from .fields import MISSING, Field, number_of, text_of, words_of
+from .fields import MISSING, Field, moment_of, number_of, text_of, words_of
+from .graph_files import NAME_OF_GRAPH, WRITTEN_AT, WRITTEN_BY
 from .graphs import shown
 from .states import NOTHING, NUMBERS, STATE_NAMES, STATE_WORDS
 from .values import Views
@@ -66,8 +67,24 @@ def grouped(views: Views) -> Dict[str, List[str]]:
     """What stands beside hosts and links: all values of each thing."""
     found: Dict[str, List[str]] = {}
     for what, value in views.beside:
-        found.setdefault(what, []).append(text_of(value))
+        if is_news(what, text_of(value)):
+            found.setdefault(what, []).append(text_of(value))
     return found
+
+
+def is_news(what: str, value: str) -> bool:
+    """Whether something beside hosts and links says more than a name of the graph of one word, or by which program or
+    when a graph file was written.
+
+    >>> [is_news("name of the graph", it) for it in ("overlay1", "without_n3")] + [is_news("written by", "down")]
+    [False, True, True]
+    """
+    words = {it for it in words_of(value) if not it.isdigit()}
+    if words & STATE_WORDS:
+        return True
+    if what == NAME_OF_GRAPH:
+        return len(words) > 1 or not re.fullmatch("[A-Za-z]*[0-9]*", value)
+    return what != WRITTEN_BY and (what != WRITTEN_AT or moment_of(value) is None)
 
 
 def is_state(what: str, values: Sequence[str]) -> bool:
@@ -93,7 +110,7 @@ def says_nothing(field: Field) -> bool:
 def item_of(field: Field) -> Item:
     """A field that was not used."""
     said = sum(field.counts.values()) - field.missing
-    name = f"column {field.name}" if field.name.isdigit() else shown(field.name)
+    name = f"column {field.name}" if field.name.isdigit() else shown(field.name) or '""'
     counts = patterns_of(field)
     whole = said + field.missing
     of, rank = f"of {whole} {field.of if whole != 1 else field.of[:-1]}", rank_of(field, counts)

@@ -8,6 +8,7 @@ import re
 from typing import Dict, Iterable, Iterator, List, NamedTuple, Optional, Tuple
 
 from .errors import BadDump
+from .graph_files import NAME_OF_GRAPH
 from .limits import DEEPEST, MOST_IMPLIED, need_few, need_few_implied
 from .values import Scalar, Views
 
@@ -106,7 +107,7 @@ class Reader:
         self.own: Dict[str, None] = {}
         self.edges: List[Tuple[str, str, Attributes]] = []
         self.ports: Dict[str, str] = {}
-        self.implied = 0
+        self.implied, self.unnamed = 0, 0
         # what is neither a node nor an edge, nor said of one
         self.beside: List[Tuple[str, Scalar]] = []
 
@@ -149,7 +150,7 @@ class Reader:
         """Reads the whole text. Whether its arrows are `->`."""
         self.take("strict")
         self.arrow = "->" if self.need("graph", "digraph") == "digraph" else "--"
-        self.leave("name of the graph", self.name())
+        self.leave(NAME_OF_GRAPH, self.name())
         self.need("{")
         while self.parts:
             self.statement(self.parts[-1])
@@ -175,6 +176,8 @@ class Reader:
                 raise self.fault(f"{kind} has a meaning in DOT: a host of this name needs quotes")
             said = self.list()
             part.defaults[kind].update(said)
+            for name in part.nodes if kind == "node" else ():
+                self.attributes[name].update(self.of_members(part, name, said))
             for key, value in said.items() if kind == "graph" else ():
                 self.leave(f"{part.name or 'graph'}.{key}", value)
             if len(part.defaults[kind]) > MOST_DEFAULTS:
@@ -206,14 +209,23 @@ class Reader:
         if name not in self.attributes:
             need_few(len(self.attributes), "hosts")
             self.attributes[name] = {**part.inside(), **part.defaults["node"]}
-        elif part.name:
-            self.attributes[name].setdefault("subgraph", part.name)
+        else:
+            self.attributes[name].update(self.of_members(part, name, part.defaults["node"]))
         for it in self.parts:
             it.nodes[name] = None
         for is_first in (True, False):
             if self.take(":"):
                 self.port(name, is_first)
         self.end(part, (name,), own=name)
+
+    def of_members(self, part: Part, name: str, defaults: Attributes) -> Attributes:
+        """What being in a subgraph says of a node that was there before. Graphviz draws it without these defaults."""
+        if len(self.parts) == 1:
+            return {}
+        before, outer = self.attributes[name], self.parts[0].defaults["node"]
+        own = {key: value for key, value in defaults.items() if outer.get(key) != value != before.get(key)}
+        said: Attributes = {key if key not in before else f"subgraph.{key}": value for key, value in own.items()}
+        return {**said, **({} if "subgraph" in before else part.inside())}
 
     def port(self, name: str, is_first: bool) -> None:
         """A port behind a name stands beside, unless it may well be a part of the name."""
@@ -236,6 +248,10 @@ class Reader:
         if len(chain) == 1 and own is not None:
             self.own[own] = None
             self.attributes[own].update(said)
+        elif len(chain) == 1:
+            self.unnamed += 1
+            for name in nodes:
+                self.attributes[name].setdefault("subgraph", f"unnamed {self.unnamed}")
         beside = {**part.inside(), **part.defaults["edge"], **said} if len(chain) > 1 else said
         for ones, others in zip(chain, chain[1:]):
             pairs = [*itertools.islice(itertools.product(ones, others), MOST_IMPLIED + 1)]

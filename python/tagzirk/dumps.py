@@ -11,6 +11,7 @@ from dataclasses import dataclass, field, replace
 from functools import lru_cache
 from typing import Dict, List, NamedTuple, Optional, Sequence, TextIO, Tuple
 
+from .account import LEFT
 from .asked import Asked, demand_used
 from .beside import plain_lines
 from .errors import BadDump, LibraryMissing, Refused
@@ -289,8 +290,8 @@ def dump_of(
     >>> dump.notes
     ('net.json was read as a graph of nodes and links',)
     """
-    data, told = text_of(data, options.asked.skip)
-    notes = [f"{name}: {it}" for it in told]
+    data, told = text_of(data, options.asked.skip, name)
+    notes = [it if it.startswith(LEFT) else f"{name}: {it}" for it in told]
     if is_graph_taken and not options.asked.form and GRAPH_FILE.match(data.decode(errors="replace")):
         return of_graph_file(data, name, options, notes, overlay)
     form = options.asked.form or form_of(data.decode("utf-8-sig", "replace"), name)

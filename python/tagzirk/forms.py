@@ -17,7 +17,7 @@ from .matrices import graph6_of, matrix_graph, matrix_of
 from .mermaid import BEGIN as MERMAID, mermaid
 from .neighbours import lgl, metis, multiline
 from .rows import comments_in, rows_of
-from .sections import dimacs, gdf, is_tgf, leda, lemon, matrix_market, pajek, plain, tgf
+from .sections import dimacs, gdf, is_tgf, leda, lemon, looks_like_tgf, matrix_market, pajek, plain, tgf
 from .texts import decoded
 from .values import PEER_KEYS, Scalar, Views, key_in
 from .xml_graphs import XML, xml_graph
@@ -93,7 +93,12 @@ def form_of(text: str, place: str) -> str:
         return "yaml"
     if begin.startswith("{") or re.match(r'\[(?:["\[{\]\s]|$)', begin):
         return "json"
-    return "tgf" if is_tgf(text) else "edges"
+    if is_tgf(text):
+        return "tgf"
+    if looks_like_tgf(text):
+        raise BadDump("it looks like TGF and does not fit: it needs one line #, and a line of its own for each host "
+                      "that is linked; --form edges reads each line as a link")
+    return "edges"
 
 
 def listings_of(data: bytes, place: str, asked: Asked) -> Optional[Views]:

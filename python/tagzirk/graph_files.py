@@ -12,6 +12,10 @@ from .values import Said, Scalar, Views
 
 # How many names a message tells.
 MOST_TOLD = 4
+# What the name that a graph has by itself is called, where it stands beside hosts and links.
+NAME_OF_GRAPH = "name of the graph"
+# And which program wrote the file, and when.
+WRITTEN_BY, WRITTEN_AT = "written by", "written at"
 
 
 class Link(NamedTuple):

@@ -36,6 +36,10 @@ def mermaid(text: str) -> Graph:
                 read_chain(graph, Line(line.number, part))
             elif behind and word != "direction":
                 graph.pass_over(word, behind[0].strip())
+    if len({it.setdefault("shape", "[]") for it in graph.hosts.values()}) == 1:
+        # all shapes are alike, as a box without a label has that of one with it
+        for said in graph.hosts.values():
+            del said["shape"]
     if len({it.said.get("arrow") for it in graph.links}) == 1:
         # all arrows are alike
         for it in graph.links:
@@ -72,8 +76,10 @@ def nodes_at(graph: Graph, line: Line, at: int) -> Tuple[List[str], int]:
         shape = SHAPE.match(line.text, at)
         while shape:
             at = shape.end()
-            text = shape[0].strip(" []()<>{}\t\"")
+            text = shape[0].strip(" []()<>{}/\\\t\"")
             said["class" if text.startswith(":::") else "label"] = text.strip(":")
+            if not text.startswith(":::"):
+                said["shape"] = "".join(re.findall(r"^[\[({/\\]+|[\])}/\\]+$", shape[0].strip()))
             shape = SHAPE.match(line.text, at)
         rest = line.text[at:].lstrip()
         if not rest.startswith("&"):

@@ -120,7 +120,7 @@ def parted(graph: NamedGraph[str], lines: Sequence[Line]) -> List[str]:
             if at and at != [lines[0].number]:
                 both = " and ".join(sorted(names))
                 told.append(f"{in_lines(at)}: {both} stand in no other line: a header or a footer?")
-    words = set(map(str.casefold, lines[-1].words[:2])) & COUNTING
+    words = set(map(str.casefold, lines[-1].words[:2])) & COUNTING & set(map(str.casefold, graph.ids))
     once = [it for it in words if sum(it in map(str.casefold, line.words) for line in lines) == 1]
     if once and not told:
         told.append(f"line {lines[-1].number}: {once[0]} stands in no other line: is it a footer?")

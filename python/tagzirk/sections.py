@@ -117,6 +117,9 @@ def pajek(text: str) -> Graph:
                 graph.link(words[0], other, section == "*arcslist", relation)
         else:
             raise BadDump(f"{line.place}a line of Pajek stands before any section")
+    lacking = next((it for it in graph.hosts if told and it not in told), None)
+    if lacking:
+        raise BadDump(f"it declares {len(graph.hosts)} vertices, and {lacking} has no line of its own: is it torn?")
     return graph
 
 
@@ -234,6 +237,19 @@ def is_tgf(text: str) -> bool:
     return has_names and bool(ends) and all(len(it) == 2 and set(it) <= known for it in ends)
 
 
+def looks_like_tgf(text: str) -> bool:
+    """Whether a text looks like TGF, whatever does not fit in it: one line or two are # alone, and above the first each
+    line is a whole number and a label that is none, and below it begin lines with two whole numbers."""
+    if not re.search(r"^[ \t]*#[ \t\r]*$", text, re.MULTILINE):
+        return False
+    lines = [line.text for line in lines_of(text)]
+    at = lines.index("#")
+    above = [re.fullmatch(r"[0-9]+[ \t]+(.*\S)", it) for it in lines[:at]]
+    has_labels = any(it and not re.match(r"[0-9.]+(?:\s|$)", it[1]) for it in above)
+    below = [it for it in lines[at + 1 :] if it != "#"]
+    return all(above) and has_labels and bool(below) and all(re.match(r"[0-9]+\s+[0-9]+(?:\s|$)", it) for it in below)
+
+
 def line_points(line: Line, word: str) -> int:
     """How many points the line of an edge has."""
     return Line(line.number, word).numbers(1)[0]
@@ -242,7 +258,8 @@ def line_points(line: Line, word: str) -> int:
 def plain(text: str) -> Graph:
     """What `dot -Tplain` writes: where each node stands, and each edge."""
     graph = Graph("Graphviz' plain text, each edge a link, since it does not say directions")
-    for line in lines_of(text):
+    lines = lines_of(text)
+    for line in lines:
         words = line.words
         if words[0] == "node":
             words = need_words(line, 11)
@@ -254,6 +271,8 @@ def plain(text: str) -> Graph:
             said = dict(zip(("style", "color"), behind[-2:]))
             graph.link(words[1], words[2], False, {**({"label": " ".join(behind[:-4])} if behind[4:] else {}), **said})
         elif words[0] == "stop":
+            for it in [" ".join(words[1:]), *(it.text for it in lines)]:
+                graph.beside += [("behind stop", it)] if it else []
             return graph
         elif words[0] != "graph":
             raise BadDump(f"{line.place}a line of such a text begins with node, edge or stop")

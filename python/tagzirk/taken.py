@@ -5,11 +5,11 @@ from __future__ import annotations
 
 from typing import Callable, Dict, List, NamedTuple, Optional, Sequence, Set, Tuple
 
-from .account import LEFT, account_of, doubtful
+from .account import LEFT, MOST_NAMED, account_of, doubtful
 from .asked import Asked
 from .errors import BadDump
 from .fields import MISSING, Field, fields_of, moment_of, most_of, number_of, span_of, text_of
-from .states import Kind, clearness, kind_of
+from .states import STATE_NAMES, Kind, clearness, kind_of
 from .values import Scalar, Statement, Views, one_of
 
 # So many values of a field, and so many fields, are shown.
@@ -172,7 +172,7 @@ def in_range(field: Field, low: str, high: str) -> Callable[[Scalar, bool], bool
 def one(field: Field) -> str:
     """A field, with its values and how often each is there; or with the least and the greatest of many."""
     counts = field.counts.most_common()
-    name = f"column {field.name}" if field.name.isdigit() else field.name
+    name = f"column {field.name}" if field.name.isdigit() else quoted(field.name)
     if len(counts) <= MOST_SHOWN:
         return f"{name} is {one_of([f'{quoted(value)} ({number})' for value, number in counts])}"
     way = moment_of if field.moments else measured
@@ -189,7 +189,9 @@ def many(fields: Sequence[Field]) -> str:
     kinds: Dict[str, List[str]] = {}
     for it in fields[:MOST_SHOWN]:
         kinds.setdefault(f"{sum(it.counts.values())} {it.of}", []).append(one(it))
-    more = f", and {len(fields) - MOST_SHOWN} more fields" if len(fields) > MOST_SHOWN else ""
+    rest = sorted(fields[MOST_SHOWN:], key=lambda it: it.words.isdisjoint(STATE_NAMES))
+    unnamed = f" and {len(rest) - MOST_NAMED} more fields" if len(rest) > MOST_NAMED else ""
+    more = f", and {', '.join(quoted(it.name) for it in rest[:MOST_NAMED])}{unnamed}" if rest else ""
     return "; ".join(f"of {kind} {'; '.join(said)}" for kind, said in kinds.items()) + more
 
 

@@ -2,14 +2,15 @@
 
 from __future__ import annotations
 
+import collections
 import re
 from typing import Dict, List, Optional, Tuple
 from xml.parsers import expat
 
 from .errors import BadDump
-from .graph_files import Graph
+from .graph_files import NAME_OF_GRAPH, WRITTEN_AT, WRITTEN_BY, Graph
 from .limits import DEEPEST
-from .values import Scalar
+from .values import Scalar, both
 
 FORMS = {"graphml": "GraphML", "gexf": "GEXF", "gxl": "GXL", "directedgraph": "DGML", "graph": "XML"}
 # How a text of XML begins, whose first element is one of these.
@@ -22,9 +23,19 @@ DIRECTED = ("edgedefault", "defaultedgetype", "edgemode", "directed")
 YES, NO = ("directed", "defaultdirected", "true", "1"), ("undirected", "mutual", "false", "0")
 # Elements that hold the value of a field of a node or an edge, and what names the field.
 VALUES = {"data": "key", "attvalue": "for", "att": "name", "attr": "name"}
+# Elements in which nodes and edges stand, by the first element of the file; in XML of no known form all of these.
+AROUND = {"graphml": ("graph",), "gexf": ("graph", "nodes", "edges"), "gxl": ("graph",), "graph": ("graph",),
+          "directedgraph": ("nodes", "links")}
+OF_ALL = ("graph", "nodes", "edges", "links")
+# Elements that say nothing if they are empty.
+EMPTY = frozenset("""attvalues attributes spells slices parents meta keywords description creator desc options default
+    nodes edges links categories properties styles paths type string int float bool enum seq set bag tup""".split())
+# What says how a file of GEXF was written.
+OF_GEXF = {"creator": WRITTEN_BY, "meta.lastmodifieddate": WRITTEN_AT}
+TAGS = re.compile(r"<((?:[^\s<>/!?:]+:)?(?:(node)|edge|link))[\s/>]", re.IGNORECASE)
 # Attributes of these, and of elements that are none of nodes, edges and values, that say how the file is to be read.
 OF_VALUES = ("key", "for", "name", "id", "value", "type")
-OF_FORM = ("version", "mode", *DIRECTED)
+OF_FORM = ("version", "mode", "edgeids", *DIRECTED)
 
 
 class Item:
@@ -46,13 +57,21 @@ class Reader:
     def __init__(self) -> None:
         self.graph = Graph("XML")
         self.path: List[str] = []
+        # whether each element that is open has had nothing in it so far; and those of them that the form does not have
+        self.bare: List[bool] = []
+        self.strange: List[str] = []
+        # what most nodes and most edges are called, and the spaces of names that the first element declares
+        self.tags: Tuple[str, ...] = ()
+        self.spaces: Dict[str, str] = {}
         self.item: Optional[Item] = None
         self.first, self.graphs, self.is_directed = "", 0, False
         # the name of a field by its id, and its value where nothing is said; both by the kind of item
         self.fields: Dict[Tuple[str, str], str] = {}
         self.defaults: Dict[str, Dict[str, Scalar]] = {"node": {}, "edge": {}}
-        # the field that is being read, the kinds of items that may have it, and whether its value is a text
-        self.key, self.kinds, self.is_value = "", [*self.defaults], False
+        # the field that is declared, and the kinds of items that may have it
+        self.key, self.kinds = "", [*self.defaults]
+        # the fields whose values are being read, one in another, and whether the value is a text
+        self.values: List[Tuple[str, bool]] = []
         # the texts of the elements that are open
         self.texts: List[List[str]] = [[]]
         # the names of fields of the whole graph by their ids
@@ -67,6 +86,7 @@ class Reader:
         self.parser.EntityDeclHandler = self.refuse_entity
 
     def read(self, text: str) -> Graph:
+        self.tags = tags_of(text)
         try:
             self.parser.Parse(text.lstrip().encode(errors="surrogatepass"), True)
         except expat.ExpatError as why:
@@ -82,6 +102,7 @@ class Reader:
         """Something stands here that is no value of a field: of the node or the edge here, or beside them."""
         if not value:
             return
+        what = OF_GEXF.get(what, what) if self.first == "gexf" else what
         if self.item and what != "comments":
             self.item.say(what, value)
         else:
@@ -96,17 +117,11 @@ class Reader:
     def start(self, tag: str, attributes: Dict[str, str]) -> None:
         """An element begins."""
         name, around = local(tag), self.path[-1] if self.path else ""
-        if not self.path:
-            self.first = name
-            self.graph.kind = FORMS.get(name, "XML")
-        if len(self.path) >= DEEPEST:
-            raise self.fault(f"elements are nested more than {DEEPEST} deep")
-        self.path.append(name)
-        self.texts.append([])
+        self.open(tag, name, attributes)
         if name in ("graph", "directedgraph") and not (name == "graph" and self.item and "data" in self.path):
             self.begin_graph(attributes)
         elif name in NODES or name in EDGES and around != "data":
-            self.begin_item(name, attributes)
+            self.begin_item(tag, attributes)
         elif name in ("hyperedge", "rel"):
             raise self.fault(f"an element {name} links more than two hosts")
         elif name == "attributes":
@@ -114,32 +129,63 @@ class Reader:
         elif name in ("key", "attribute"):
             self.field(attributes)
         elif name in VALUES or name == "default":
-            self.begin_value(name, attributes)
+            self.begin_value(tag, attributes)
         else:
             for it, value in attributes.items():
                 if not it.startswith("xmlns") and not it.endswith("schemaLocation") and it not in OF_FORM:
                     self.leave(f"{name}.{it}", value)
 
+    def open(self, tag: str, name: str, attributes: Dict[str, str]) -> None:
+        """An element is open from here on. What stands in one that the form does not have is told by its name."""
+        if not self.path:
+            self.first = name
+            self.graph.kind = FORMS.get(name, "XML")
+            self.spaces = {it: value for it, value in attributes.items() if it.startswith("xmlns")}
+        if len(self.path) >= DEEPEST:
+            raise self.fault(f"elements are nested more than {DEEPEST} deep")
+        space = [f"{it}={value}" for it, value in attributes.items()
+                 if it.startswith("xmlns") and it in {"xmlns", *self.spaces} and self.spaces.get(it) != value]
+        known = AROUND.get(self.first, OF_ALL)
+        is_known = name in known and tag.rpartition(":")[0] in ("", *(it.rpartition(":")[0] for it in self.tags))
+        is_item = name in (*NODES, *EDGES)
+        self.strange.append(" ".join([tag, *space]) if space or self.path and not is_known and not is_item else "")
+        self.bare[-1:] = [False] * len(self.bare[-1:])
+        self.bare.append(name in VALUES or not attributes and name not in EMPTY)
+        self.path.append(name)
+        self.texts.append([])
+
     def end(self, tag: str) -> None:
         """An element ends."""
-        name, texts = self.path.pop(), self.texts.pop()
+        name, texts, is_bare = self.path.pop(), self.texts.pop(), self.bare.pop()
+        self.strange.pop()
         text = "".join(texts).strip()
         if name == "default" and text:
             for kind in self.kinds:
                 self.defaults[kind][self.key] = text
             if not self.kinds:
                 self.leave(f"default of {self.key}", text)
-        elif name in VALUES and self.item and self.is_value and text:
-            self.item.say(self.key, text)
-            self.is_value = False
-        elif self.item and self.is_value and "data" in self.path:
+        elif name in VALUES and self.values:
+            self.end_value(text, is_bare)
+        elif self.values:
             # what stands in elements of a value is of it
-            self.texts[-1] += texts
+            self.texts[-1] += [" ", *texts, " "]
         else:
-            self.leave(self.key if name in VALUES and not self.item else name, text)
+            self.leave(name, text)
+        if is_bare and not text and name not in VALUES and not (self.item and name == self.item.tag):
+            self.leave("element", tag)
         if self.item and name == self.item.tag:
             self.take(self.item)
             self.item = None
+
+    def end_value(self, text: str, is_bare: bool) -> None:
+        """A value of a field ends, which is a text or not."""
+        key, is_text = self.values.pop()
+        if not self.item:
+            self.leave(key, text)
+        elif text and not is_text:
+            self.item.say(f"{key}.text", text)
+        elif text or is_text and is_bare and key not in self.item.fields:
+            self.item.say(key, text)
 
     def begin_graph(self, attributes: Dict[str, str]) -> None:
         self.graphs += 1
@@ -152,15 +198,23 @@ class Reader:
         self.is_directed = next((lower[it] for it in DIRECTED if it in lower), default) in YES
         for it, value in attributes.items():
             if it.lower() not in OF_FORM and not it.startswith("xmlns") and not it.endswith("schemaLocation"):
-                self.leave(f"graph.{it}", value)
+                # GXL needs a name
+                self.leave(NAME_OF_GRAPH if (self.first, it) == ("gxl", "id") else f"graph.{it}", value)
 
-    def begin_item(self, name: str, attributes: Dict[str, str]) -> None:
+    def begin_item(self, tag: str, attributes: Dict[str, str]) -> None:
+        name = local(tag)
         if self.item:
             raise self.fault(f"an element {name} stands in an element {self.item.tag}: groups of hosts are not read")
+        if self.values:
+            raise self.fault(f"an element {name} stands in a value")
         if not self.graphs:
             raise self.fault(f"an element {name} stands outside of a graph")
-        lower = {it.lower() if it.lower() in ("id", "source", "target") else it: attributes[it] for it in attributes}
+        lower = {it.lower() if it.lower() in ("id", "source", "target") else it: attributes[it] for it in attributes
+                 if it != "xmlns"}
         self.item = Item(name, self.parser.CurrentLineNumber, lower)
+        for it in (*self.strange, *[tag] * (tag not in self.tags)):
+            if it:
+                self.item.say("element", it)
 
     def field(self, attributes: Dict[str, str]) -> None:
         """A field of nodes or of edges is declared, by itself or among those of one kind."""
@@ -172,22 +226,25 @@ class Reader:
         for it in self.kinds:
             self.fields[it, attributes.get("id", "")] = self.key
 
-    def begin_value(self, name: str, attributes: Dict[str, str]) -> None:
-        """A value of a field begins, in an attribute or in the text that follows."""
+    def begin_value(self, tag: str, attributes: Dict[str, str]) -> None:
+        """A value of a field begins, in an attribute or in the text that follows. In a list it is of the list."""
+        name = local(tag)
         if name == "default":
             return
+        around = self.values[-1][0] if self.values else name
         key = attributes.get(VALUES[name], "")
         if not self.item:
-            self.key = self.of_graph.get(key) or key or name
-            self.leave(self.key, attributes.get("value", ""))
+            self.values.append((self.of_graph.get(key) or key or around, True))
+            self.leave(self.values[-1][0], attributes.get("value", ""))
             return
         kind = "node" if self.item.tag in NODES else "edge"
-        self.key, self.is_value = self.fields.get((kind, key), key), "value" not in attributes
-        if not self.is_value:
-            self.item.say(self.key, attributes["value"])
+        key = self.fields.get((kind, key), key) or around
+        self.values.append((key, "value" not in attributes))
+        if "value" in attributes:
+            self.item.say(key, attributes["value"])
         for it, value in attributes.items():
             if it not in OF_VALUES:
-                self.item.say(f"{self.key}.{it}", value)
+                self.item.say(f"{key}.{it}", value)
 
     def take(self, item: Item) -> None:
         """A node or an edge was read."""
@@ -198,7 +255,7 @@ class Reader:
             if "id" not in item.attributes:
                 raise BadDump(f"{place}a node has no id")
             key = item.attributes.pop("id")
-            self.graph.host(key, {**item.attributes, **said}, place)
+            self.graph.host(key, both(item.attributes, said), place)
             return
         ends = next((it for it in ENDS if set(it) <= set(item.attributes)), None)
         if not ends:
@@ -210,7 +267,15 @@ class Reader:
                 del item.attributes[it]
         kinds = [*ways.values()]
         is_directed = next((it in YES for it in kinds if it in (*YES, *NO)), self.is_directed)
-        self.graph.link(one, other, is_directed, {**item.attributes, **said})
+        self.graph.link(one, other, is_directed, both(item.attributes, said))
+
+
+def tags_of(text: str) -> Tuple[str, ...]:
+    """What most nodes and most edges of a text are called, with the spaces of their names."""
+    found: Tuple[List[str], List[str]] = ([], [])
+    for it in TAGS.finditer(text):
+        found[bool(it[2])].append(it[1])
+    return tuple(collections.Counter(them).most_common(1)[0][0] for them in found if them)
 
 
 def local(tag: str) -> str:

@@ -1,6 +1,7 @@
 """Tests of the account of a dump: in each form, whatever stands there beside hosts and links is named in a note, and a
 dump of hosts and links alone has none. They need the program overlay."""
 
+import gzip
 import pathlib
 import re
 import tempfile
@@ -13,9 +14,10 @@ from .test_states import Dumps
 
 # A triangle of a, b and c in each form, with marks where something more may stand: of each its text, and what the note
 # or the refusal says of it. Values are no words of states, unless a mark is to be asked about.
-XML_NODES = '<node id="a"«node»/><node id="b"/><node id="c">«in-node»</node>'
+XML_NODES = '<node id="a"«node»/>«lost»<node id="b"/>«end-lost»<node id="c">«in-node»</node>'
 XML_EDGES = (
-    '<edge source="a" target="b"«edge»/><edge source="b" target="c">«in-edge»</edge><edge source="a" target="c"></edge>'
+    '<edge source="a" target="b"«edge»/><edge source="b" target="c">«in-edge»</edge>'
+    '«removed»<«prefix»edge source="a" target="c"/>«end-removed»'
 )
 NODES = '[{"id": "a"«node»}, {"id": "b"}, {"id": "c"}]'
 LINKS = '[{"source": "a", "target": "b"«link»}, {"source": "b", "target": «end»}, {"source": "a", "target": "c"}]'
@@ -89,6 +91,9 @@ CASES = [
     ("net.graphml", f'<graphml><!--«comment»--><graph«graph» edgedefault="undirected">«in-graph»{XML_NODES}{XML_EDGES}'
                     "</graph>«behind»</graphml>", {
         "comment": ("odd", "comments (odd)"),
+        "removed end-removed": (("<odd>", "</odd>"), "element is missing (2) or odd (1)"),
+        "lost end-lost": (("<odd>", "</odd>"), "element (missing: 2, odd: 1)"),
+        "prefix": ("odd:", "element is missing (2) or odd:edge (1)"),
         "graph": (' id="odd"', "graph.id (odd)"),
         "in-graph": ("<desc>odd</desc>", "desc (odd)"),
         "behind": ('<x y="odd"/>', "x.y (odd)"),
@@ -97,10 +102,30 @@ CASES = [
         "edge": (' id="odd"', "id (missing: 2, odd: 1)"),
         "in-edge": ('<data key="z"><w color="7"/></data>', "w.color is missing (2) or 7 (1)"),
     }),
+    ("net.graphml", f'<graphml><graph edgedefault="undirected">{XML_NODES}{XML_EDGES}«empty»</graph></graphml>', {
+        "in-edge": ("<odd/>", "element is missing (2) or odd (1)"),
+        "in-node": ('<data key="odd"/>', 'odd is missing (2) or "" (1)'),
+        "edge": (' z="7"><data key="z">8</data></edge><edge source="a" target="b"',
+                 "z is missing (3) or 7 (1); data.z is missing (3) or 8 (1)"),
+        "empty": ("<odd/>", "element (odd)"),
+    }),
+    ("net.gxl", f'<gxl><graph id="net" edgeids="true" edgemode="undirected"«graph»>{XML_NODES}{XML_EDGES}«in-graph»'
+                "</graph></gxl>", {
+        "graph": (' role="odd"', "graph.role (odd)"),
+        "in-graph": ('<attr name="z"><int>7</int></attr>', "z (7)"),
+        "in-node": ('<attr name="z"><int>7</int></attr><attr name="y"><int>8</int></attr>',
+                    "z (missing: 2, 7: 1), y (missing: 2, 8: 1)"),
+        "in-edge": ('<attr name="z"><int>7</int></attr>', "z is missing (2) or 7 (1)"),
+    }),
+    ("net.xml", '<DirectedGraph><Nodes><Node Id="a"/><Node Id="b"/></Nodes><Links><Link Source="a" Target="b"/>«gone»'
+                '<Link Source="b" Target="a"/>«end-gone»</Links></DirectedGraph>', {
+        "gone end-gone": (("<odd>", "</odd>"), "element is odd (1) or missing (1)"),
+    }, {"form": "graphml"}),
     ("net.gexf", f'<gexf version="1.3"><meta>«meta»</meta><graph><nodes«count»>{XML_NODES}</nodes><edges>{XML_EDGES}'
                  "</edges></graph></gexf>", {
-        "meta": ("<creator>odd</creator>", "creator (odd)"),
+        "meta": ("<creator>all but b are down</creator>", "written by (all but b are down)"),
         "count": (' count="7"', "nodes.count (7)"),
+        "removed end-removed": (("<odd>", "</odd>"), "element is missing (2) or odd (1)"),
         "in-edge": ('<attvalues><attvalue for="z" value="7"/></attvalues>', "z is missing (2) or 7 (1)"),
         "in-node": ('<viz:color r="7"/>', "color.r is missing (2) or 7 (1)"),
     }),
@@ -140,9 +165,10 @@ CASES = [
     ("net.plain", "graph 1 2 2\nnode a 1 1 1 1 a solid box black white\nnode b 1 1 1 1 b solid box black white\n"
                   "node c 1 1 1 1 c solid box black white\nedge a b 1 0 0«edge» solid black\n"
                   "edge b c 1 0 0 solid black\n"
-                  "edge a c 1 0 0 solid black\nstop\n", {
+                  "edge a c 1 0 0 solid black\nstop\n«end»", {
         "": ("", "style (solid)"),
         "edge": (" odd 1 1", "label is missing (2) or odd (1)"),
+        "end": ("# odd\n", "behind stop (# odd)"),
     }),
     ("net.col", "«line»p edge 3 3\ne 1 2«edge»\ne 2 3\ne 1 3\n«n»", {
         "line": ("c odd\n", "comments (odd)"),
@@ -169,7 +195,7 @@ CASES = [
     }, {"form": "matrix"}),
     ("net.dot", "«line»graph«name» { «statement» a«node» -- b«edge»; b«port» -- c; a -- c «behind» }", {
         "line": ("// odd\n", "comments (// odd)"),
-        "name": (" odd", "name of the graph (odd)"),
+        "name": (" odd_one", "name of the graph (odd_one)"),
         "statement": ("label=odd;", "graph.label (odd)"),
         "behind": ("/* odd */", "comments (/* odd */)"),
         "edge": (" [z=7]", "z is missing (2) or 7 (1)"),
@@ -178,12 +204,20 @@ CASES = [
     ("net.dot", "graph { a -- b; b -- c; a -- c; «statement» }", {
         "statement": ("subgraph odd { c }", "subgraph (missing: 2, odd: 1)"),
     }),
+    ("net.dot", "graph { a -- b; b -- c; a -- c; «statement» }", {
+        "statement": ("{ node [z=7]; c }", "z (missing: 2, 7: 1)"),
+    }),
+    ("net.dot", "graph { a -- b; b -- c; a -- c; { c } «statement» }", {
+        "": ("", "subgraph (missing: 2, unnamed 1: 1)"),
+        "statement": ("subgraph { node [z=7]; c }", "z (missing: 2, 7: 1)"),
+    }),
     ("net.dot", "graph { «statement» a -- b; b -- c; a -- c }", {
         "statement": ("node [z=7];", "z (7)"),
     }),
-    ("net.mmd", "graph TD\n«line» a«node» --- b\n b «arrow» c\n a --- c\n«style»", {
+    ("net.mmd", "graph TD\n«line» a«node» --- b\n b«shape» «arrow» c\n a --- c\n«style»", {
         "line": ("%% odd\n", "comments (%% odd)"),
         "node": ("[odd]", "label (missing: 2, odd: 1)"),
+        "shape": ("((b))", "shape ([]: 2, (()): 1)"),
         "arrow": ("---|odd|", "label is missing (2) or odd (1)"),
         "style": ("class a odd\n", "class (a odd)"),
     }),
@@ -228,6 +262,41 @@ class Accounts(Dumps):
                     found = self.told(name, filled(template, texts), *(words or [{}]))
                     self.assertIn(told, found)
                     self.assertEqual(bool(told), bool(found), found)
+
+    def test_the_header_of_gzip_is_told(self):
+        packed = gzip.compress(b"a b\nb c\na c\n", mtime=0)
+        for flags, more, told in ((0, b"", ""), (8, b"net.edges\0", ""), (8, b"odd\0", "name in gzip (odd)"),
+                                  (16, b"odd\0", "comment of gzip (odd)"),
+                                  (28, b"\1\0xnet.edges\0odd\0", "comment of gzip (odd)")):
+            place = self.room / "net.edges.gz"
+            place.write_bytes(packed[:3] + bytes([flags]) + packed[4:10] + more + packed[10:])
+            with self.subTest(flags=flags, more=more):
+                doubts = doubts_in(self.read(str(place)).notes)
+                self.assertEqual(doubts, [f"not read as states: {told}"] if told else [])
+
+    def test_what_does_not_fit_is_refused(self):
+        for name, text, told in (
+            ("net.tgf", "1 a\n2 b\n#\n1 2\n2 3\n1 3\n", "it looks like TGF and does not fit"),
+            ("net.tgf", "1 a\n2 b\n3 c\n#\n1 2\n2 3\n#\n1 3\n", "it looks like TGF and does not fit"),
+            ("net.net", '*Vertices 3\n1 "a"\n2 "b"\n*Edges\n1 2\n2 3\n1 3\n', "3 has no line of its own"),
+        ):
+            with self.subTest(text):
+                self.assertIn(told, self.told(name, text, {}))
+
+    def test_fields_without_room_are_named(self):
+        columns = [f"c{at}" for at in range(40)]
+        rows = [["a", "b", "x", *"1" * 40], ["b", "c", "y", *"0" * 40]]
+        lines = [["source", "target", "status", *columns], *rows]
+        told = self.told("net.csv", "".join(",".join(it) + "\n" for it in lines), {})
+        self.assertIn("and c4, c5, c6", told)
+        self.assertIn("c27 and 12 more fields", told)
+        links = '[{"source": "a", "target": "b", "": 1}, {"source": "b", "target": "c", "": 2}]'
+        named = self.told("net.json", links, {})
+        self.assertIn('of 2 links "" is 1 (1) or 2 (1)', named)
+
+    def test_a_count_that_fits_is_no_news(self):
+        rows = "+---+---+\n| source | target |\n+---+---+\n| a | b |\n| b | c |\n| a | c |\n+---+---+\n3 rows in set\n"
+        self.assertEqual([it for it in self.read(self.put("net.txt", rows)).notes if "footer" in it], [])
 
     def test_each_form_is_there(self):
         there = {"csv", "weighted", "adjacency", "gexf"}  # these are in it as lines, and as XML
