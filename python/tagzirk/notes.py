@@ -149,7 +149,7 @@ def counting(graph: NamedGraph[str], lines: Sequence[Line]) -> List[str]:
 
 def marked(graph: NamedGraph[str], lines: Sequence[Line]) -> List[str]:
     """One word that begins each line of three or more, and is linked to all others here."""
-    mark = lines[0].words[0]
+    mark = lines[0].words[0] if lines[0].words else ""
     if mark not in graph.ids or any(len(it.words) < 3 or it.words[0] != mark for it in lines):
         return []
     if len(graph.peers[graph.ids[mark]]) < len(graph.ids) - 1:

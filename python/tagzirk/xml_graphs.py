@@ -89,7 +89,7 @@ class Reader:
         self.tags = tags_of(text)
         try:
             self.parser.Parse(text.lstrip().encode(errors="surrogatepass"), True)
-        except expat.ExpatError as why:
+        except (expat.ExpatError, LookupError) as why:
             raise BadDump(f"it is no XML: {why}") from None
         if not self.graphs:
             raise BadDump(f"it is XML, and has no graph of nodes and edges: its first element is {self.first}")

@@ -328,6 +328,8 @@ class Texts(unittest.TestCase):
                 text_of(data)
         with self.assertRaisesRegex(BadDump, "line 2 is not UTF-8"):
             views(b"source,target\n\xe9,a\n")
+        with self.assertRaisesRegex(BadDump, "it is no XML: unknown encoding"):
+            views('<?xml version="1.0" encoding="UTF-88"?><graphml/>')
 
 
 class Hosts(unittest.TestCase):

@@ -25,6 +25,7 @@ class Notes(Dumps):
             ("two-csv.csv", f"a,b\n{RING}a,b\n".replace(" ", ","), "lines 1 and 9: a and b stand in no other line"),
             ("middle.edges", RING + "from to\n" + RING, "line 8: from and to stand in no other line: a header"),
             ("footer.edges", RING + "total 7\n", "line 8: 7 and total stand in no other line: a header or a footer?"),
+            ("mark-alone.edges", ";\n" + RING + "total 7\n", "7 and total stand in no other line"),
             ("footer-links.edges", RING + "7 links\n", "line 8: 7 and links stand in no other line"),
             ("footer-of-a-host.edges", NUMBERS + "6 hosts\n", "line 8: hosts stands in no other line: is it a footer?"),
             ("counts.edges", "6 7\n" + NUMBERS, "line 1: 6 7 may be how many hosts and links there are: --skip 1"),
