@@ -44,26 +44,10 @@ pub(crate) const FIVE_BUT_ONE: Drawn = Drawn {
     ],
 };
 
-/// The outer ring 1 to 5, a spoke from each of them to the node five above it, and the inner ring 6, 8, 10, 7, 9.
+/// The Petersen graph.
 pub(crate) const PETERSEN: Drawn = Drawn {
     nodes: &[1, 2, 3, 4, 5, 6, 7, 8, 9, 10],
-    links: &[
-        (1, 2),
-        (1, 5),
-        (1, 6),
-        (2, 3),
-        (2, 7),
-        (3, 4),
-        (3, 8),
-        (4, 5),
-        (4, 9),
-        (5, 10),
-        (6, 8),
-        (6, 9),
-        (7, 9),
-        (7, 10),
-        (8, 10),
-    ],
+    links: &ov_test_kit::PETERSEN,
 };
 
 /// The shortest path from 1 to 2 is 1-3-4-2, and without its nodes 3 and 4 there is none. Two paths that share nothing

@@ -6,6 +6,7 @@ use Want::{Cut, Linked, Paths};
 use ov_fans::{Found, Parting, Piece, Settled, settle};
 use ov_graph::{Graph, GraphFault};
 use ov_ids::NodeId;
+use ov_test_kit::PETERSEN;
 use std::alloc::Global;
 use std::test::Fail;
 
@@ -38,27 +39,7 @@ static GRAPHS: [GraphRow; 4] = [
         &[(1, 2), (1, 3), (2, 3), (3, 4), (3, 5), (4, 5)],
         &[(2, 1, 2, Linked)],
     ),
-    (
-        10,
-        &[
-            (1, 2),
-            (1, 5),
-            (1, 6),
-            (2, 3),
-            (2, 7),
-            (3, 4),
-            (3, 8),
-            (4, 5),
-            (4, 9),
-            (5, 10),
-            (6, 8),
-            (6, 9),
-            (7, 9),
-            (7, 10),
-            (8, 10),
-        ],
-        &[(4, 1, 3, Cut(&[2, 5, 6], 1, 3, &[1]))],
-    ),
+    (10, &PETERSEN, &[(4, 1, 3, Cut(&[2, 5, 6], 1, 3, &[1]))]),
 ];
 
 fn graph(alloc: Global, last: u32, pairs: &[(u32, u32)]) -> Result<Graph, GraphFault> {

@@ -1,26 +1,8 @@
 //! The graphs of the tests.
 use ov_graph::{Graph, GraphFault};
 use ov_ids::NodeId;
+use ov_test_kit::PETERSEN;
 use std::alloc::Global;
-
-/// The links of the Petersen graph, which has the nodes 1 to 10.
-static PETERSEN: [(u32, u32); 15] = [
-    (1, 2),
-    (1, 5),
-    (1, 6),
-    (2, 3),
-    (2, 7),
-    (3, 4),
-    (3, 8),
-    (4, 5),
-    (4, 9),
-    (5, 10),
-    (6, 8),
-    (6, 9),
-    (7, 9),
-    (7, 10),
-    (8, 10),
-];
 
 /// Which nodes are linked.
 #[derive(Clone, Copy)]
