@@ -46,7 +46,7 @@ fn row_told(
 {
     let grown = &logged.grown;
     let core = &grown.core;
-    let broadcasts = options.broadcasts.count();
+    let broadcasts = options.broadcasts.get();
     let settle = row_after(
         core,
         grown.settled,
