@@ -43,8 +43,8 @@ impl Growing {
         let rules = PhaseRules::healing(options);
         self.comment("heal")?;
         self.tell_crashes(options.detect, &rules)?;
-        self.rounds(options.heal.count(), &rules)?;
-        self.end_phase(options.broadcasts.count(), &rules)
+        self.rounds(options.heal.get(), &rules)?;
+        self.end_phase(options.broadcasts.get(), &rules)
     }
 
     /// Nodes are told of crashes, unless they learn of them only by sending.

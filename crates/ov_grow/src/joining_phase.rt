@@ -26,7 +26,7 @@ impl Growing {
         let rules = PhaseRules::joining(options);
         self.comment("join")?;
         self.act(Act::Boot(NodeId::new(1), None))?;
-        self.births(options.nodes.count(), turns_between(options.pace), &rules)?;
+        self.births(options.nodes.get(), turns_between(options.pace), &rules)?;
         self.run_out(&rules)
     }
 
@@ -52,7 +52,7 @@ fn turns_between(pace: Option<Pace>) -> u32
     ensures { result ≡ turns_between pace }
 {
     match pace {
-        Some(pace) => pace.turns(),
+        Some(pace) => pace.get(),
         None => MOST_TURNS,
     }
 }

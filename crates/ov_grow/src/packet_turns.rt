@@ -23,7 +23,7 @@ impl Growing {
         ensures full { IfErr result IsFull }
     {
         let place = self.next_place(rules.order);
-        if self.choices.comes_true(rules.loss.of_hundred()) {
+        if self.choices.comes_true(rules.loss.get()) {
             return self.act(Act::Lose(place));
         }
         self.arrive(place, rules)
@@ -62,7 +62,7 @@ impl Growing {
         ensures refused { IfErr result (IsNoWay (MayBeRepeated rules.now place) self.old) }
         ensures full { IfErr result IsFull }
     {
-        if self.choices.comes_true(rules.repeat.of_hundred()) {
+        if self.choices.comes_true(rules.repeat.get()) {
             return self.act(Act::Repeat(place));
         }
         Ok(())

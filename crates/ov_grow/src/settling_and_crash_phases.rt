@@ -31,8 +31,8 @@ impl Growing {
     {
         let rules = PhaseRules::settling(options);
         self.comment("settle")?;
-        self.rounds(options.rounds.count(), &rules)?;
-        self.end_phase(options.broadcasts.count(), &rules)
+        self.rounds(options.rounds.get(), &rules)?;
+        self.end_phase(options.broadcasts.get(), &rules)
     }
 
     /// Nodes crash. A report of the moment at which the overlay had settled must be filed, and who lived then must
@@ -58,7 +58,7 @@ impl Growing {
         self.comment("crash")?;
         let nodes = self.to_crash(options.crash, settled)?;
         self.crash_each(&nodes)?;
-        self.end_phase(options.broadcasts.count(), &rules)
+        self.end_phase(options.broadcasts.get(), &rules)
     }
 
     /// The nodes that are to crash, in order. OutOfMemory (99) is returned if an allocation was refused.
@@ -82,7 +82,7 @@ impl Growing {
         ensures may { IfOk result (λ nodes. MayCrash nodes.items (growth_of self.new)) }
     {
         let mut order = self.live_in_order()?;
-        let count = order.len() as u128 * share.of_hundred() as u128 / 100;
+        let count = order.len() as u128 * share.get() as u128 / 100;
         order.truncate(count as usize);
         Ok(order)
     }

@@ -78,7 +78,7 @@ fn has_its_sender(options: &GrowOptions) -> bool
     ensures { IsTrue result ↔ IfSome options.now.sender (λ node. node ≤ options.now.nodes) }
 {
     match options.sender {
-        Some(node) => node.number() <= options.nodes.count(),
+        Some(node) => node.number() <= options.nodes.get(),
         None => true,
     }
 }

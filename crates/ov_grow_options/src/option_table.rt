@@ -1,5 +1,8 @@
 //! The options of growing: one table, by which arguments are read, help lists them and tips tell of them.
 
+use crate::{MOST_NODES, MOST_OF_HUNDRED, MOST_ROUNDS, MOST_SHARE, MOST_TURNS};
+use ov_ids::{LONGEST_WALK, MOST_ACTIVE, MOST_PASSIVE, MOST_SAMPLED};
+
 /// An option of growing, or of a command that grows overlays.
 #[derive(Clone, Copy)]
 pub struct OptionRow {
@@ -121,7 +124,7 @@ pub const SEED: OptionRow = OptionRow {
 pub const BROADCASTS: OptionRow = OptionRow {
     name: "broadcasts",
     unit: Unit::Count,
-    limits: Some((0, 1000)),
+    limits: Some((0, MOST_ROUNDS as u64)),
     words: &[],
     usual: Some("0"),
     help: "0 to 1000: broadcasts after each of the three snapshots",
@@ -135,7 +138,7 @@ pub static OPTIONS: [OptionRow; OPTION_COUNT] = [
     OptionRow {
         name: "nodes",
         unit: Unit::Count,
-        limits: Some((1, 256)),
+        limits: Some((1, MOST_NODES as u64)),
         words: &[],
         usual: Some("100"),
         help: "1 to 256: how many nodes join",
@@ -143,7 +146,7 @@ pub static OPTIONS: [OptionRow; OPTION_COUNT] = [
     OptionRow {
         name: "active",
         unit: Unit::Count,
-        limits: Some((1, 16)),
+        limits: Some((1, MOST_ACTIVE as u64)),
         words: &[],
         usual: Some("5"),
         help: "1 to 16: how many members the active view of a node may have",
@@ -151,7 +154,7 @@ pub static OPTIONS: [OptionRow; OPTION_COUNT] = [
     OptionRow {
         name: "passive",
         unit: Unit::Count,
-        limits: Some((1, 64)),
+        limits: Some((1, MOST_PASSIVE as u64)),
         words: &[],
         usual: Some("30"),
         help: "1 to 64: how many members its passive view may have",
@@ -159,7 +162,7 @@ pub static OPTIONS: [OptionRow; OPTION_COUNT] = [
     OptionRow {
         name: "arwl",
         unit: Unit::Count,
-        limits: Some((0, 15)),
+        limits: Some((0, LONGEST_WALK as u64)),
         words: &[],
         usual: Some("6"),
         help: "0 to 15: how far a FORWARDJOIN walks",
@@ -167,7 +170,7 @@ pub static OPTIONS: [OptionRow; OPTION_COUNT] = [
     OptionRow {
         name: "prwl",
         unit: Unit::Count,
-        limits: Some((0, 15)),
+        limits: Some((0, LONGEST_WALK as u64)),
         words: &[],
         usual: Some("3"),
         help: "0 to --arwl: how long before its end a FORWARDJOIN makes its node a passive member",
@@ -175,7 +178,7 @@ pub static OPTIONS: [OptionRow; OPTION_COUNT] = [
     OptionRow {
         name: "ka",
         unit: Unit::Count,
-        limits: Some((0, 8)),
+        limits: Some((0, MOST_SAMPLED as u64)),
         words: &[],
         usual: Some("3"),
         help: "0 to 8: how many active members a shuffle carries",
@@ -183,7 +186,7 @@ pub static OPTIONS: [OptionRow; OPTION_COUNT] = [
     OptionRow {
         name: "kp",
         unit: Unit::Count,
-        limits: Some((0, 8)),
+        limits: Some((0, MOST_SAMPLED as u64)),
         words: &[],
         usual: Some("4"),
         help: "0 to 8: how many passive members a shuffle carries",
@@ -191,7 +194,7 @@ pub static OPTIONS: [OptionRow; OPTION_COUNT] = [
     OptionRow {
         name: "ttl",
         unit: Unit::Count,
-        limits: Some((1, 15)),
+        limits: Some((1, LONGEST_WALK as u64)),
         words: &[],
         usual: Some("4"),
         help: "1 to 15: how far a SHUFFLE walks",
@@ -208,7 +211,7 @@ pub static OPTIONS: [OptionRow; OPTION_COUNT] = [
     OptionRow {
         name: "loss-join",
         unit: Unit::OfHundred,
-        limits: Some((0, 100)),
+        limits: Some((0, MOST_OF_HUNDRED as u64)),
         words: &[],
         usual: Some("0"),
         help: "0 to 100: of 100 packets, how many are lost while nodes join",
@@ -216,7 +219,7 @@ pub static OPTIONS: [OptionRow; OPTION_COUNT] = [
     OptionRow {
         name: "loss",
         unit: Unit::OfHundred,
-        limits: Some((0, 100)),
+        limits: Some((0, MOST_OF_HUNDRED as u64)),
         words: &[],
         usual: Some("0"),
         help: "0 to 100: of 100 packets, how many are lost later",
@@ -224,7 +227,7 @@ pub static OPTIONS: [OptionRow; OPTION_COUNT] = [
     OptionRow {
         name: "repeat",
         unit: Unit::OfHundred,
-        limits: Some((0, 99)),
+        limits: Some((0, MOST_SHARE as u64)),
         words: &[],
         usual: Some("0"),
         help: "0 to 99: of 100 packets that are not lost, how many are repeated first",
@@ -240,7 +243,7 @@ pub static OPTIONS: [OptionRow; OPTION_COUNT] = [
     OptionRow {
         name: "pace",
         unit: Unit::Count,
-        limits: Some((0, 65536)),
+        limits: Some((0, MOST_TURNS as u64)),
         words: &["none"],
         usual: None,
         help: "0 to 65536: turns between two births; without it, or with none, 1000 or until no packet is left",
@@ -248,7 +251,7 @@ pub static OPTIONS: [OptionRow; OPTION_COUNT] = [
     OptionRow {
         name: "rounds",
         unit: Unit::Count,
-        limits: Some((0, 1000)),
+        limits: Some((0, MOST_ROUNDS as u64)),
         words: &[],
         usual: Some("3"),
         help: "0 to 1000: rounds of shuffles while the overlay settles",
@@ -256,7 +259,7 @@ pub static OPTIONS: [OptionRow; OPTION_COUNT] = [
     OptionRow {
         name: "crash",
         unit: Unit::OfHundred,
-        limits: Some((0, 99)),
+        limits: Some((0, MOST_SHARE as u64)),
         words: &["cut"],
         usual: Some("0"),
         help: "0 to 99: of 100 live nodes, how many crash; cut is --crash-cut",
@@ -272,7 +275,7 @@ pub static OPTIONS: [OptionRow; OPTION_COUNT] = [
     OptionRow {
         name: "heal",
         unit: Unit::Count,
-        limits: Some((0, 1000)),
+        limits: Some((0, MOST_ROUNDS as u64)),
         words: &[],
         usual: Some("2"),
         help: "0 to 1000: rounds of shuffles while the overlay heals",
@@ -289,7 +292,7 @@ pub static OPTIONS: [OptionRow; OPTION_COUNT] = [
     OptionRow {
         name: "sender",
         unit: Unit::Count,
-        limits: Some((1, 256)),
+        limits: Some((1, MOST_NODES as u64)),
         words: &["none"],
         usual: None,
         help: SENDER,

@@ -1,7 +1,10 @@
 ghost use Rattle.std.specs.Prelude.{◌≡◌};
 ghost use Rattle.ov_grow_options.specs.Options.{default_options};
 
-use crate::{Chance, Count, NodeCount, Pace, Share};
+use crate::{
+    Chance, Count, HEALING_ROUNDS, NO_CHANCE, NO_ROUNDS, NO_SHARE, NODES, NodeCount, Pace,
+    SETTLING_ROUNDS, Share,
+};
 use ov_ids::{NodeId, Params};
 
 /// Whose turn is next.
@@ -63,18 +66,18 @@ impl Default for GrowOptions {
         ensures { result ≡ default_options }
     {
         GrowOptions {
-            nodes: NodeCount::DEFAULT,
+            nodes: NODES,
             params: Params::new(5, 30, 6, 3, 3, 4, 4).unwrap(),
             seed: 0,
-            loss_join: Chance::ZERO,
-            loss: Chance::ZERO,
-            repeat: Share::ZERO,
+            loss_join: NO_CHANCE,
+            loss: NO_CHANCE,
+            repeat: NO_SHARE,
             order: Order::Random,
             pace: None,
-            rounds: Count::ROUNDS,
-            crash: Crash::Share(Share::ZERO),
-            heal: Count::HEAL,
-            broadcasts: Count::ZERO,
+            rounds: SETTLING_ROUNDS,
+            crash: Crash::Share(NO_SHARE),
+            heal: HEALING_ROUNDS,
+            broadcasts: NO_ROUNDS,
             sequential: false,
             sender: None,
             detect: false,

@@ -130,7 +130,7 @@ impl Display for PaceText {
         match self.0 {
             None => Ok(()),
             Some(pace) => {
-                let turns = pace.turns();
+                let turns = pace.get();
                 write!(f, " --pace {turns}")
             }
         }
@@ -151,7 +151,7 @@ impl Display for CrashText {
         match self.0 {
             Crash::Cut => write!(f, " --crash-cut"),
             Crash::Share(share) => {
-                let text = number_text("crash", 0, share.of_hundred() as u64);
+                let text = number_text("crash", 0, share.get() as u64);
                 write!(f, "{text}")
             }
         }
@@ -169,7 +169,7 @@ impl Display for BeginningText {
     ghost output = { λ t. Some (beginning_text t.0) };
 
     fn fmt<W: Write>(&self, f: &mut Formatter<W>) -> Result {
-        let nodes = number_text("nodes", 100, self.0.nodes.count() as u64);
+        let nodes = number_text("nodes", 100, self.0.nodes.get() as u64);
         let views = ViewsText(self.0.params);
         let walks = WalksText(self.0.params);
         let shuffles = ShufflesText(self.0.params);
@@ -190,9 +190,9 @@ impl Display for PacketsText {
     ghost output = { λ t. Some (packets_text t.0) };
 
     fn fmt<W: Write>(&self, f: &mut Formatter<W>) -> Result {
-        let loss_join = number_text("loss-join", 0, self.0.loss_join.of_hundred() as u64);
-        let loss = number_text("loss", 0, self.0.loss.of_hundred() as u64);
-        let repeat = number_text("repeat", 0, self.0.repeat.of_hundred() as u64);
+        let loss_join = number_text("loss-join", 0, self.0.loss_join.get() as u64);
+        let loss = number_text("loss", 0, self.0.loss.get() as u64);
+        let repeat = number_text("repeat", 0, self.0.repeat.get() as u64);
         let order = OrderText(self.0.order);
         let pace = PaceText(self.0.pace);
         write!(f, "{loss_join}{loss}{repeat}{order}{pace}")
@@ -210,10 +210,10 @@ impl Display for PhasesText {
     ghost output = { λ t. Some (phases_text t.0) };
 
     fn fmt<W: Write>(&self, f: &mut Formatter<W>) -> Result {
-        let rounds = number_text("rounds", 3, self.0.rounds.count() as u64);
+        let rounds = number_text("rounds", 3, self.0.rounds.get() as u64);
         let crash = CrashText(self.0.crash);
-        let heal = number_text("heal", 2, self.0.heal.count() as u64);
-        let broadcasts = number_text("broadcasts", 0, self.0.broadcasts.count() as u64);
+        let heal = number_text("heal", 2, self.0.heal.get() as u64);
+        let broadcasts = number_text("broadcasts", 0, self.0.broadcasts.get() as u64);
         write!(f, "{rounds}{crash}{heal}{broadcasts}")
     }
 }

@@ -34,7 +34,7 @@ impl SweepBlock {
 
     /// The words that ask for what broadcasts cost. That there are none is said, since `--costs` needs it.
     fn costs_words(&self) -> &'static str {
-        match (self.costs, self.first.broadcasts.count()) {
+        match (self.costs, self.first.broadcasts.get()) {
             (false, _) => "",
             (true, 0) => " --broadcasts 0 --costs",
             (true, _) => " --costs",

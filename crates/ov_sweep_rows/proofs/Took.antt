@@ -7,7 +7,7 @@ use Rattle.ov_ids.specs.Options.{◌>>=◌}
 use Rattle.ov_ids.specs.RefillNames.{refill_named}
 use Rattle.ov_ids.specs.declared.refill_rule.Refill.{Refill}
 use Rattle.ov_lines.specs.Lines.{long_bits, number_within, same}
-use Rattle.ov_grow_options.specs.Limits.{most_of_hundred, most_rounds, most_share, most_turns}
+use Rattle.ov_grow_options.specs.Limits.{most_nodes, most_of_hundred, most_rounds, most_share, most_turns}
 use Rattle.ov_grow_options.specs.declared.options.Order.TheVariants as turn
 use Rattle.ov_sweep_rows.specs.declared.cell.Cell.{Cell}
 use Rattle.ov_sweep_rows.specs.declared.cell.Cell.TheVariants as cell
@@ -106,7 +106,7 @@ flag_of c false false is = cc is
 
 -- what a column reads, it takes
 took : (takes : FieldForm) (text : List ℕ) (c : Cell) → read_as takes text ≡ Some c → Takes takes c
-took form.Nodes text c is = between 1 256 text c is
+took form.Nodes text c is = between 1 most_nodes text c is
 took form.Params text c is = between 0 most_short text c is
 took form.Refill text c is = refill_of c (refill_named text) is
 took form.Chance text c is = between 0 most_of_hundred text c is
@@ -120,7 +120,7 @@ took form.Number text c is = between 0 most_short text c is
 took form.Decimals text c is = decimals_of c (parts_in text) is
 took form.DecimalsOrNothing text c is = decimals_or_none text c is
 took form.Flag text c is = flag_of c (same text (codes "0")) (same text (codes "1")) is
-took form.Sender text c is = between_or_none 1 256 text c is
+took form.Sender text c is = between_or_none 1 most_nodes text c is
 
 -- one cell in front
 behind : (c : Cell) (cs : List Cell) (k : ℕ) (xs : List FieldForm) → TakeFrom cs 0 k xs → TakeFrom (c ∷ cs) 0 (suc k) xs

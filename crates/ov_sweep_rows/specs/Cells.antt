@@ -6,7 +6,7 @@ use Rattle.ov_ids.specs.Options.{◌>>=◌}
 use Rattle.ov_ids.specs.ParamsState.{ParamsState}
 use Rattle.ov_ids.specs.RefillNames.{refill_name, refill_named}
 use Rattle.ov_lines.specs.Lines.{long_bits, number_within, same}
-use Rattle.ov_grow_options.specs.Limits.{most_of_hundred, most_rounds, most_share, most_turns}
+use Rattle.ov_grow_options.specs.Limits.{most_nodes, most_of_hundred, most_rounds, most_share, most_turns}
 use Rattle.ov_grow_options.specs.declared.options.Crash.{Crash}
 use Rattle.ov_grow_options.specs.declared.options.Crash.TheVariants as crash
 use Rattle.ov_grow_options.specs.declared.options.GrowOptions.{GrowOptions}
@@ -219,7 +219,7 @@ flag_in text =
 
 -- what a column that takes this form reads in a text; None if the text is not of the form
 abbrev pub read_as : FieldForm → List ℕ → Option Cell
-read_as form.Nodes text = number_between 1 256 text
+read_as form.Nodes text = number_between 1 most_nodes text
 read_as form.Params text = number_between 0 most_short text
 read_as form.Refill text = option_map cell.Refill (refill_named text)
 read_as form.Chance text = number_between 0 most_of_hundred text
@@ -233,7 +233,7 @@ read_as form.Number text = number_between 0 most_short text
 read_as form.Decimals text = decimals_in text
 read_as form.DecimalsOrNothing text = or_nothing decimals_in text
 read_as form.Flag text = flag_in text
-read_as form.Sender text = or_nothing (number_between 1 256) text
+read_as form.Sender text = or_nothing (number_between 1 most_nodes) text
 
 -- the cells that columns of these forms read in the fields of a record: one in each, and no field is left
 unfoldable pub cells_read : List FieldForm → List (List ℕ) → Option (List Cell)

@@ -3,7 +3,7 @@
 ghost use Rattle.std.specs.Prelude.{◌≡◌, ◌<◌, ◌+◌, ◌*◌, ◌∷◌, ◌++◌, [], IfNone, IfSome, None, Some, length, take};
 ghost use Rattle.std.specs.Prelude.{drop};
 ghost use Rattle.std.specs.Prelude.{true, false};
-ghost use Rattle.ov_grow_options.specs.Limits.{most_of_hundred, most_rounds, most_share, most_turns};
+ghost use Rattle.ov_grow_options.specs.Limits.{most_nodes, most_turns};
 ghost use Rattle.ov_ids.specs.ParamsState.{AreWithinLimits, ParamsState};
 ghost use Rattle.ov_sweep_rows.specs.Cells.{cells, cost_cells, crash_cell, decimals_cell, flag_cell};
 ghost use Rattle.ov_sweep_rows.specs.Cells.{further_cells, most_long, most_short, number_cell, parameter_cells};
@@ -19,7 +19,9 @@ ghost use Rattle.ov_sweep_rows.specs.declared.cell.Cell.TheVariants as told;
 
 use crate::cell::Cell;
 use crate::{DeliveredShare, FourDecimals, PhaseCosts, PhaseRow, PhaseShape, Row, RowForm};
-use ov_grow_options::{Chance, Count, Crash, GrowOptions, NodeCount, Order, Pace, Share};
+use ov_grow_options::{
+    Crash, GrowOptions, NO_CHANCE, NO_ROUNDS, NO_SHARE, NODES, Order, Pace, Within,
+};
 use ov_ids::{NodeId, Params, Refill};
 
 /// The row of this form with these cells. None is returned if its parameters are not within their limits.
@@ -81,18 +83,18 @@ fn options_with(form: RowForm, cells: &[Cell], params: Params) -> GrowOptions
     ensures learned { form.further ≡ false → result.detect ≡ false }
 {
     GrowOptions {
-        nodes: nodes(cell_at(cells, 0)),
+        nodes: within(cell_at(cells, 0), NODES),
         params,
         seed: long_number(cell_at(cells, 18)),
-        loss_join: chance(cell_at(cells, 9)),
-        loss: chance(cell_at(cells, 10)),
-        repeat: share(cell_at(cells, 11)),
+        loss_join: within(cell_at(cells, 9), NO_CHANCE),
+        loss: within(cell_at(cells, 10), NO_CHANCE),
+        repeat: within(cell_at(cells, 11), NO_SHARE),
         order: order(cell_at(cells, 12)),
         pace: pace(cell_at(cells, 13)),
-        rounds: count(cell_at(cells, 14)),
+        rounds: within(cell_at(cells, 14), NO_ROUNDS),
         crash: crash(cell_at(cells, 15)),
-        heal: count(cell_at(cells, 16)),
-        broadcasts: count(cell_at(cells, 17)),
+        heal: within(cell_at(cells, 16), NO_ROUNDS),
+        broadcasts: within(cell_at(cells, 17), NO_ROUNDS),
         sequential: form.further && flag(cell_at(cells, 37)),
         sender: further_sender(form, cells),
         detect: form.further && flag(cell_at(cells, 39)),
@@ -101,7 +103,7 @@ fn options_with(form: RowForm, cells: &[Cell], params: Params) -> GrowOptions
 
 /// The node that makes each broadcast, if rows have a column for it.
 fn further_sender(form: RowForm, cells: &[Cell]) -> Option<NodeId>
-    ensures cell { form.further ≡ true → IsBetweenOrNothing 1 256 (cell_at cells.now 38)
+    ensures cell { form.further ≡ true → IsBetweenOrNothing 1 most_nodes (cell_at cells.now 38)
         → number_cell result ≡ cell_at cells.now 38 }
     ensures none { form.further ≡ false → result ≡ None }
 {
@@ -205,28 +207,14 @@ fn number(cell: Cell) -> u32
     u32::try_from(long_number(cell)).unwrap_or(0)
 }
 
-fn nodes(cell: Cell) -> NodeCount
-    ensures { IsBetween 1 256 cell → number_cell (Some result) ≡ cell }
+/// The number of a cell that is within these limits, and else the usual one.
+fn within<const LOW: u32, const HIGH: u32>(
+    cell: Cell,
+    usual: Within<LOW, HIGH>,
+) -> Within<LOW, HIGH>
+    ensures { IsBetween LOW HIGH cell → number_cell (Some result) ≡ cell }
 {
-    NodeCount::new(number(cell)).unwrap_or(NodeCount::DEFAULT)
-}
-
-fn chance(cell: Cell) -> Chance
-    ensures { IsBetween 0 most_of_hundred cell → number_cell (Some result) ≡ cell }
-{
-    Chance::new(number(cell)).unwrap_or(Chance::ZERO)
-}
-
-fn share(cell: Cell) -> Share
-    ensures { IsBetween 0 most_share cell → number_cell (Some result) ≡ cell }
-{
-    Share::new(number(cell)).unwrap_or(Share::ZERO)
-}
-
-fn count(cell: Cell) -> Count
-    ensures { IsBetween 0 most_rounds cell → number_cell (Some result) ≡ cell }
-{
-    Count::new(number(cell)).unwrap_or(Count::ZERO)
+    Within::new(number(cell)).unwrap_or(usual)
 }
 
 fn pace(cell: Cell) -> Option<Pace>
@@ -239,7 +227,7 @@ fn pace(cell: Cell) -> Option<Pace>
 }
 
 fn sender(cell: Cell) -> Option<NodeId>
-    ensures { IsBetweenOrNothing 1 256 cell → number_cell result ≡ cell }
+    ensures { IsBetweenOrNothing 1 most_nodes cell → number_cell result ≡ cell }
 {
     if cell == Cell::Empty {
         return None;
@@ -253,7 +241,7 @@ fn crash(cell: Cell) -> Crash
     if cell == Cell::Cut {
         return Crash::Cut;
     }
-    Crash::Share(share(cell))
+    Crash::Share(within(cell, NO_SHARE))
 }
 
 fn order(cell: Cell) -> Order

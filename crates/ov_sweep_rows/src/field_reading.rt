@@ -5,7 +5,7 @@ ghost use Rattle.ov_sweep_rows.specs.declared.row_fault.FieldForm.TheVariants as
 
 use crate::cell::Cell;
 use crate::{FieldForm, FourDecimals};
-use ov_grow_options::{Chance, Count, NodeCount, Order, Pace, Share};
+use ov_grow_options::{MOST_NODES, MOST_OF_HUNDRED, MOST_ROUNDS, MOST_SHARE, MOST_TURNS, Order};
 use ov_ids::Refill;
 use ov_lines::read_number;
 
@@ -15,20 +15,20 @@ impl FieldForm {
         ensures { result ≡ read_as self text.now }
     {
         match self {
-            FieldForm::Nodes => number_between(1, NodeCount::MOST, text),
+            FieldForm::Nodes => number_between(1, MOST_NODES, text),
             FieldForm::Params | FieldForm::Number => number_between(0, u32::MAX, text),
             FieldForm::Refill => refill_in(text),
-            FieldForm::Chance => number_between(0, Chance::MOST, text),
-            FieldForm::Share => number_between(0, Share::MOST, text),
+            FieldForm::Chance => number_between(0, MOST_OF_HUNDRED, text),
+            FieldForm::Share => number_between(0, MOST_SHARE, text),
             FieldForm::Order => order_in(text),
-            FieldForm::Pace => number_or_nothing(0, Pace::MOST, text),
-            FieldForm::Count => number_between(0, Count::MOST, text),
+            FieldForm::Pace => number_or_nothing(0, MOST_TURNS, text),
+            FieldForm::Count => number_between(0, MOST_ROUNDS, text),
             FieldForm::Crash => crash_in(text),
             FieldForm::Seed => seed_in(text),
             FieldForm::Decimals => decimals_in(text),
             FieldForm::DecimalsOrNothing => decimals_or_nothing(text),
             FieldForm::Flag => flag_in(text),
-            FieldForm::Sender => number_or_nothing(1, NodeCount::MOST, text),
+            FieldForm::Sender => number_or_nothing(1, MOST_NODES, text),
         }
     }
 }
@@ -90,7 +90,7 @@ fn crash_in(text: &[u8]) -> Option<Cell>
     if text == b"cut".as_slice() {
         return Some(Cell::Cut);
     }
-    number_between(0, Share::MOST, text)
+    number_between(0, MOST_SHARE, text)
 }
 
 fn flag_in(text: &[u8]) -> Option<Cell>

@@ -22,7 +22,7 @@ pub(crate) fn setting_cells(options: &GrowOptions) -> [Cell; 18]
 {
     let params = options.params;
     [
-        number(options.nodes.count()),
+        number(options.nodes.get()),
         Cell::Number(params.active() as u64),
         Cell::Number(params.passive() as u64),
         Cell::Number(u64::from(params.arwl())),
@@ -31,15 +31,15 @@ pub(crate) fn setting_cells(options: &GrowOptions) -> [Cell; 18]
         Cell::Number(params.kp() as u64),
         Cell::Number(u64::from(params.shuffle_ttl())),
         Cell::Refill(params.refill()),
-        number(options.loss_join.of_hundred()),
-        number(options.loss.of_hundred()),
-        number(options.repeat.of_hundred()),
+        number(options.loss_join.get()),
+        number(options.loss.get()),
+        number(options.repeat.get()),
         Cell::Order(options.order),
         pace_cell(options.pace),
-        number(options.rounds.count()),
+        number(options.rounds.get()),
         crash_cell(options.crash),
-        number(options.heal.count()),
-        number(options.broadcasts.count()),
+        number(options.heal.get()),
+        number(options.broadcasts.get()),
     ]
 }
 
@@ -159,7 +159,7 @@ fn pace_cell(pace: Option<Pace>) -> Cell
 {
     match pace {
         None => Cell::Empty,
-        Some(pace) => number(pace.turns()),
+        Some(pace) => number(pace.get()),
     }
 }
 
@@ -168,7 +168,7 @@ fn crash_cell(crash: Crash) -> Cell
     ensures back { read_as form.Crash (cell_text result) ≡ Some result }
 {
     match crash {
-        Crash::Share(share) => number(share.of_hundred()),
+        Crash::Share(share) => number(share.get()),
         Crash::Cut => Cell::Cut,
     }
 }

@@ -32,7 +32,7 @@ pub fn split_answer_text(
 ) -> Result<String, OutOfMemory> {
     let differing = differing(alloc, settings)?;
     let order = places_by_size(alloc, settings)?;
-    let percent = question.bound.of_hundred();
+    let percent = question.bound.get();
     let phase = phase_name(question.phase);
     let mut text = format!(in alloc;
         "Split after {phase} in less than {percent} of 100 runs, by the 95 % interval? The smallest setting first:\n\n"
@@ -63,7 +63,7 @@ pub(crate) fn push_few_runs(text: &mut String, runs: u32, bound: Share) -> Resul
         return Ok(());
     }
     let allowed = none.interval().high * 100.0;
-    let percent = bound.of_hundred();
+    let percent = bound.get();
     let word = if runs == 1 { "run" } else { "runs" };
     write!(
         text,
@@ -97,7 +97,7 @@ fn answer_heads(
     bound: Share,
 ) -> Result<Vec<String>, AllocError> {
     let mut line = heads(alloc, differing, &SPLIT_HEADS)?;
-    let percent = bound.of_hundred();
+    let percent = bound.get();
     line.push(format!(in alloc; "below {percent} %")?)?;
     Ok(line)
 }
@@ -161,7 +161,7 @@ fn push_answer(
     question: &SplitQuestion,
 ) -> Result<(), AllocError> {
     let bound = question.bound;
-    let percent = bound.of_hundred();
+    let percent = bound.get();
     let runs = runs_in_order(alloc, settings, order, question.phase)?;
     if let Some(place) = first_below(&runs, bound) {
         let name = name_of(alloc, &cells_of(settings, order, place), differing)?;

@@ -88,7 +88,7 @@ impl SplitRuns {
         ensures none { IfNone result ((n : ℕ) → self.runs ≤ n → n < 2 ^ 32 - 1
             → LiesBelow (split_runs self.split n) bound → ⊥) }
     {
-        if bound.of_hundred() == 0 {
+        if bound.get() == 0 {
             return None;
         }
         for runs in self.runs..u32::MAX {
@@ -107,7 +107,7 @@ impl SplitRuns {
     pub(crate) fn is_rarer(self, bound: Share) -> bool
         ensures { IsTrue result ↔ (100 * self.split < bound * self.runs) }
     {
-        100 * u64::from(self.split) < u64::from(bound.of_hundred()) * u64::from(self.runs)
+        100 * u64::from(self.split) < u64::from(bound.get()) * u64::from(self.runs)
     }
 
     /// Whether the bound lies outside of the interval.
@@ -135,7 +135,7 @@ impl SplitRuns {
         ensures limit { result < 2 ^ 40 }
     {
         let split = 100 * u64::from(self.split);
-        let most = u64::from(bound.of_hundred()) * u64::from(self.runs);
+        let most = u64::from(bound.get()) * u64::from(self.runs);
         split.saturating_sub(most) + most.saturating_sub(split)
     }
 
@@ -143,7 +143,7 @@ impl SplitRuns {
     fn spread(self, bound: Share) -> u128
         ensures { result ≡ square_of_deviations * (self.runs * self.runs * (bound * (100 - bound))) }
     {
-        let percent = u64::from(bound.of_hundred());
+        let percent = u64::from(bound.get());
         let runs = u64::from(self.runs);
         SQUARE * (u128::from(runs * runs) * u128::from(percent * (100 - percent)))
     }

@@ -3,7 +3,7 @@ use Rattle.std.specs.Prelude.{◌≡◌, ◌≢◌, ◌≤◌, ◌⊎◌, ℕ, s
 use Rattle.std.specs.Prelude.{Some, None, IsSome, codes, map, slice_get, take}
 use Rattle.csv.specs.declared.error.ErrorKind.{ErrorKind}
 use Rattle.csv.specs.declared.error.ErrorKind.TheVariants as kind
-use Rattle.ov_grow_options.specs.Limits.{most_of_hundred, most_rounds, most_share, most_turns}
+use Rattle.ov_grow_options.specs.Limits.{most_nodes, most_of_hundred, most_rounds, most_share, most_turns}
 use Rattle.ov_sweep_rows.specs.declared.cell.Cell.{Cell}
 use Rattle.ov_sweep_rows.specs.declared.cell.Cell.TheVariants as cell
 use Rattle.ov_sweep_rows.specs.declared.row.Row.{Row}
@@ -91,7 +91,7 @@ IsCrash other = IsBetween 0 most_share other
 
 -- a cell may be read in a column that takes this form
 abbrev pub Takes : FieldForm → Cell → Type 0
-Takes form.Nodes c = IsBetween 1 256 c
+Takes form.Nodes c = IsBetween 1 most_nodes c
 Takes form.Params c = IsBetween 0 most_short c
 Takes form.Refill c = IsRefill c
 Takes form.Chance c = IsBetween 0 most_of_hundred c
@@ -105,7 +105,7 @@ Takes form.Number c = IsBetween 0 most_short c
 Takes form.Decimals c = IsDecimals c
 Takes form.DecimalsOrNothing c = IsDecimalsOrNothing c
 Takes form.Flag c = IsBetween 0 1 c
-Takes form.Sender c = IsBetweenOrNothing 1 256 c
+Takes form.Sender c = IsBetweenOrNothing 1 most_nodes c
 
 -- columns of these forms may read the cells from a place on; the first of these forms is the one at this place of them
 abbrev pub TakeFrom : List Cell → ℕ → ℕ → List FieldForm → Type 0

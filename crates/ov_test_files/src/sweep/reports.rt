@@ -139,7 +139,7 @@ fn three_of_ten(rt: HostRuntime) {
 
 /// Whether the verdict of so many runs, reckoned in whole numbers, is that of the ends of their interval.
 fn is_of_interval(runs: SplitRuns, bound: Share) -> bool {
-    let share = f64::from(bound.of_hundred()) / 100.0;
+    let share = f64::from(bound.get()) / 100.0;
     let interval = runs.interval();
     match runs.verdict(bound) {
         Verdict::Below => interval.high < share,

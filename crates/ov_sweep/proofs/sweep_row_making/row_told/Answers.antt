@@ -9,12 +9,12 @@ pub returns : goal.returns
 returns c =
     let grown = c.args.logged.now.grown in
     let is = c.requires.grows in
-    let b = c.count-broadcasts.ensures.value in
+    let b = c.get-broadcasts.ensures.value in
     let m = c.args.measures in
     record {
       options = refl;
       three = refl;
-      text = grown.text.items;
+      text = grown.script.text;
       core = grown.core;
       settled = grown.settled;
       crashed = grown.crashed;

@@ -7,4 +7,4 @@ use Rattle.ov_sweep_rows.proofs.row_cells.crash_cell.Goals as goal
 pub returns-in-Share-clause-back : goal.returns-in-Share-clause-back
 returns-in-Share-clause-back c =
     subst (λ (one : Cell). crash_in (cell_text one) ≡ Some one) (sym c.number.ensures.cell)
-    (crash_back c.of_hundred.result c.of_hundred.ensures.limit)
+    (crash_back c.get.result c.get.ensures.most)

@@ -7,7 +7,7 @@ use Rattle.ov_sweep_rows.proofs.row_cells.pace_cell.Goals as goal
 
 pub returns-in-Some-clause-back : goal.returns-in-Some-clause-back
 returns-in-Some-clause-back c =
-    let limit = c.turns.ensures.limit in
+    let limit = c.get.ensures.most in
     subst (λ (one : Cell). or_nothing (number_between 0 most_turns) (cell_text one) ≡ Some one)
     (sym c.number.ensures.cell)
-    (number_or_nothing_back 0 most_turns c.turns.result (omega arith) limit (omega (arith, limit)))
+    (number_or_nothing_back 0 most_turns c.get.result (omega arith) limit (omega (arith, limit)))

@@ -44,19 +44,19 @@ returns-in_err-crash_each-clause-refused c =
 
 pub returns-clause-goes : goal.returns-clause-goes
 returns-clause-goes c = IfOk-weaker c.end_phase.result
-    (λ phase. Goes (λ s u. EndsPhase c.crashing-rules.result c.count.result s phase u) c.crash_each.new.self
+    (λ phase. Goes (λ s u. EndsPhase c.crashing-rules.result c.get.result s phase u) c.crash_each.new.self
     c.end_phase.new.self)
     (λ phase. Goes (λ s u. CrashNodes c.args.options.now c.args.settled s phase u) c.args.self.now c.end_phase.new.self)
-    (λ phase ends. crash_goes c.args.options.now c.args.settled c.crashing-rules.result c.count.result
+    (λ phase ends. crash_goes c.args.options.now c.args.settled c.crashing-rules.result c.get.result
     c.in_ok-nodes.nodes.items c.deref.result.now phase c.args.self.now c.comment.new.self c.to_crash.new.self
-    c.crash_each.new.self c.end_phase.new.self c.crashing-rules.ensures c.count.ensures.value c.deref.ensures.value
+    c.crash_each.new.self c.end_phase.new.self c.crashing-rules.ensures c.get.ensures.value c.deref.ensures.value
     c.in_ok-comment.ensures.goes c.in_ok-nodes.ensures.goes c.in_ok-crash_each.ensures.goes ends)
     c.end_phase.ensures.ends
 
 pub returns-clause-refused : goal.returns-clause-refused
 returns-clause-refused c = IfErr-weaker _ _ _ (λ fault none. no_way_crashed c.args.options.now c.args.settled
-    c.crashing-rules.result c.count.result c.in_ok-nodes.nodes.items c.deref.result.now c.args.self.now
-    c.comment.new.self c.to_crash.new.self c.crash_each.new.self fault c.crashing-rules.ensures c.count.ensures.value
+    c.crashing-rules.result c.get.result c.in_ok-nodes.nodes.items c.deref.result.now c.args.self.now
+    c.comment.new.self c.to_crash.new.self c.crash_each.new.self fault c.crashing-rules.ensures c.get.ensures.value
     c.deref.ensures.value c.in_ok-comment.ensures.goes c.in_ok-nodes.ensures.goes c.in_ok-crash_each.ensures.goes none)
     c.end_phase.ensures.refused
 
@@ -88,7 +88,7 @@ end_phase-requires-clause-made c =
     (growth_of c.args.self.now) (growth_of c.comment.new.self) (growth_of c.to_crash.new.self)
     (growth_of c.crash_each.new.self) (ap (λ g. g.world) c.in_ok-comment.ensures.goes.way)
     c.in_ok-nodes.ensures.goes.way c.in_ok-crash_each.ensures.goes.way c.requires.made in
-    let few : most_rounds + c.count.result ≤ most_broadcasts = omega (arith, c.count.ensures.limit) in
+    let few : most_rounds + c.get.result ≤ most_broadcasts = omega (arith, c.get.ensures.most) in
     (most_rounds, after, few)
 
 pub returns-in_err-comment-clause-full : goal.returns-in_err-comment-clause-full
@@ -103,7 +103,7 @@ returns-in_err-nodes-clause-full c =
 
 pub returns-clause-live : goal.returns-clause-live
 returns-clause-live c =
-    ended_live c.crashing-rules.result c.count.result c.crash_each.new.self c.end_phase.new.self c.end_phase.result
+    ended_live c.crashing-rules.result c.get.result c.crash_each.new.self c.end_phase.new.self c.end_phase.result
     c.end_phase.ensures.ends
 
 pub returns-clause-made : goal.returns-clause-made
@@ -113,6 +113,6 @@ returns-clause-made c =
     (growth_of c.args.self.now) (growth_of c.comment.new.self) (growth_of c.to_crash.new.self)
     (growth_of c.crash_each.new.self) (ap (λ g. g.world) c.in_ok-comment.ensures.goes.way)
     c.in_ok-nodes.ensures.goes.way c.in_ok-crash_each.ensures.goes.way c.requires.made in
-    let few : most_rounds + c.count.result ≤ most_rounds + most_rounds = omega (arith, c.count.ensures.limit) in
-    ended_made c.crashing-rules.result c.count.result most_rounds (most_rounds + most_rounds) c.crash_each.new.self
+    let few : most_rounds + c.get.result ≤ most_rounds + most_rounds = omega (arith, c.get.ensures.most) in
+    ended_made c.crashing-rules.result c.get.result most_rounds (most_rounds + most_rounds) c.crash_each.new.self
     c.end_phase.new.self c.end_phase.result few after c.end_phase.ensures.ends

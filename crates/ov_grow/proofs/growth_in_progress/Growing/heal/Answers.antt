@@ -32,25 +32,25 @@ returns-in_err-rounds-clause-refused c =
     let fault = c.in_err-rounds.field-0.0 in
     passes_on (IsNoWay (λ s u. (phase : PhaseEnd) × Heal c.args.options.now s phase u) c.args.self.now)
     c.from_residual-in_err-rounds.result fault c.from_residual-in_err-rounds.ensures.1
-    (no_way_mended c.args.options.now c.healing-rules.result c.count.result c.args.self.now c.comment.new.self
-    c.tell_crashes.new.self fault c.healing-rules.ensures c.count.ensures.value c.in_ok-comment.ensures.goes
+    (no_way_mended c.args.options.now c.healing-rules.result c.get.result c.args.self.now c.comment.new.self
+    c.tell_crashes.new.self fault c.healing-rules.ensures c.get.ensures.value c.in_ok-comment.ensures.goes
     c.in_ok-tell_crashes.ensures.goes c.in_err-rounds.ensures.refused)
 
 pub returns-clause-goes : goal.returns-clause-goes
 returns-clause-goes c = IfOk-weaker c.end_phase.result
-    (λ phase. Goes (λ s u. EndsPhase c.healing-rules.result c.count-2.result s phase u) c.rounds.new.self
+    (λ phase. Goes (λ s u. EndsPhase c.healing-rules.result c.get-2.result s phase u) c.rounds.new.self
     c.end_phase.new.self)
     (λ phase. Goes (λ s u. Heal c.args.options.now s phase u) c.args.self.now c.end_phase.new.self)
-    (λ phase ends. heal_goes c.args.options.now c.healing-rules.result c.count.result c.count-2.result phase
+    (λ phase ends. heal_goes c.args.options.now c.healing-rules.result c.get.result c.get-2.result phase
     c.args.self.now c.comment.new.self c.tell_crashes.new.self c.rounds.new.self c.end_phase.new.self
-    c.healing-rules.ensures c.count.ensures.value c.count-2.ensures.value c.in_ok-comment.ensures.goes
+    c.healing-rules.ensures c.get.ensures.value c.get-2.ensures.value c.in_ok-comment.ensures.goes
     c.in_ok-tell_crashes.ensures.goes c.in_ok-rounds.ensures.goes ends)
     c.end_phase.ensures.ends
 
 pub returns-clause-refused : goal.returns-clause-refused
 returns-clause-refused c = IfErr-weaker _ _ _ (λ fault none. no_way_healed c.args.options.now c.healing-rules.result
-    c.count.result c.count-2.result c.args.self.now c.comment.new.self c.tell_crashes.new.self c.rounds.new.self
-    fault c.healing-rules.ensures c.count.ensures.value c.count-2.ensures.value c.in_ok-comment.ensures.goes
+    c.get.result c.get-2.result c.args.self.now c.comment.new.self c.tell_crashes.new.self c.rounds.new.self
+    fault c.healing-rules.ensures c.get.ensures.value c.get-2.ensures.value c.in_ok-comment.ensures.goes
     c.in_ok-tell_crashes.ensures.goes c.in_ok-rounds.ensures.goes none) c.end_phase.ensures.refused
 
 pub end_phase-requires-clause-live : goal.end_phase-requires-clause-live
@@ -58,7 +58,7 @@ end_phase-requires-clause-live c =
     let s = growth_of c.args.self.now in
     let w = growth_of c.rounds.new.self in
     lives_keeps s w
-    (heal_keeps c.args.options.now.detect c.healing-rules.result c.count.result s (growth_of c.comment.new.self)
+    (heal_keeps c.args.options.now.detect c.healing-rules.result c.get.result s (growth_of c.comment.new.self)
     (growth_of c.tell_crashes.new.self) w (ap (λ g. g.world) c.in_ok-comment.ensures.goes.way)
     c.in_ok-tell_crashes.ensures.goes.way c.in_ok-rounds.ensures.goes.way) c.requires.live
 
@@ -67,11 +67,11 @@ end_phase-requires-clause-made c =
     let s = growth_of c.args.self.now in
     let w = growth_of c.rounds.new.self in
     let keeps =
-    heal_keeps c.args.options.now.detect c.healing-rules.result c.count.result s (growth_of c.comment.new.self)
+    heal_keeps c.args.options.now.detect c.healing-rules.result c.get.result s (growth_of c.comment.new.self)
     (growth_of c.tell_crashes.new.self) w (ap (λ g. g.world) c.in_ok-comment.ensures.goes.way)
     c.in_ok-tell_crashes.ensures.goes.way c.in_ok-rounds.ensures.goes.way in
-    let few : most_rounds + most_rounds + c.count-2.result ≤ most_broadcasts =
-    omega (arith, c.count-2.ensures.limit) in
+    let few : most_rounds + most_rounds + c.get-2.result ≤ most_broadcasts =
+    omega (arith, c.get-2.ensures.most) in
     (most_rounds + most_rounds, made_keeps (most_rounds + most_rounds) s w keeps c.requires.made, few)
 
 pub returns-in_err-comment-clause-full : goal.returns-in_err-comment-clause-full

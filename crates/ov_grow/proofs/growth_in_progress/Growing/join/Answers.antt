@@ -28,9 +28,9 @@ returns-in_err-births-clause-refused c =
     let fault = c.in_err-births.field-0.0 in
     passes_on (IsNoWay (Join c.args.options.now) c.args.self.now) c.from_residual-in_err-births.result fault
     c.from_residual-in_err-births.ensures.1
-    (no_way_births c.args.options.now c.joining-rules.result c.turns_between.result c.count.result c.new.result
+    (no_way_births c.args.options.now c.joining-rules.result c.turns_between.result c.get.result c.new.result
     c.args.self.now c.comment.new.self c.act.new.self fault c.joining-rules.ensures c.turns_between.ensures
-    c.count.ensures.count c.new.ensures c.in_ok-comment.ensures.goes c.in_ok-act.ensures.goes
+    c.get.ensures.value c.new.ensures c.in_ok-comment.ensures.goes c.in_ok-act.ensures.goes
     c.in_err-births.ensures.refused)
 
 pub returns-in_err-comment-clause-full : goal.returns-in_err-comment-clause-full
@@ -56,14 +56,14 @@ births-requires-clause-born c =
 
 pub returns-clause-goes : goal.returns-clause-goes
 returns-clause-goes c = on_ok_weaker _ (λ out. join_goes c.args.options.now c.joining-rules.result
-    c.turns_between.result c.count.result
+    c.turns_between.result c.get.result
     c.new.result c.args.self.now c.comment.new.self c.act.new.self c.births.new.self c.run_out.new.self
-    c.joining-rules.ensures c.turns_between.ensures c.count.ensures.count c.new.ensures c.in_ok-comment.ensures.goes
+    c.joining-rules.ensures c.turns_between.ensures c.get.ensures.value c.new.ensures c.in_ok-comment.ensures.goes
     c.in_ok-act.ensures.goes c.in_ok-births.ensures.goes out) c.run_out.ensures.goes
 
 pub returns-clause-refused : goal.returns-clause-refused
 returns-clause-refused c = IfErr-weaker _ _ _ (λ fault none. no_way_joined c.args.options.now c.joining-rules.result
-    c.turns_between.result c.count.result
+    c.turns_between.result c.get.result
     c.new.result c.args.self.now c.comment.new.self c.act.new.self c.births.new.self fault
-    c.joining-rules.ensures c.turns_between.ensures c.count.ensures.count c.new.ensures c.in_ok-comment.ensures.goes
+    c.joining-rules.ensures c.turns_between.ensures c.get.ensures.value c.new.ensures c.in_ok-comment.ensures.goes
     c.in_ok-act.ensures.goes c.in_ok-births.ensures.goes none) c.run_out.ensures.refused

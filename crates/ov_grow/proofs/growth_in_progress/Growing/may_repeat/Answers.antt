@@ -6,20 +6,20 @@ use Rattle.ov_grow.proofs.growth_in_progress.Growing.may_repeat.Goals as goal
 
 pub returns-then-comes_true-clause-goes : goal.returns-then-comes_true-clause-goes
 returns-then-comes_true-clause-goes c = on_ok_weaker _ (λ did. repeated_goes c.args.rules.now c.args.place
-    c.of_hundred.result c.comes_true.result c.args.self.now c.act.new.self
-    c.comes_true.new.self c.of_hundred.ensures.value c.comes_true.ensures.value c.comes_true.ensures.left
+    c.get.result c.comes_true.result c.args.self.now c.act.new.self
+    c.comes_true.new.self c.get.ensures.value c.comes_true.ensures.value c.comes_true.ensures.left
     c.if-comes_true.true did) c.act.ensures.goes
 
 pub returns-then-comes_true-clause-refused : goal.returns-then-comes_true-clause-refused
 returns-then-comes_true-clause-refused c = IfErr-weaker _ _ _ (λ fault none. no_way_repeated c.args.rules.now
-    c.args.place c.of_hundred.result c.comes_true.result c.args.self.now c.comes_true.new.self fault
-    c.of_hundred.ensures.value c.comes_true.ensures.value c.comes_true.ensures.left
+    c.args.place c.get.result c.comes_true.result c.args.self.now c.comes_true.new.self fault
+    c.get.ensures.value c.comes_true.ensures.value c.comes_true.ensures.left
     c.if-comes_true.true none) c.act.ensures.refused
 
 pub returns-clause-goes : goal.returns-clause-goes
-returns-clause-goes c = not_repeated_goes c.args.rules.now c.args.place c.of_hundred.result c.comes_true.result
+returns-clause-goes c = not_repeated_goes c.args.rules.now c.args.place c.get.result c.comes_true.result
     c.args.self.now
-    c.comes_true.new.self c.of_hundred.ensures.value c.comes_true.ensures.value c.comes_true.ensures.left
+    c.comes_true.new.self c.get.ensures.value c.comes_true.ensures.value c.comes_true.ensures.left
     c.if-comes_true.false
 
 pub returns-then-comes_true-clause-full : goal.returns-then-comes_true-clause-full

@@ -23,23 +23,23 @@ returns-in_err-rounds-clause-refused c =
     let fault = c.in_err-rounds.field-0.0 in
     passes_on (IsNoWay (λ s u. (phase : PhaseEnd) × Settle c.args.options.now s phase u) c.args.self.now)
     c.from_residual-in_err-rounds.result fault c.from_residual-in_err-rounds.ensures.1
-    (no_way_settle c.args.options.now c.settling-rules.result c.count.result c.args.self.now c.comment.new.self fault
-    c.settling-rules.ensures c.count.ensures.value c.in_ok-comment.ensures.goes c.in_err-rounds.ensures.refused)
+    (no_way_settle c.args.options.now c.settling-rules.result c.get.result c.args.self.now c.comment.new.self fault
+    c.settling-rules.ensures c.get.ensures.value c.in_ok-comment.ensures.goes c.in_err-rounds.ensures.refused)
 
 pub returns-clause-goes : goal.returns-clause-goes
 returns-clause-goes c = IfOk-weaker c.end_phase.result
-    (λ phase. Goes (λ s u. EndsPhase c.settling-rules.result c.count-2.result s phase u) c.rounds.new.self
+    (λ phase. Goes (λ s u. EndsPhase c.settling-rules.result c.get-2.result s phase u) c.rounds.new.self
     c.end_phase.new.self)
     (λ phase. Goes (λ s u. Settle c.args.options.now s phase u) c.args.self.now c.end_phase.new.self)
-    (λ phase ends. settle_goes c.args.options.now c.settling-rules.result c.count.result c.count-2.result phase
+    (λ phase ends. settle_goes c.args.options.now c.settling-rules.result c.get.result c.get-2.result phase
     c.args.self.now c.comment.new.self c.rounds.new.self c.end_phase.new.self c.settling-rules.ensures
-    c.count.ensures.value c.count-2.ensures.value c.in_ok-comment.ensures.goes c.in_ok-rounds.ensures.goes ends)
+    c.get.ensures.value c.get-2.ensures.value c.in_ok-comment.ensures.goes c.in_ok-rounds.ensures.goes ends)
     c.end_phase.ensures.ends
 
 pub returns-clause-refused : goal.returns-clause-refused
 returns-clause-refused c = IfErr-weaker _ _ _ (λ fault none. no_way_settled c.args.options.now c.settling-rules.result
-    c.count.result c.count-2.result c.args.self.now c.comment.new.self c.rounds.new.self fault
-    c.settling-rules.ensures c.count.ensures.value c.count-2.ensures.value c.in_ok-comment.ensures.goes
+    c.get.result c.get-2.result c.args.self.now c.comment.new.self c.rounds.new.self fault
+    c.settling-rules.ensures c.get.ensures.value c.get-2.ensures.value c.in_ok-comment.ensures.goes
     c.in_ok-rounds.ensures.goes none) c.end_phase.ensures.refused
 
 pub end_phase-requires-clause-live : goal.end_phase-requires-clause-live
@@ -47,7 +47,7 @@ end_phase-requires-clause-live c =
     let s = growth_of c.args.self.now in
     let v = growth_of c.rounds.new.self in
     lives_keeps s v
-    (settle_keeps c.settling-rules.result c.count.result s (growth_of c.comment.new.self) v
+    (settle_keeps c.settling-rules.result c.get.result s (growth_of c.comment.new.self) v
     (ap (λ g. g.world) c.in_ok-comment.ensures.goes.way) c.in_ok-rounds.ensures.goes.way) c.requires.live
 
 pub end_phase-requires-clause-made : goal.end_phase-requires-clause-made
@@ -55,9 +55,9 @@ end_phase-requires-clause-made c =
     let s = growth_of c.args.self.now in
     let v = growth_of c.rounds.new.self in
     let keeps =
-    settle_keeps c.settling-rules.result c.count.result s (growth_of c.comment.new.self) v
+    settle_keeps c.settling-rules.result c.get.result s (growth_of c.comment.new.self) v
     (ap (λ g. g.world) c.in_ok-comment.ensures.goes.way) c.in_ok-rounds.ensures.goes.way in
-    let few : 0 + c.count-2.result ≤ most_broadcasts = omega (arith, c.count-2.ensures.limit) in
+    let few : 0 + c.get-2.result ≤ most_broadcasts = omega (arith, c.get-2.ensures.most) in
     (0, made_keeps 0 s v keeps c.requires.made, few)
 
 pub returns-in_err-comment-clause-full : goal.returns-in_err-comment-clause-full
@@ -67,7 +67,7 @@ returns-in_err-comment-clause-full c =
 
 pub returns-clause-live : goal.returns-clause-live
 returns-clause-live c =
-    ended_live c.settling-rules.result c.count-2.result c.rounds.new.self c.end_phase.new.self c.end_phase.result
+    ended_live c.settling-rules.result c.get-2.result c.rounds.new.self c.end_phase.new.self c.end_phase.result
     c.end_phase.ensures.ends
 
 pub returns-clause-made : goal.returns-clause-made
@@ -75,8 +75,8 @@ returns-clause-made c =
     let s = growth_of c.args.self.now in
     let v = growth_of c.rounds.new.self in
     let keeps =
-    settle_keeps c.settling-rules.result c.count.result s (growth_of c.comment.new.self) v
+    settle_keeps c.settling-rules.result c.get.result s (growth_of c.comment.new.self) v
     (ap (λ g. g.world) c.in_ok-comment.ensures.goes.way) c.in_ok-rounds.ensures.goes.way in
-    let few : 0 + c.count-2.result ≤ most_rounds = omega (arith, c.count-2.ensures.limit) in
-    ended_made c.settling-rules.result c.count-2.result 0 most_rounds c.rounds.new.self c.end_phase.new.self
+    let few : 0 + c.get-2.result ≤ most_rounds = omega (arith, c.get-2.ensures.most) in
+    ended_made c.settling-rules.result c.get-2.result 0 most_rounds c.rounds.new.self c.end_phase.new.self
     c.end_phase.result few (made_keeps 0 s v keeps c.requires.made) c.end_phase.ensures.ends
