@@ -1,14 +1,13 @@
 use Rattle.ov_sweep_rows.proofs.Gathering.{anyway}
 use Rattle.ov_sweep_rows.proofs.ReadBack.{read_all, read_more}
-use Rattle.ov_sweep_rows.proofs.row_cells.shape_cells.Goals as goal
+use Rattle.ov_sweep_rows.proofs.phase_costs.cost_cells.Goals as goal
 
 pub returns-in-Some-clause-back : goal.returns-in-Some-clause-back
 returns-in-Some-clause-back c =
-    anyway c.args.shape _
+    anyway c.args.costs _
     (read_more _ _ _ _ _ _ c.number.ensures.back
-    (read_more _ _ _ _ _ _ c.decimals.ensures.back
-    (read_more _ _ _ _ _ _ c.decimals_cell.ensures.back
     (read_more _ _ _ _ _ _ c.number-in-Some.ensures.back
     (read_more _ _ _ _ _ _ c.number-in-Some-2.ensures.back
     (read_more _ _ _ _ _ _ c.number-in-Some-3.ensures.back
-    (read_more _ _ _ _ _ _ c.number-in-Some-4.ensures.back read_all)))))))
+    (read_more _ _ _ _ _ _ c.decimals_cell.ensures.back
+    (read_more _ _ _ _ _ _ c.decimals_cell-in-Some.ensures.back read_all))))))
