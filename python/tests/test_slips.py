@@ -346,16 +346,16 @@ class Slips(Commands):
 
     def test_words_that_overlay_tells_are_ours(self):
         """The tips of `overlay` name the commands and options that `tagzirk` has and `overlay` has not."""
-        sources = CHECKOUT / "crates"
-        tips = (sources / "ov_command_tree" / "src" / "argument_tips.rt").read_text()
+        sources, options = (CHECKOUT / "crates" / it / "src" for it in ("ov_command_tree", "ov_grow_options"))
+        tips = (sources / "argument_tips.rt").read_text()
         told = re.findall(r'Meant\((?:""|EACH), "([^"]+)", TAGZIRK\)', tips)
-        tables = [*(sources / "ov_command_tree" / "src").glob("*.rt"), *(sources / "ov_grow_options" / "src").glob("*.rt")]
         names = re.compile(r'(?:name: |BOUND_NAME: &str = |^const (?:GROW|SWEEP): &str = )"([\w-]+)"', re.MULTILINE)
+        tables = [*sources.glob("*.rt"), *options.glob("*.rt")]
         theirs = {name for it in tables for name in names.findall(it.read_text())}
         _, commands = parsers()
-        options = {it for parser in commands.values() for it in parser.options if it.startswith("--")}
+        ours = {it for parser in commands.values() for it in parser.options if it.startswith("--")}
         wanted = {it for it in commands if it not in theirs}
-        wanted |= {it for it in options if it[2:] not in {*theirs, "help"}}
+        wanted |= {it for it in ours if it[2:] not in {*theirs, "help"}}
         # so that no table is overlooked
         self.assertLess({"analyse", "import", "run", "sweep", "crash-cut", "at-most-split"}, theirs)
         self.assertEqual((set(told), len(told)), (wanted, len(wanted)))
