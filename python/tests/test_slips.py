@@ -5,11 +5,13 @@ import gzip
 import json
 import lzma
 import os
+import re
 import shlex
 import subprocess
 import sys
 import unittest
 
+from tagzirk.command import parsers
 from tagzirk.programs import CHECKOUT
 
 from .test_commands import DUMPS, Commands
@@ -341,6 +343,22 @@ class Slips(Commands):
             )
             self.assertEqual(b"| tail -n 1 | overlay-check" in ended.stderr, is_told)
         self.assertEqual(json.loads(ended.stdout.splitlines()[-1])["k"], 2)
+
+    def test_words_that_overlay_tells_are_ours(self):
+        """The tips of `overlay` name the commands and options that `tagzirk` has and `overlay` has not."""
+        sources, options = (CHECKOUT / "crates" / it / "src" for it in ("ov_command_tree", "ov_grow_options"))
+        tips = (sources / "argument_tips.rt").read_text()
+        told = re.findall(r'Meant\((?:""|EACH), "([^"]+)", TAGZIRK\)', tips)
+        names = re.compile(r'(?:name: |BOUND_NAME: &str = |^const (?:GROW|SWEEP): &str = )"([\w-]+)"', re.MULTILINE)
+        tables = [*sources.glob("*.rt"), *options.glob("*.rt")]
+        theirs = {name for it in tables for name in names.findall(it.read_text())}
+        _, commands = parsers()
+        ours = {it for parser in commands.values() for it in parser.options if it.startswith("--")}
+        wanted = {it for it in commands if it not in theirs}
+        wanted |= {it for it in ours if it[2:] not in {*theirs, "help"}}
+        # so that no table is overlooked
+        self.assertLess({"analyse", "import", "run", "sweep", "crash-cut", "at-most-split"}, theirs)
+        self.assertEqual((set(told), len(told)), (wanted, len(wanted)))
 
 
 if __name__ == "__main__":

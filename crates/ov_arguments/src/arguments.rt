@@ -293,9 +293,9 @@ fn analysis_of(alloc: Global, found: &ArgMatches) -> Result<Request, ArgumentsFa
     ensures readable { AreReadable (first_value (found_of found.now)) → (result ≢ Err BadArguments) }
 {
     let names = has_flag(found, "names");
-    let group = group_of(alloc, found, names)?;
     let at_least = least_number_of(found)?;
     let workers = workers_of(found)?;
+    let group = group_of(alloc, found, names)?;
     Ok(Request::Analyse {
         file: file_of(alloc, found)?,
         analysis: AnalysisRequest {

@@ -1,9 +1,9 @@
 use crate::arguments::{is_read_later, read_least};
-use crate::certificate_option_tip::certificate_tip;
 use clap::error::ErrorKind;
-use clap::{ArgMatches, Command};
-use ov_argument_tips::{joined_list, push_list, shown, with_tip};
-use ov_command_tree::{command, command_tree, is_command};
+use clap::{ArgMatches, Command, Error as ClapError};
+use ov_command_tree::{
+    HELP_BELOW, command, command_tree, is_command, joined_list, push_list, shown, with_tip,
+};
 use ov_ids::OutOfMemory;
 use ov_lines::{comma_hint, read_ids, read_workers};
 use std::alloc::{AllocError, Global};
@@ -46,49 +46,23 @@ pub fn argument_reasons(alloc: Global, arguments: &[String]) -> Result<String, O
 fn reasons(alloc: Global, arguments: &[String]) -> Result<String, OutOfMemory> {
     let shown = shown(alloc, arguments)?;
     match told_by(alloc, &shown)?.try_get_matches_from(&shown) {
-        Ok(matches) => {
-            let mut reason = text_reason(alloc, &matches)?;
-            push_ids_tip(alloc, &mut reason, &shown)?;
-            Ok(reason)
-        }
-        Err(error) if error.kind() == ErrorKind::OutOfMemory => Err(OutOfMemory),
-        Err(error) => told(alloc, format!(in alloc; "{error}")?, &shown),
+        Ok(matches) => text_reason(alloc, &matches, &shown),
+        Err(error) => told(alloc, &error, &shown),
     }
 }
 
 /// What `clap` says of arguments that it refuses, with a tip if something is known that may be meant.
-fn told(alloc: Global, mut said: String, arguments: &[String]) -> Result<String, OutOfMemory> {
-    let tip = certificate_tip(alloc, arguments)?;
-    if !tip.is_empty() {
-        said.push_str(&tip)?;
-        return Ok(said);
+fn told(alloc: Global, error: &ClapError, arguments: &[String]) -> Result<String, OutOfMemory> {
+    if error.kind() == ErrorKind::OutOfMemory {
+        return Err(OutOfMemory);
     }
-    let command = match arguments.first() {
-        Some(first) if is_command(alloc, first.as_str())? => first.as_str(),
-        _ => "",
+    let (command, behind) = match arguments.split_first() {
+        Some((first, behind)) if is_command(first.as_str()) => (first.as_str(), behind),
+        Some((_, behind)) => ("", behind),
+        None => ("", arguments),
     };
-    Ok(with_tip(alloc, &said, command, behind_first(arguments))?)
-}
-
-/// The arguments behind the first one.
-fn behind_first(arguments: &[String]) -> &[String] {
-    match arguments.split_first() {
-        Some((_, behind)) => behind,
-        None => &[],
-    }
-}
-
-/// Appends that a list has no spaces, if ids stand there with spaces.
-fn push_ids_tip(
-    alloc: Global,
-    reason: &mut String,
-    arguments: &[String],
-) -> Result<(), OutOfMemory> {
-    let list = joined_list(alloc, arguments)?;
-    if read_ids(alloc, list.as_bytes())?.is_some() {
-        push_list(reason, &list)?;
-    }
-    Ok(())
+    let said = format!(in alloc; "{error}")?;
+    Ok(with_tip(alloc, &said, command, behind)?)
 }
 
 /// The commands by which these arguments are told: all of them if the first argument is a word and none of those that
@@ -96,7 +70,7 @@ fn push_ids_tip(
 /// overlays are not offered.
 fn told_by<'a>(alloc: Global, arguments: &[String]) -> Result<Command<'a>, AllocError> {
     match arguments.first() {
-        Some(first) if is_word(first) && !is_command(alloc, first.as_str())? => command_tree(alloc),
+        Some(first) if is_word(first) && !is_command(first.as_str()) => command_tree(alloc),
         _ => command(alloc),
     }
 }
@@ -106,78 +80,105 @@ fn is_word(text: &str) -> bool {
     text.bytes().all(|byte| byte.is_ascii_alphabetic())
 }
 
-/// What is wrong with the texts that a command was given, if they ask for nothing.
-fn text_reason(alloc: Global, matches: &ArgMatches) -> Result<String, OutOfMemory> {
-    let Some((command, found)) = matches.subcommand() else {
-        return Ok(String::new(alloc));
+/// What is wrong with the texts that a command was given, if they ask for nothing. If ids stand among these arguments
+/// with spaces, a line says that a list has none.
+fn text_reason(
+    alloc: Global,
+    matches: &ArgMatches,
+    arguments: &[String],
+) -> Result<String, OutOfMemory> {
+    let wrong = match matches.subcommand() {
+        Some(("analyse", found)) => wrong_in_analysis(alloc, found)?,
+        Some(("import", _)) => WrongText::Beside(FORMATS),
+        Some(("picture", found)) => wrong_in_picture(found),
+        _ => WrongText::Nothing,
     };
-    match command {
-        "analyse" => analysis_reason(alloc, found),
-        "import" => Ok(String::from_str(alloc, FORMATS)?),
-        "picture" => picture_reason(alloc, found),
-        _ => Ok(String::new(alloc)),
+    let mut reason = wrong_told(alloc, wrong)?;
+    let list = joined_list(alloc, arguments)?;
+    if read_ids(alloc, list.as_bytes())?.is_some() {
+        push_list(&mut reason, &list)?;
     }
+    Ok(reason)
+}
+
+/// What is wrong with the texts of options.
+#[derive(Clone, Copy)]
+enum WrongText<'a> {
+    /// Options stand beside each other that must not, as this text says.
+    Beside(&'a str),
+    /// An option has a text that it does not take.
+    Value {
+        option: &'a str,
+        text: &'a str,
+        wanted: &'a str,
+    },
+    /// Nothing.
+    Nothing,
 }
 
 /// What is wrong with the text of `--group`, of `--at-least` or of `--workers`.
-fn analysis_reason(alloc: Global, found: &ArgMatches) -> Result<String, OutOfMemory> {
-    let mut reason = String::new(alloc);
-    if let Some(text) = ids_asked(found) {
-        if read_ids(alloc, text.as_bytes())?.is_none() {
-            push_bad_text(&mut reason, "group", text, GROUP)?;
-            return Ok(reason);
-        }
+fn wrong_in_analysis<'a>(
+    alloc: Global,
+    found: &'a ArgMatches<'_>,
+) -> Result<WrongText<'a>, OutOfMemory> {
+    let group = ids_asked(found);
+    if read_ids(alloc, group.as_bytes())?.is_none() {
+        return Ok(wrong("group", group, GROUP));
     }
-    if let Some(text) = found.get_str("at-least") {
-        if read_least(text).is_none() {
-            push_bad_text(&mut reason, "at-least", text, LEAST)?;
-            return Ok(reason);
-        }
+    let least = found.get_str("at-least").unwrap_or("0");
+    if read_least(least).is_none() {
+        return Ok(wrong("at-least", least, LEAST));
     }
-    if let Some(text) = found.get_str("workers") {
-        if read_workers(text.as_bytes()).is_none() {
-            push_bad_text(&mut reason, "workers", text, WORKERS)?;
-        }
+    let workers = found.get_str("workers").unwrap_or("1");
+    if read_workers(workers.as_bytes()).is_none() {
+        return Ok(wrong("workers", workers, WORKERS));
     }
-    Ok(reason)
+    Ok(WrongText::Nothing)
+}
+
+/// The text of the ids of a group, one id if there is none. A list that is read later is none.
+fn ids_asked<'a>(found: &'a ArgMatches<'_>) -> &'a str {
+    match found.get_str("group") {
+        Some(text) if !is_read_later(found.get_str("names") == Some("true"), text) => text,
+        _ => "0",
+    }
 }
 
 /// What is wrong with the texts of `--pair` and `--fan`.
-fn picture_reason(alloc: Global, found: &ArgMatches) -> Result<String, OutOfMemory> {
-    let mut reason = String::new(alloc);
+fn wrong_in_picture<'a>(found: &'a ArgMatches<'_>) -> WrongText<'a> {
     match (found.get_str("pair"), found.get_str("fan")) {
-        (Some(_), Some(_)) => reason.push_str(ENTRIES)?,
-        (Some(text), None) => push_bad_text(&mut reason, "pair", text, PAIR)?,
-        (None, Some(text)) => push_bad_text(&mut reason, "fan", text, FAN)?,
-        (None, None) => {}
+        (Some(_), Some(_)) => WrongText::Beside(ENTRIES),
+        (Some(text), None) => wrong("pair", text, PAIR),
+        (None, Some(text)) => wrong("fan", text, FAN),
+        (None, None) => WrongText::Nothing,
+    }
+}
+
+/// An option that takes something other than this text.
+fn wrong<'a>(option: &'a str, text: &'a str, wanted: &'a str) -> WrongText<'a> {
+    WrongText::Value {
+        option,
+        text,
+        wanted,
+    }
+}
+
+/// What is wrong, in the form of `clap`, and which comma of a text is one too many.
+fn wrong_told(alloc: Global, wrong: WrongText<'_>) -> Result<String, AllocError> {
+    let (option, text, wanted) = match wrong {
+        WrongText::Beside(reason) => return String::from_str(alloc, reason),
+        WrongText::Nothing => return Ok(String::new(alloc)),
+        WrongText::Value {
+            option,
+            text,
+            wanted,
+        } => (option, text, wanted),
+    };
+    let mut reason = format!(in alloc;
+        "error: invalid value '{text}' for '--{option} <{option}>': it takes {wanted}{HELP_BELOW}"
+    )?;
+    if let Some(hint) = comma_hint(text.as_bytes()) {
+        write!(reason, "tip: '{text}' {hint}\n")?;
     }
     Ok(reason)
-}
-
-/// The text of the ids of a group. A list that is read later is none.
-fn ids_asked<'a>(found: &'a ArgMatches<'_>) -> Option<&'a str> {
-    let text = found.get_str("group")?;
-    if is_read_later(found.get_str("names") == Some("true"), text) {
-        return None;
-    }
-    Some(text)
-}
-
-/// Appends that an option takes something other than this text, in the form of `clap`, and which comma of it is one too
-/// many.
-fn push_bad_text(
-    reason: &mut String,
-    option: &str,
-    text: &str,
-    wanted: &str,
-) -> Result<(), AllocError> {
-    write!(
-        reason,
-        "error: invalid value '{text}' for '--{option} <{option}>': it takes {wanted}\n\n\
-         For more information, try '--help'.\n"
-    )?;
-    match comma_hint(text.as_bytes()) {
-        Some(hint) => write!(reason, "tip: '{text}' {hint}\n"),
-        None => Ok(()),
-    }
 }

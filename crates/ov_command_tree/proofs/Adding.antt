@@ -1,7 +1,6 @@
 -- Commands and options that are added one by one.
-use Rattle.std.proofs.Common.{◌≡◌, ◌∙◌, ℕ, List, [], ◌∷◌, true, false, codes, refl, ap, ap₂, sym, Result, Ok, Err}
-use Rattle.std.proofs.Common.{◌+◌, ◌<◌, drop, get_or, length, IfOk, IsOkAnd}
-use Rattle.std.specs.declared.alloc.AllocError.{AllocError}
+use Rattle.std.proofs.Common.{◌≡◌, ◌∙◌, ℕ, List, [], ◌∷◌, true, false, codes, refl, ap, ap₂, sym}
+use Rattle.std.proofs.Common.{◌+◌, ◌<◌, drop, get_or, length}
 use Rattle.std.proofs.lemmas.List.{at_drop_more}
 use Rattle.clap.proofs.SimpleLemmas.{is_false}
 use Rattle.clap.proofs.WalkLemmas.{both}
@@ -27,14 +26,6 @@ with_subcommand_more old sub new app own adds is same plain =
     let told : (app_of sub).top.is_plain ≡ true = ap (λ (a : App). a.top.is_plain) same ∙ plain in
     adds.shape (is_false _ (both _ _ (both _ _ (both _ _ told).1).1).0)
     ∙ ap₂ with_subcommand is (ap (λ (a : App). a.top) same)
-
--- one subcommand more, that a call returned
-pub with_command_more : (old new : Command) (more : Result Command AllocError) (app own : App)
-    → IsOkAnd more (λ m. AddsSubcommand old m new) → IfOk more (λ m. app_of m ≡ own) → app_of old ≡ app
-    → own.top.is_plain ≡ true
-    → app_of new ≡ with_subcommand app own.top
-with_command_more old new (Ok m) app own adds is same plain = with_subcommand_more old m new app own adds same is plain
-with_command_more old new (Err e) app own adds is same plain = absurd adds
 
 -- one option more: of a command to which those of a list are added, from a place on
 pub one_option_more : (app : App) (rows : List OptionRow) (i : ℕ) (d : OptionRow) → i < length rows
@@ -65,8 +56,3 @@ one_command_more app rows i d within = sym (at_drop_more (with_commands app) row
 pub below_equal : (app own all : App) (rows : List CommandRow) → all ≡ with_commands app rows → app ≡ own
     → all ≡ with_commands own rows
 below_equal app own all rows is same = is ∙ ap (λ a. with_commands a rows) same
-
--- the list of which a call says that it has its commands below
-abbrev pub rows_below : (result : Result Command AllocError) (app : App) (rows : List CommandRow)
-    → IfOk result (λ c. app_of c ≡ with_commands app rows) → List CommandRow
-rows_below result app rows is = rows

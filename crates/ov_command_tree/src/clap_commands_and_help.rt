@@ -1,6 +1,6 @@
-ghost use Rattle.std.specs.Prelude.{◌≡◌, codes, false, IfOk, IsOkAnd};
-ghost use Rattle.clap.specs.Words.{AddsSubcommand, app_of, new_app, new_rule, rule_of, with_rule};
-ghost use Rattle.ov_command_tree.specs.Commands.{overlay_command};
+ghost use Rattle.std.specs.Prelude.{◌≡◌, codes, false, IfOk};
+ghost use Rattle.clap.specs.Words.{app_of, new_app, new_rule, rule_of, with_rule};
+ghost use Rattle.ov_command_tree.specs.Commands.{overlay_app, overlay_command};
 ghost use Rattle.ov_command_tree.specs.Code.Options.{app_alone, rule_of_option, with_commands, with_options};
 
 use clap::{Arg, ArgAction, Command};
@@ -187,9 +187,9 @@ const GRAPH_HELP: CommandHelp<'static> = CommandHelp {
 
 /// An option of a command.
 #[derive(Clone, Copy)]
-struct OptionRow<'a> {
+pub(crate) struct OptionRow<'a> {
     /// Its name, without the two hyphens before it.
-    name: &'a str,
+    pub(crate) name: &'a str,
     /// What it does: with a text behind it, or without one.
     action: ArgAction,
     /// What help says of it.
@@ -198,14 +198,14 @@ struct OptionRow<'a> {
 
 /// A command that reads a file.
 #[derive(Clone, Copy)]
-struct CommandRow<'a> {
-    name: &'a str,
+pub(crate) struct CommandRow<'a> {
+    pub(crate) name: &'a str,
     help: CommandHelp<'a>,
-    options: &'a [OptionRow<'a>],
+    pub(crate) options: &'a [OptionRow<'a>],
 }
 
 /// The commands that read files, in the order of help.
-const COMMANDS: [CommandRow<'static>; 5] = [
+static COMMANDS: [CommandRow<'static>; 5] = [
     CommandRow {
         name: "run",
         help: RUN_HELP,
@@ -337,12 +337,19 @@ const COMMANDS: [CommandRow<'static>; 5] = [
     },
 ];
 
+/// The commands that read files.
+pub(crate) fn file_commands() -> &'static [CommandRow<'static>]
+    ensures { with_commands overlay_app result.now ≡ overlay_command }
+{
+    &COMMANDS
+}
+
 /// The arguments that `overlay` takes.
 pub fn command<'a>(alloc: Global) -> Result<Command<'a>, AllocError>
     ensures { IfOk result (λ c. app_of c ≡ overlay_command) }
 {
-    let none = alone(alloc, NAME, NAME, [EXAMPLES, ABOUT, BELOW])?;
-    with_commands(alloc, none, &COMMANDS)
+    let none = alone(alloc, NAME, NAME, EXAMPLES, ABOUT, BELOW)?;
+    with_commands(alloc, none, file_commands())
 }
 
 /// The command with these commands below it.
@@ -355,41 +362,30 @@ fn with_commands<'a>(
 {
     let mut command = command;
     for row in rows {
-        let more = with_arguments(alloc, row.name, &row.help, row.options);
-        command = with_command(command, more)?;
+        let more = with_arguments(alloc, row.name, &row.help, row.options)?;
+        command = command.subcommand(more)?;
     }
     Ok(command)
 }
 
 /// A command of this name without options or commands, which is no word of its own. Usage begins with its whole name.
-/// Help says this of it: above, of the command, and below the options.
+/// Help begins with examples, and says more below the options.
 pub(crate) fn alone<'a>(
     alloc: Global,
     name: &'a str,
     whole_name: &'a str,
-    help: [&'a str; 3],
+    examples: &'a str,
+    about: &'a str,
+    below: &'a str,
 ) -> Result<Command<'a>, AllocError>
     ensures { IfOk result (λ c. app_of c ≡ app_alone name.entry.now) }
 {
-    let [examples, about, below] = help;
-    Ok(
-        Command::new(alloc, name)
-            .bin_name(whole_name)?
-            .no_binary_name(true)
-            .before_help(examples)
-            .about(about)
-            .after_help(below),
-    )
-}
-
-/// With one command more.
-pub(crate) fn with_command<'a>(
-    command: Command<'a>,
-    more: Result<Command<'a>, AllocError>,
-) -> Result<Command<'a>, AllocError>
-    ensures { IfOk result (λ c. IsOkAnd more.entry (λ m. AddsSubcommand command.entry m c)) }
-{
-    command.subcommand(more?)
+    Command::new(alloc, name)
+        .no_binary_name(true)
+        .before_help(examples)
+        .about(about)
+        .after_help(below)
+        .bin_name(whole_name)
 }
 
 /// A command of this name with a file and these options, of which help says this.

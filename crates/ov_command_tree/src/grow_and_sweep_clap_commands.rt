@@ -1,10 +1,12 @@
-use crate::clap_commands_and_help::{alone, command, with_command};
+use crate::clap_commands_and_help::{alone, command};
 use crate::grow_and_sweep_option_tables::{
-    BOUND_NAME, CRASH_CUT, grow_options, growing_options, sweep_options, takes_list,
+    BOUND_NAME, CRASH_CUT, growing_options, own_options, takes_list,
 };
+use clap::builder::{ValueParser, ValueRange};
 use clap::{Arg, ArgAction, Command};
 use ov_grow_options::{OptionRow, Unit};
 use std::alloc::{AllocError, Global};
+use std::slice;
 
 /// The names of the two commands that grow overlays.
 const GROW: &str = "grow";
@@ -56,15 +58,16 @@ A row can be run again by `overlay grow --row FILE:N | overlay run`.";
 /// What help of `overlay` says of `overlay sweep`, in the list of all commands.
 const SWEEP_LISTED: &str = "Grows many overlays, and prints a row of each, a summary or a picture";
 
-const GROW_HELP: [&str; 3] = [GROW_EXAMPLES, GROW_ABOUT, GROW_BELOW];
-
-const SWEEP_HELP: [&str; 3] = [SWEEP_EXAMPLES, SWEEP_ABOUT, SWEEP_BELOW];
-
 /// The options that name rows, beside which no option of growing stands.
 const ROWS: &[&str] = &["row", "read"];
 
 /// The options that `--crash-cut` of `overlay grow` does not stand beside.
 const ROWS_AND_CRASH: &[&str] = &["row", "read", "crash"];
+
+/// Their usage, which the list of all commands has in place of their options.
+const GROW_USAGE: &str = "overlay grow [OPTIONS]";
+
+const SWEEP_USAGE: &str = "overlay sweep [OPTIONS]";
 
 /// The commands that grow overlays.
 #[derive(Clone, Copy)]
@@ -92,105 +95,159 @@ impl GrowingCommand {
             GrowingCommand::Sweep => SWEEP,
         }
     }
+
+    /// The command's name, the one with which usage begins, and what help says: above, of the command, and below the
+    /// options.
+    fn help<'a>(self) -> [&'a str; 5] {
+        match self {
+            GrowingCommand::Grow => [GROW, GROW_NAME, GROW_EXAMPLES, GROW_ABOUT, GROW_BELOW],
+            GrowingCommand::Sweep => [SWEEP, SWEEP_NAME, SWEEP_EXAMPLES, SWEEP_ABOUT, SWEEP_BELOW],
+        }
+    }
 }
 
-/// All commands with their options, as help of `overlay` lists them.
+/// All commands, as help of `overlay` lists them, and by whose names a word is told that looks like one.
 ///
-/// The words of these two are parsed by their own part of the tree, and all others by the part without them: `clap` has
-/// exact contracts for commands whose options take no lists and exclude no others.
+/// The options of these two are not in it. Their words are parsed by their own command, and all others by the part
+/// without them: `clap` has exact contracts for commands whose options take no lists and exclude no others.
 pub fn command_tree<'a>(alloc: Global) -> Result<Command<'a>, AllocError> {
     let others = command(alloc)?;
-    let grow = with_command(others, growing_command(alloc, GrowingCommand::Grow))?;
-    let sweep = growing_command(alloc, GrowingCommand::Sweep)?.about(SWEEP_LISTED);
-    with_command(grow, Ok(sweep))
+    let grow = with_listed(alloc, others, GROW, GROW_ABOUT, GROW_USAGE)?;
+    with_listed(alloc, grow, SWEEP, SWEEP_LISTED, SWEEP_USAGE)
+}
+
+/// With one command more, of which help says this.
+fn with_listed<'a>(
+    alloc: Global,
+    command: Command<'a>,
+    name: &'a str,
+    about: &'a str,
+    usage: &'a str,
+) -> Result<Command<'a>, AllocError> {
+    let listed = Command::new(alloc, name).about(about).override_usage(usage);
+    command.subcommand(listed)
 }
 
 /// A command with the words that it takes.
 pub fn growing_command<'a>(alloc: Global, name: GrowingCommand) -> Result<Command<'a>, AllocError> {
+    let [word, whole_name, examples, about, below] = name.help();
     let options = options_of(alloc, name)?;
-    let command = match name {
-        GrowingCommand::Grow => alone(alloc, GROW, GROW_NAME, GROW_HELP),
-        GrowingCommand::Sweep => alone(alloc, SWEEP, SWEEP_NAME, SWEEP_HELP),
-    };
-    command?.args(options)
+    alone(alloc, word, whole_name, examples, about, below)?.args(options)
 }
 
 /// The options of a command: those of growing, and its own.
-fn options_of<'a>(alloc: Global, command: GrowingCommand) -> Result<Vec<Arg<'a>>, AllocError> {
+fn options_of<'a>(alloc: Global, name: GrowingCommand) -> Result<Vec<Arg<'a>>, AllocError> {
     let mut options = Vec::new(alloc);
     for row in growing_options() {
-        push_option(alloc, &mut options, command, row, ROWS)?;
+        push_option(&mut options, argument(alloc, name, row, ROWS))?;
     }
-    let own_options = match command {
-        GrowingCommand::Grow => grow_options(),
-        GrowingCommand::Sweep => sweep_options(),
-    };
-    for own in own_options {
-        push_option(alloc, &mut options, command, own.row, own.excludes)?;
+    for own in own_options(name) {
+        push_option(&mut options, argument(alloc, name, own.row, own.excludes))?;
     }
     Ok(options)
 }
 
-/// Appends an option of a command, as it is to `clap`.
+/// Appends an option.
 fn push_option<'a>(
-    alloc: Global,
     options: &mut Vec<Arg<'a>>,
+    option: Result<Arg<'a>, AllocError>,
+) -> Result<(), AllocError> {
+    Ok(options.push(option?)?)
+}
+
+/// What an option of a command is to `clap`, and the options that it does not stand beside.
+fn argument<'a>(
+    alloc: Global,
     command: GrowingCommand,
     row: &'static OptionRow,
     excludes: &'static [&'static str],
-) -> Result<(), AllocError> {
+) -> Result<Arg<'a>, AllocError> {
+    let is_list = matches!(command, GrowingCommand::Sweep) && takes_list(row.name);
     let is_cut = matches!(command, GrowingCommand::Grow) && row.name == CRASH_CUT;
-    let excludes = if is_cut { ROWS_AND_CRASH } else { excludes };
+    let value = ValueForm::of(row, is_list);
     let arg = Arg::new(alloc, row.name)
         .long(row.name)
         .help(row.help)
-        .conflicts_with_all(excludes)?;
-    Ok(options.push(with_value(arg, command, row)?)?)
+        .action(value.action)
+        .num_args(value.range)
+        .value_names(value.names)
+        .default_values(value.usual)
+        .value_parser(value.parser)
+        .conflicts_with_all(if is_cut { ROWS_AND_CRASH } else { excludes })?
+        .requires_all(value.needs)?;
+    Ok(if is_list {
+        arg.value_delimiter(',')
+    } else {
+        arg
+    })
 }
 
-/// The option with its value: what help calls it, what stands for it if it is not given, and which texts it can be.
-fn with_value<'a>(
-    arg: Arg<'a>,
-    command: GrowingCommand,
-    row: &'static OptionRow,
-) -> Result<Arg<'a>, AllocError> {
-    if row.takes_nothing() {
-        return Ok(arg.action(ArgAction::SetTrue));
-    }
-    let is_list = matches!(command, GrowingCommand::Sweep) && takes_list(row.name);
-    let mut arg = arg
-        .action(ArgAction::Set)
-        .value_name(value_name(row, is_list));
-    if is_list {
-        arg = arg.value_delimiter(',');
-    }
-    if let Some(usual) = row.usual {
-        arg = arg.default_value(usual);
-    }
-    if matches!(row.unit, Unit::Files) {
-        arg = arg.num_args(1..);
-    }
-    if row.limits.is_none() && !row.words.is_empty() {
-        arg = arg.value_parser(row.words);
-    }
-    match row.unit {
-        Unit::Phase => arg.requires_arg(BOUND_NAME),
-        _ => Ok(arg),
+/// What the value of an option is to `clap`.
+#[derive(Clone, Copy)]
+struct ValueForm {
+    action: ArgAction,
+    /// How many values stand behind it.
+    range: ValueRange,
+    /// What help calls it, if there is one.
+    names: &'static [&'static str],
+    /// What stands for it if it is not given.
+    usual: &'static [&'static str],
+    /// Which texts it can be.
+    parser: ValueParser<'static>,
+    /// The options that it stands beside.
+    needs: &'static [&'static str],
+}
+
+impl ValueForm {
+    /// That of this option, whose value may be a list.
+    fn of(row: &'static OptionRow, is_list: bool) -> ValueForm {
+        if row.takes_nothing() {
+            return ValueForm {
+                action: ArgAction::SetTrue,
+                range: ValueRange::EMPTY,
+                names: &[],
+                usual: &[],
+                parser: ValueParser::Bool,
+                needs: &[],
+            };
+        }
+        let is_word = row.limits.is_none() && !row.words.is_empty();
+        ValueForm {
+            action: ArgAction::Set,
+            range: match row.unit {
+                Unit::Files => ValueRange::new(1..),
+                _ => ValueRange::SINGLE,
+            },
+            names: value_names(row, is_list),
+            usual: match &row.usual {
+                Some(text) => slice::from_ref(text),
+                None => &[],
+            },
+            parser: if is_word {
+                ValueParser::Names(row.words)
+            } else {
+                ValueParser::String
+            },
+            needs: match row.unit {
+                Unit::Phase => &[BOUND_NAME],
+                _ => &[],
+            },
+        }
     }
 }
 
 /// What help calls the value of an option.
-fn value_name(row: &OptionRow, is_list: bool) -> &'static str {
+fn value_names(row: &OptionRow, is_list: bool) -> &'static [&'static str] {
     match (row.unit, is_list) {
-        (Unit::Order, false) => "ORDER",
-        (Unit::Order, true) => "ORDER,..",
-        (Unit::Rule, false) => "RULE",
-        (Unit::Rule, true) => "RULE,..",
-        (Unit::Phase, _) => "PHASE",
-        (Unit::Row, _) => "FILE:N",
-        (Unit::File | Unit::Files, _) => "FILE",
-        (_, true) => "N,..",
-        (_, false) if row.name == BOUND_NAME => "P",
-        (_, false) => "N",
+        (Unit::Order, false) => &["ORDER"],
+        (Unit::Order, true) => &["ORDER,.."],
+        (Unit::Rule, false) => &["RULE"],
+        (Unit::Rule, true) => &["RULE,.."],
+        (Unit::Phase, _) => &["PHASE"],
+        (Unit::Row, _) => &["FILE:N"],
+        (Unit::File | Unit::Files, _) => &["FILE"],
+        (_, true) => &["N,.."],
+        (_, false) if row.name == BOUND_NAME => &["P"],
+        (_, false) => &["N"],
     }
 }

@@ -1,5 +1,6 @@
 //! The options that `overlay grow` and `overlay sweep` have besides those of growing.
-use ov_grow_options::{OPTIONS, OptionRow, Unit};
+use crate::grow_and_sweep_clap_commands::GrowingCommand;
+use ov_grow_options::{OPTIONS, OptionRow, SEED, Unit};
 
 /// An option of one command, and the options that it does not stand beside.
 #[derive(Clone, Copy)]
@@ -200,24 +201,30 @@ pub fn growing_options() -> &'static [OptionRow] {
     &OPTIONS
 }
 
-/// The options that `overlay grow` has besides.
-pub(crate) fn grow_options() -> &'static [OwnOption] {
-    &GROW_OPTIONS
-}
-
-/// The options that `overlay sweep` has besides.
-pub(crate) fn sweep_options() -> &'static [OwnOption] {
-    &SWEEP_OPTIONS
+/// The options that a command has besides.
+pub(crate) fn own_options(command: GrowingCommand) -> &'static [OwnOption] {
+    match command {
+        GrowingCommand::Grow => &GROW_OPTIONS,
+        GrowingCommand::Sweep => &SWEEP_OPTIONS,
+    }
 }
 
 /// The option of this name, of growing or of one of these two commands.
-pub fn option_named(name: &str) -> Option<&'static OptionRow> {
+pub(crate) fn option_named(name: &str) -> Option<&'static OptionRow> {
+    match option_of(GrowingCommand::Sweep, name) {
+        Some(option) => Some(option),
+        None => option_of(GrowingCommand::Grow, name),
+    }
+}
+
+/// The option of a command that has this name.
+pub(crate) fn option_of(command: GrowingCommand, name: &str) -> Option<&'static OptionRow> {
     for option in growing_options() {
         if option.name == name {
             return Some(option);
         }
     }
-    for own in grow_options().iter().chain(sweep_options()) {
+    for own in own_options(command) {
         if own.row.name == name {
             return Some(own.row);
         }
@@ -226,11 +233,6 @@ pub fn option_named(name: &str) -> Option<&'static OptionRow> {
 }
 
 /// Whether the option of this name takes a list behind `overlay sweep`: one of growing, but for the seed.
-pub fn takes_list(name: &str) -> bool {
-    for option in growing_options() {
-        if option.name == name {
-            return name != "seed";
-        }
-    }
-    false
+pub(crate) fn takes_list(name: &str) -> bool {
+    growing_options().iter().any(|option| option.name == name) && name != SEED.name
 }

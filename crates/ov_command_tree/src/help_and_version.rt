@@ -5,10 +5,10 @@ ghost use Rattle.ov_command_tree.specs.Telling.{is_version_option, name_of, tell
 
 use crate::clap_commands_and_help::command;
 use crate::grow_and_sweep_clap_commands::{GrowingCommand, command_tree, growing_command};
+use clap::Command;
 use clap::error::ErrorKind;
-use clap::{ArgMatches, Error as ClapError};
 use ov_ids::OutOfMemory;
-use std::alloc::Global;
+use std::alloc::{AllocError, Global};
 
 /// The program with its version, and the logic that it is proved with. Each kit of that logic may build it.
 const VERSION: &str = "overlay 1.0, proved with Rattle's logic dac8208d650f15bf\n";
@@ -35,7 +35,7 @@ pub enum CommandTopic {
 }
 
 /// All of these.
-const COMMANDS: [CommandTopic; 7] = [
+pub(crate) const TOPICS: [CommandTopic; 7] = [
     CommandTopic::Run,
     CommandTopic::Analyse,
     CommandTopic::Import,
@@ -47,7 +47,7 @@ const COMMANDS: [CommandTopic; 7] = [
 
 impl CommandTopic {
     /// The command's name.
-    fn name(self) -> &'static str
+    pub(crate) fn name(self) -> &'static str
         ensures { result.now ≡ name_of self }
     {
         match self {
@@ -62,10 +62,10 @@ impl CommandTopic {
     }
 
     /// The command of this name.
-    fn named(word: &str) -> Option<CommandTopic>
+    pub(crate) fn named(word: &str) -> Option<CommandTopic>
         ensures { result ≡ command_named word.now }
     {
-        COMMANDS
+        TOPICS
             .iter()
             .copied()
             .find(|command| command.name() == word)
@@ -167,32 +167,21 @@ fn ask_for_help(words: &[String]) -> bool
 pub fn telling_text(alloc: Global, telling: Telling) -> Result<String, OutOfMemory> {
     match telling {
         Telling::Version => Ok(String::from_str(alloc, VERSION)?),
-        Telling::Help(None) => {
-            let commands = command_tree(alloc)?;
-            help_said(alloc, commands.try_get_matches_from(&[HELP_OPTION]))
-        }
-        Telling::Help(Some(CommandTopic::Grow)) => growing_help(alloc, GrowingCommand::Grow),
-        Telling::Help(Some(CommandTopic::Sweep)) => growing_help(alloc, GrowingCommand::Sweep),
-        Telling::Help(Some(topic)) => {
-            let commands = command(alloc)?;
-            let words = [topic.name(), HELP_OPTION];
-            help_said(alloc, commands.try_get_matches_from(&words))
-        }
+        Telling::Help(None) => help_said(alloc, command_tree(alloc), &[HELP_OPTION]),
+        Telling::Help(Some(topic)) => match GrowingCommand::of(topic.name()) {
+            Some(name) => help_said(alloc, growing_command(alloc, name), &[HELP_OPTION]),
+            None => help_said(alloc, command(alloc), &[topic.name(), HELP_OPTION]),
+        },
     }
 }
 
-/// Help of a command that grows overlays.
-fn growing_help(alloc: Global, name: GrowingCommand) -> Result<String, OutOfMemory> {
-    let command = growing_command(alloc, name)?;
-    help_said(alloc, command.try_get_matches_from(&[HELP_OPTION]))
-}
-
-/// What `clap` says of words that ask for help.
-fn help_said(
+/// What `clap` says of these words, which ask for help.
+fn help_said<'a>(
     alloc: Global,
-    found: Result<ArgMatches<'_>, ClapError>,
+    commands: Result<Command<'a>, AllocError>,
+    words: &'a [&'a str],
 ) -> Result<String, OutOfMemory> {
-    match found {
+    match commands?.try_get_matches_from(words) {
         Err(error) => match error.kind() {
             ErrorKind::OutOfMemory => Err(OutOfMemory),
             _ => Ok(format!(in alloc; "{error}")?),

@@ -12,7 +12,7 @@ pub fn print_command_tip(rt: &HostRuntime, arguments: &[String]) {
         return;
     };
     let path = first.as_str();
-    if is_command(rt.alloc(), path).unwrap_or(true) || path == HELP || path.starts_with('-') {
+    if is_command(path) || path == HELP || path.starts_with('-') {
         return;
     }
     match kind_of_file(rt, path) {

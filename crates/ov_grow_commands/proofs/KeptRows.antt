@@ -1,7 +1,7 @@
 -- The rows that are kept are those of the runs that were swept.
 use Rattle.std.proofs.Common.{◌≡◌, Bool, true, false, List, [], Option, Some, None, sym, subst, if◌then◌else◌}
 use Rattle.std.specs.Prelude.{IsTrue, Result, Ok, Err}
-use Rattle.ov_growing_arguments.specs.declared.sweep_request.SweepRequest.{SweepRequest}
+use Rattle.ov_arguments.specs.declared.sweep_request.SweepRequest.{SweepRequest}
 use Rattle.ov_grow_options.specs.declared.options.GrowOptions.{GrowOptions}
 use Rattle.ov_net.proofs.Steps.Places.{at_has}
 use Rattle.ov_sweep_rows.specs.declared.measures.Measures.{Measures}

@@ -1,8 +1,8 @@
 -- The rows that `overlay sweep` keeps of what it grows.
 use Rattle.std.specs.Prelude.{Bool, true, false, ◌||◌, List, is_some}
-use Rattle.ov_growing_arguments.specs.declared.sweep_request.Printed.{Printed}
-use Rattle.ov_growing_arguments.specs.declared.sweep_request.Printed.TheVariants.{Answer, Summary}
-use Rattle.ov_growing_arguments.specs.declared.sweep_request.SweepRequest.{SweepRequest}
+use Rattle.ov_arguments.specs.declared.sweep_request.Printed.{Printed}
+use Rattle.ov_arguments.specs.declared.sweep_request.Printed.TheVariants.{Answer, Summary}
+use Rattle.ov_arguments.specs.declared.sweep_request.SweepRequest.{SweepRequest}
 use Rattle.ov_ids.specs.Members.{Has}
 use Rattle.ov_sweep.specs.Rows.{IsRowOf}
 use Rattle.ov_sweep_rows.specs.declared.measures.Measures.{Measures}

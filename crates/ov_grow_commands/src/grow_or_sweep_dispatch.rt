@@ -1,7 +1,7 @@
 use crate::grow_command::{grow_asked, told};
 use crate::grow_command_fault::GrowCommandFault;
 use crate::sweep_command::sweep_asked;
-use ov_growing_arguments::{GrowArgumentsFault, GrowingRequest, read_growing};
+use ov_arguments::{GrowArgumentsFault, GrowingRequest, read_growing};
 use std::thread::Threads;
 
 /// Does what these arguments ask for, if their first is `grow` or `sweep` and they do not ask for help. Otherwise false,

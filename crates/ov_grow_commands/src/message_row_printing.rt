@@ -3,7 +3,7 @@ use crate::grow_command_fault::GrowCommandFault;
 use crate::sweep_command::refused_run;
 use crate::sweep_progress::RunProgress;
 use ov_grow_options::GrowOptions;
-use ov_growing_arguments::SweepRequest;
+use ov_arguments::SweepRequest;
 use ov_io::Sink;
 use ov_sweep::{RefusedRun, message_rows_of};
 use ov_sweep_rows::{MessageRow, message_header_text, message_row_text};

@@ -5,7 +5,7 @@ ghost use Rattle.ov_grow_commands.specs.KeptRows.{asked_measures, needs_rows};
 ghost use Rattle.ov_grow_commands.specs.Code.Keeping.{IsOfNoRun, kept_rows};
 
 use crate::sweep_progress::RunProgress;
-use ov_growing_arguments::{Printed, SweepRequest};
+use ov_arguments::{Printed, SweepRequest};
 use ov_io::Sink;
 use ov_sweep::{RowTaker, SweepFault};
 use ov_sweep_rows::{Measures, Row, RowForm, header_text, row_text};

@@ -8,7 +8,7 @@ use crate::picture_file::opened_picture;
 use crate::row_files::rows_of_files;
 use crate::row_printing::{RowPrinter, measures_asked, write_rows};
 use crate::sweep_report::{print_report, tell_none, tell_repeated, tell_too_few};
-use ov_growing_arguments::{Printed, SweepBlock, SweepRequest};
+use ov_arguments::{Printed, SweepBlock, SweepRequest};
 use ov_io::Sink;
 use ov_sweep::{RefusedRun, SweepFault, sweep};
 use ov_sweep_rows::{Row, RowForm, header_text};

@@ -1,7 +1,7 @@
 use crate::grow_command::told;
 use crate::grow_command_fault::GrowCommandFault;
 use crate::picture_file::write_picture;
-use ov_growing_arguments::{AskedPhase, Printed, SplitAsked, SweepRequest};
+use ov_arguments::{AskedPhase, Printed, SplitAsked, SweepRequest};
 use ov_ids::OutOfMemory;
 use ov_io::Sink;
 use ov_sweep_picture::svg_text;

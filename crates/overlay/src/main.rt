@@ -11,8 +11,8 @@ ghost use Rattle.overlay.specs.declared.fault_and_exit_status.OverlayFault.TheVa
 mod fault_and_exit_status;
 
 use crate::fault_and_exit_status::{OverlayFault, exit_status};
-use ov_argument_tips::unopened_tip;
 use ov_arguments::{ArgumentsFault, Request, argument_reasons, read_arguments};
+use ov_command_tree::unopened_tip;
 use ov_commands::{
     CommandFault, analyse_asked, graph_asked, import_asked, picture_asked, print_command_tip,
     tell_asked,

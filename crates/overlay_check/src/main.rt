@@ -187,18 +187,39 @@ fn explain<R: Runtime + AllocGlobal>(rt: &R, judged: &Judged, file: Option<&str>
     }
     if let Outcome::Refused(_) = &judged.outcome {
         print_tip(rt, form_tip(rt.alloc(), &judged.bytes, file));
-        if let Some(path) = file {
-            tell_kind(rt, &judged.bytes, path);
-        }
+        tell_kind(rt, &judged.bytes, file);
     }
 }
 
-/// Prints which command reads the file of this name, if its bytes do not look like a certificate file.
-fn tell_kind<R: Runtime + AllocGlobal>(rt: &R, bytes: &[u8], path: &str) {
-    let kind = looks_like(bytes);
-    if kind != FileKind::Certificate {
-        print_tip(rt, file_tip(rt.alloc(), kind, Some(path)));
+/// Prints which command reads the file of this name, if its bytes do not look like a certificate file; and of it or
+/// standard input, how to take the last line, if that is the certificate below what `overlay analyse` prints.
+fn tell_kind<R: Runtime + AllocGlobal>(rt: &R, bytes: &[u8], file: Option<&str>) {
+    let kind = if ends_in_certificate(bytes) {
+        FileKind::Report
+    } else {
+        looks_like(bytes)
+    };
+    let is_told = file.is_some() && kind != FileKind::Certificate;
+    if is_told || kind == FileKind::Report {
+        print_tip(rt, file_tip(rt.alloc(), kind, file));
     }
+}
+
+/// Whether the last line looks like a certificate file, and the lines above it do not.
+fn ends_in_certificate(bytes: &[u8]) -> bool {
+    let text = bytes.trim_ascii_end();
+    let Some(place) = text.iter().rposition(|byte| *byte == b'\n') else {
+        return false;
+    };
+    match text.split_at_checked(place) {
+        Some((above, last)) => is_certificate(last) && !is_certificate(above),
+        None => false,
+    }
+}
+
+/// Whether bytes look like a certificate file.
+fn is_certificate(bytes: &[u8]) -> bool {
+    looks_like(bytes) == FileKind::Certificate
 }
 
 /// Prints the line of a tip. Prints nothing if an allocation for it was refused.

@@ -1,6 +1,6 @@
 -- The rows that a printer of rows has kept.
 use Rattle.std.specs.Prelude.{◌≡◌, ◌⊎◌, List, Option, Some, None, if◌then◌else◌}
-use Rattle.ov_growing_arguments.specs.declared.sweep_request.SweepRequest.{SweepRequest}
+use Rattle.ov_arguments.specs.declared.sweep_request.SweepRequest.{SweepRequest}
 use Rattle.ov_grow_commands.specs.KeptRows.{needs_rows}
 use Rattle.ov_sweep.specs.declared.sweep_fault.SweepFault.{SweepFault}
 use Rattle.ov_sweep.specs.declared.sweep_fault.SweepFault.TheVariants.{Write, OutOfMemory}

@@ -1,6 +1,6 @@
 //! What to write in place of a value that an option does not take.
+use crate::grow_and_sweep_option_tables::{option_named, takes_list};
 use crate::refused_word_slips::with_commas;
-use ov_command_tree::{option_named, takes_list};
 use ov_grow_options::Unit;
 use ov_io::shown_name;
 use std::alloc::{AllocError, Global};

@@ -1,11 +1,11 @@
 //! What `--messages` of `overlay sweep` does not stand beside, what it and `--costs` need, and why.
 use crate::GrowArgumentsFault;
+use crate::grow_arguments_fault::refused;
 use crate::option_values::values;
 use crate::sweep_list_reading::most;
 use clap::ArgMatches;
 use clap::parser::ValueSource;
-use ov_argument_tips::HELP_BELOW;
-use ov_command_tree::has_flag;
+use ov_command_tree::{HELP_BELOW, has_flag};
 use ov_grow_options::BROADCASTS;
 use std::alloc::{AllocError, Global};
 
@@ -34,7 +34,7 @@ const OF_RUNS: &str = "which tells of rows of runs, and it prints none";
 const OF_ROWS: &str = "since rows of runs do not say what each broadcast cost";
 
 /// The options that it excludes, and why.
-const EXCLUDED: [(&str, &str); 6] = [
+static EXCLUDED: [(&str, &str); 6] = [
     ("costs", OF_PHASES),
     (
         "shape",
@@ -54,25 +54,28 @@ pub(crate) fn judge_messages(
     if !has_flag(found, "messages") {
         return Ok(());
     }
-    for (name, reason) in &EXCLUDED {
-        if is_given(found, name) {
-            return Err(excluded(alloc, name, reason)?);
-        }
+    if let Some((name, reason)) = excluded_beside(found) {
+        return Err(refused(excluded(alloc, name, reason)));
     }
     if !has_flag(found, "sequential") {
-        return Err(needs(alloc, ALONE)?);
+        return Err(refused(needs(alloc, ALONE)));
     }
     if most(&values(alloc, found, &BROADCASTS)?) == 0 {
-        return Err(needs(alloc, SOME)?);
+        return Err(refused(needs(alloc, SOME)));
     }
     Ok(())
+}
+
+/// The first option that it excludes among those that are given, and why.
+fn excluded_beside(found: &ArgMatches<'_>) -> Option<&'static (&'static str, &'static str)> {
+    EXCLUDED.iter().find(|row| is_given(found, row.0))
 }
 
 /// Refuses `--costs` if nobody says how many broadcasts there are. Where they are said to be none, its columns stand
 /// beside those of other settings.
 pub(crate) fn judge_costs(alloc: Global, found: &ArgMatches<'_>) -> Result<(), GrowArgumentsFault> {
     if has_flag(found, "costs") && !is_given(found, BROADCASTS.name) {
-        return Err(needs(alloc, COSTS)?);
+        return Err(refused(needs(alloc, COSTS)));
     }
     Ok(())
 }
@@ -83,17 +86,11 @@ fn is_given(found: &ArgMatches<'_>, name: &str) -> bool {
 }
 
 /// Why it does not stand beside the option of this name.
-fn excluded(alloc: Global, name: &str, reason: &str) -> Result<GrowArgumentsFault, AllocError> {
-    Ok(GrowArgumentsFault::BadArguments {
-        reason: format!(in alloc;
-            "error: '--messages' cannot be used with '--{name}', {reason}{HELP_BELOW}"
-        )?,
-    })
+fn excluded(alloc: Global, name: &str, reason: &str) -> Result<String, AllocError> {
+    format!(in alloc; "error: '--messages' cannot be used with '--{name}', {reason}{HELP_BELOW}")
 }
 
 /// Why it does not stand without what it needs.
-fn needs(alloc: Global, reason: &str) -> Result<GrowArgumentsFault, AllocError> {
-    Ok(GrowArgumentsFault::BadArguments {
-        reason: format!(in alloc; "{reason}{HELP_BELOW}")?,
-    })
+fn needs(alloc: Global, reason: &str) -> Result<String, AllocError> {
+    format!(in alloc; "{reason}{HELP_BELOW}")
 }

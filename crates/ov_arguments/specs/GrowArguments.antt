@@ -1,7 +1,7 @@
 -- Why the words after `overlay grow` and `overlay sweep` can't be read.
 use Rattle.std.specs.Prelude.{ℕ}
-use Rattle.ov_growing_arguments.specs.declared.grow_arguments_fault.GrowArgumentsFault.{GrowArgumentsFault}
-use Rattle.ov_growing_arguments.specs.declared.grow_arguments_fault.GrowArgumentsFault.TheVariants.{BadArguments, OutOfMemory}
+use Rattle.ov_arguments.specs.declared.grow_arguments_fault.GrowArgumentsFault.{GrowArgumentsFault}
+use Rattle.ov_arguments.specs.declared.grow_arguments_fault.GrowArgumentsFault.TheVariants.{BadArguments, OutOfMemory}
 
 -- the fault's number
 abbrev pub number_of : GrowArgumentsFault → ℕ

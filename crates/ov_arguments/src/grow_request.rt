@@ -1,5 +1,6 @@
 use crate::GrowArgumentsFault;
 use crate::clap_parsing_and_faults::found_in;
+use crate::grow_arguments_fault::refused;
 use crate::option_values::{judge_sender, long_walk, value};
 use clap::ArgMatches;
 use ov_command_tree::{CRASH_CUT, GrowingCommand, growing_options, has_flag, text_of};
@@ -36,22 +37,22 @@ pub fn read_grow_arguments(
 }
 
 fn options_of(alloc: Global, found: &ArgMatches<'_>) -> Result<GrowOptions, GrowArgumentsFault> {
-    let mut values = OptionValues([OptionValue::Given(false); OPTION_COUNT]);
-    for (place, option) in growing_options().iter().enumerate() {
-        if option.name != SEED.name {
-            let value = value_of(alloc, found, option)?;
-            if let Some(slot) = values.0.get_mut(place) {
-                *slot = value;
-            }
-        }
-    }
-    let seed = value(alloc, found, &SEED)?.number().unwrap_or(0);
-    let Some(options) = values.options(seed) else {
+    let values = values_of(alloc, found)?;
+    let Some(options) = values.options(number_of(&values, SEED.name)) else {
         let arwl = number_of(&values, "arwl");
-        return Err(long_walk(alloc, arwl, number_of(&values, "prwl"))?);
+        return Err(refused(long_walk(alloc, arwl, number_of(&values, "prwl"))));
     };
     judge_sender(alloc, values.value("sender"), number_of(&values, "nodes"))?;
     Ok(options)
+}
+
+/// The value of each option of growing.
+fn values_of(alloc: Global, found: &ArgMatches<'_>) -> Result<OptionValues, GrowArgumentsFault> {
+    let mut values = [OptionValue::Given(false); OPTION_COUNT];
+    for (slot, option) in values.iter_mut().zip(growing_options()) {
+        *slot = value_of(alloc, found, option)?;
+    }
+    Ok(OptionValues(values))
 }
 
 /// The number of the option of this name.

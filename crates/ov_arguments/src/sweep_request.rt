@@ -1,6 +1,7 @@
 ghost use Rattle.std.specs.Prelude.{◌≡◌, ◌+◌, ◌%◌, ◌^◌, IfSome};
 
 use crate::clap_parsing_and_faults::{bad_value_since, found_in};
+use crate::grow_arguments_fault::refused;
 use crate::messages_option_slips::{judge_costs, judge_messages};
 use crate::option_values::{number, value};
 use crate::setting_lists::SettingLists;
@@ -11,9 +12,6 @@ use ov_command_tree::{AFTER, BOUND, GrowingCommand, LIST, RUNS, WORKERS, has_fla
 use ov_grow_options::{GrowOptions, OptionValue, SEED, Share};
 use ov_ids::Workers;
 use std::alloc::{AllocError, Global};
-
-/// The most runs of a sweep. (Chosen here.)
-const MOST_RUNS: u64 = 1_000_000;
 
 /// Why a picture is not written to standard output.
 const STANDARD_OUTPUT: &str = "rows go to standard output; name a file";
@@ -133,29 +131,22 @@ pub fn read_sweep_arguments(
     words: &[String],
 ) -> Result<SweepRequest, GrowArgumentsFault> {
     let found = found_in(alloc, GrowingCommand::Sweep, words)?;
-    let request = request_of(alloc, &found)?;
-    if request.len() > MOST_RUNS {
-        return Err(too_many(alloc, &request)?);
-    }
-    Ok(request)
+    request_of(alloc, &found)
 }
 
 fn request_of(alloc: Global, found: &ArgMatches<'_>) -> Result<SweepRequest, GrowArgumentsFault> {
     judge_messages(alloc, found)?;
     judge_costs(alloc, found)?;
-    let runs = number(alloc, found, &RUNS)?;
-    let first_seed = value(alloc, found, &SEED)?.number().unwrap_or(0);
-    let workers = Workers::new(number(alloc, found, &WORKERS)?).unwrap_or(Workers::ONE);
+    let numbers = numbers_of(alloc, found)?;
     let question = question_of(alloc, found)?;
     let printed = printed_of(alloc, found, question.is_some())?;
-    let read = files_of(alloc, found)?;
     let svg = picture_of(alloc, found)?;
-    let settings = lists_of(alloc, found)?;
+    let read = files_of(alloc, found)?;
     Ok(SweepRequest {
-        settings,
-        runs,
-        first_seed,
-        workers,
+        settings: lists_of(alloc, found, numbers.runs)?,
+        runs: numbers.runs,
+        first_seed: numbers.first_seed,
+        workers: numbers.workers,
         printed,
         question,
         svg,
@@ -166,15 +157,23 @@ fn request_of(alloc: Global, found: &ArgMatches<'_>) -> Result<SweepRequest, Gro
     })
 }
 
-/// Why a sweep is refused that has too many runs.
-fn too_many(alloc: Global, request: &SweepRequest) -> Result<GrowArgumentsFault, AllocError> {
-    let runs = request.runs;
-    let settings = request.settings.len();
-    let text = format!(in alloc; "{runs}")?;
-    let reason = format!(in alloc;
-        "with {settings} settings there are more than {MOST_RUNS} runs"
-    )?;
-    bad_value_since(alloc, "runs", text.as_str(), reason.as_str())
+/// The numbers of a sweep.
+#[derive(Clone, Copy)]
+struct Numbers {
+    runs: u32,
+    first_seed: u64,
+    workers: Workers,
+}
+
+fn numbers_of(alloc: Global, found: &ArgMatches<'_>) -> Result<Numbers, GrowArgumentsFault> {
+    let runs = number(alloc, found, &RUNS)?;
+    let first_seed = value(alloc, found, &SEED)?.number().unwrap_or(0);
+    let workers = Workers::new(number(alloc, found, &WORKERS)?).unwrap_or(Workers::ONE);
+    Ok(Numbers {
+        runs,
+        first_seed,
+        workers,
+    })
 }
 
 /// What is asked of the settings.
@@ -218,7 +217,7 @@ fn printed_of(
 /// The file for the picture. Standard output is none.
 fn picture_of(alloc: Global, found: &ArgMatches<'_>) -> Result<Option<String>, GrowArgumentsFault> {
     if found.get_str("svg") == Some("-") {
-        return Err(bad_value_since(alloc, "svg", "-", STANDARD_OUTPUT)?);
+        return Err(refused(bad_value_since(alloc, "svg", "-", STANDARD_OUTPUT)));
     }
     Ok(text_of(alloc, found, "svg")?)
 }

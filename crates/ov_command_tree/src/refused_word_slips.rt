@@ -1,7 +1,8 @@
 //! What a person may mean whose words behind `overlay grow` or `overlay sweep` are refused by `clap`.
 use crate::argument_tips::{FOUND, GAP, HELP_BELOW, UNEXPECTED, push_list, quoted};
+use crate::grow_and_sweep_clap_commands::GrowingCommand;
+use crate::grow_and_sweep_option_tables::{option_named, takes_list};
 use crate::value_slips::{counts_in_hundred, is_of_numbers, list_line, one_value};
-use ov_command_tree::{GrowingCommand, option_named, takes_list};
 use std::alloc::{AllocError, Global};
 use std::fmt::Write;
 

@@ -1,6 +1,6 @@
 //! What a person may mean who wrote arguments that are refused, or a file that can't be opened.
-use clap::Command;
-use ov_command_tree::{GrowingCommand, command_tree, is_command};
+use crate::grow_and_sweep_clap_commands::GrowingCommand;
+use crate::help_and_version::{CommandTopic, TOPICS};
 use ov_io::shown_name;
 use std::alloc::{AllocError, Global};
 use std::fmt::Write;
@@ -36,6 +36,11 @@ const TWO_COMMANDS: &str =
 /// The word that asks for help.
 const HELP: &str = "help";
 
+/// The command with a flag that is taken for an option with the name of a file.
+const ANALYSE: &str = "analyse";
+
+const CERTIFICATE: &str = "--certificate";
+
 /// A command, or `*` for each, or nothing where a command must stand; a word that is refused there; what may be meant.
 struct Meant(&'static str, &'static str, &'static str);
 
@@ -59,13 +64,24 @@ const THREADS: &str = "`--workers N` shares out the analysis";
 
 const INTO: &str = "`> FILE` behind the command writes what it prints into a file";
 
-const MEANT: [Meant; 16] = [
+const TAGZIRK: &str = "`tagzirk` has it, a command of its own: `tagzirk --help` says more";
+
+/// The rows with `TAGZIRK` are the commands and options that `tagzirk` has and `overlay` has not.
+static MEANT: [Meant; 47] = [
     Meant("", "version", "`overlay --version` prints the version"),
     Meant("", "check", CHECK),
     Meant("", "verify", CHECK),
     Meant("", "draw", DRAW),
     Meant("", "plot", DRAW),
     Meant("", "simulate", "`overlay run FILE` runs a scenario"),
+    Meant("", "status", TAGZIRK),
+    Meant("", "diff", TAGZIRK),
+    Meant("", "mend", TAGZIRK),
+    Meant("", "each", TAGZIRK),
+    Meant("", "history", TAGZIRK),
+    Meant("", "metrics", TAGZIRK),
+    Meant("", "report", TAGZIRK),
+    Meant("", "collect", TAGZIRK),
     Meant("run", "--seed", SEED),
     Meant("run", "--params", PARAMS),
     Meant("run", "--refill", REFILL),
@@ -76,6 +92,29 @@ const MEANT: [Meant; 16] = [
     Meant("analyse", "--json", "`--certificate` prints JSON"),
     Meant(EACH, "-o", INTO),
     Meant(EACH, "--output", INTO),
+    Meant(EACH, "--form", TAGZIRK),
+    Meant(EACH, "--by", TAGZIRK),
+    Meant(EACH, "--columns", TAGZIRK),
+    Meant(EACH, "--peers", TAGZIRK),
+    Meant(EACH, "--links", TAGZIRK),
+    Meant(EACH, "--up", TAGZIRK),
+    Meant(EACH, "--skip", TAGZIRK),
+    Meant(EACH, "--all", TAGZIRK),
+    Meant(EACH, "--only", TAGZIRK),
+    Meant(EACH, "--site", TAGZIRK),
+    Meant(EACH, "--json", TAGZIRK),
+    Meant(EACH, "--html", TAGZIRK),
+    Meant(EACH, "--force", TAGZIRK),
+    Meant(EACH, "--to", TAGZIRK),
+    Meant(EACH, "--most-links", TAGZIRK),
+    Meant(EACH, "--racks", TAGZIRK),
+    Meant(EACH, "--pairs", TAGZIRK),
+    Meant(EACH, "--rows", TAGZIRK),
+    Meant(EACH, "--csv", TAGZIRK),
+    Meant(EACH, "--textfile", TAGZIRK),
+    Meant(EACH, "--label", TAGZIRK),
+    Meant(EACH, "--ssh", TAGZIRK),
+    Meant(EACH, "--pidfile", TAGZIRK),
 ];
 
 /// What `clap` says of these words behind a command, or of all words if there is none: without its tip to write `--`
@@ -87,16 +126,26 @@ pub fn with_tip(
     words: &[String],
 ) -> Result<String, AllocError> {
     let mut text = without_value_tip(alloc, said)?;
-    if text.as_str().contains(TIP) {
-        return owners_or_tip(alloc, said, text);
+    let has_tip = text.as_str().contains(TIP);
+    if has_tip {
+        text = owners_or_tip(alloc, said, text)?;
     }
-    if let Some(word) = quoted(said, NO_COMMAND, END) {
-        push_known(&mut text, "", word)?;
+    let word = refused_word(said);
+    if push_known(&mut text, command, word)? || has_tip {
+        return Ok(text);
     }
-    if let Some(word) = quoted(said, UNEXPECTED, FOUND) {
+    if said.starts_with(UNEXPECTED) {
         push_unexpected(alloc, &mut text, command, words, word)?;
     }
     Ok(text)
+}
+
+/// The word that is not expected, or is no command. It is empty if something else is wrong.
+fn refused_word(said: &str) -> &str {
+    match quoted(said, UNEXPECTED, FOUND) {
+        Some(word) => word,
+        None => quoted(said, NO_COMMAND, END).unwrap_or(""),
+    }
 }
 
 /// What `clap` says with a tip of its own; but of an option of other commands, which these are, unless the tip is the
@@ -110,7 +159,7 @@ fn owners_or_tip(alloc: Global, said: &str, text: String) -> Result<String, Allo
         return Ok(text);
     }
     let mut owned = format!(in alloc; "error: unexpected argument '{word}' found{HELP_BELOW}")?;
-    if push_owners(alloc, &mut owned, word)? {
+    if push_owners(&mut owned, word)? {
         return Ok(owned);
     }
     Ok(text)
@@ -144,6 +193,31 @@ fn push_known(text: &mut String, command: &str, word: &str) -> Result<bool, Allo
     Ok(false)
 }
 
+/// Whether this word stands right behind `--certificate`, as the name of a file that the flag does not take.
+fn is_certificate_file(words: &[String], word: &str) -> bool {
+    let mut before = "";
+    for next in words {
+        if next.as_str() == word && before == CERTIFICATE {
+            return true;
+        }
+        before = next.as_str();
+    }
+    false
+}
+
+/// Appends how a certificate is written into a file of this name, by the words that stand around the name.
+fn push_certificate(text: &mut String, words: &[String], name: &str) -> Result<(), AllocError> {
+    text.push_str("tip: `--certificate` takes no file: `overlay analyse")?;
+    let mut before = "";
+    for word in words {
+        if word.as_str() != name || before != CERTIFICATE {
+            write!(text, " {word}")?;
+        }
+        before = word.as_str();
+    }
+    write!(text, " | tail -1 > {name}`\n")
+}
+
 /// Appends what may be meant by a word that is not expected behind a command.
 fn push_unexpected(
     alloc: Global,
@@ -152,11 +226,8 @@ fn push_unexpected(
     words: &[String],
     word: &str,
 ) -> Result<(), AllocError> {
-    if push_known(text, command, word)? {
-        return Ok(());
-    }
     if word.starts_with('-') {
-        return push_option(alloc, text, command, word);
+        return push_option(text, command, word);
     }
     if command.is_empty() {
         return Ok(());
@@ -164,24 +235,22 @@ fn push_unexpected(
     if word == HELP {
         return write!(text, "tip: `overlay help {command}` tells its options\n");
     }
+    if command == ANALYSE && is_certificate_file(words, word) {
+        return push_certificate(text, words, word);
+    }
     let list = joined_list(alloc, words)?;
     if !list.is_empty() {
         return push_list(text, &list);
     }
-    push_file(alloc, text, command, words)
+    push_file(text, command, words)
 }
 
 /// Appends which commands have an option; or of a number, that it has no sign; or what commands and options look like.
-fn push_option(
-    alloc: Global,
-    text: &mut String,
-    command: &str,
-    word: &str,
-) -> Result<(), AllocError> {
+fn push_option(text: &mut String, command: &str, word: &str) -> Result<(), AllocError> {
     if matches!(word.as_bytes().get(1), Some(byte) if byte.is_ascii_digit()) {
         return text.push_str("tip: a number has no sign\n");
     }
-    if push_owners(alloc, text, word)? {
+    if push_owners(text, word)? {
         return Ok(());
     }
     if command.is_empty() {
@@ -197,16 +266,18 @@ fn push_option(
 }
 
 /// Appends to which commands an option of this name belongs. False: there is no such option.
-fn push_owners(alloc: Global, text: &mut String, word: &str) -> Result<bool, AllocError> {
-    let tree = command_tree(alloc)?;
+fn push_owners(text: &mut String, word: &str) -> Result<bool, AllocError> {
+    let Some(name) = word.strip_prefix("--") else {
+        return Ok(false);
+    };
     let mut is_there = false;
-    for command in tree.get_subcommands() {
-        if has_option(command, word) {
-            let name = command.get_name();
+    for command in TOPICS {
+        if command.has_option(name) {
+            let owner = command.name();
             if is_there {
-                write!(text, ", `overlay {name}`")?;
+                write!(text, ", `overlay {owner}`")?;
             } else {
-                write!(text, "tip: `{word}` belongs to `overlay {name}`")?;
+                write!(text, "tip: `{word}` belongs to `overlay {owner}`")?;
             }
             is_there = true;
         }
@@ -217,30 +288,13 @@ fn push_owners(alloc: Global, text: &mut String, word: &str) -> Result<bool, All
     Ok(is_there)
 }
 
-/// Whether a command has an option of this name.
-fn has_option(command: &Command<'_>, word: &str) -> bool {
-    let Some(name) = word.strip_prefix("--") else {
-        return false;
-    };
-    for argument in command.get_arguments() {
-        if argument.get_long() == Some(name) {
-            return true;
-        }
-    }
-    false
-}
-
 /// Appends that two commands need a pipe, if one of these words behind a command is one; else how many files it reads.
-fn push_file(
-    alloc: Global,
-    text: &mut String,
-    command: &str,
-    words: &[String],
-) -> Result<(), AllocError> {
-    for word in words {
-        if is_any_command(alloc, word.as_str())? {
-            return text.push_str(TWO_COMMANDS);
-        }
+fn push_file(text: &mut String, command: &str, words: &[String]) -> Result<(), AllocError> {
+    if words
+        .iter()
+        .any(|word| CommandTopic::named(word.as_str()).is_some())
+    {
+        return text.push_str(TWO_COMMANDS);
     }
     if GrowingCommand::of(command).is_some() {
         return write!(
@@ -249,11 +303,6 @@ fn push_file(
         );
     }
     write!(text, "tip: `overlay {command}` reads one file\n")
-}
-
-/// Whether a command has this name.
-fn is_any_command(alloc: Global, word: &str) -> Result<bool, AllocError> {
-    Ok(GrowingCommand::of(word).is_some() || is_command(alloc, word)?)
 }
 
 /// The line that says what may be meant by these arguments of `overlay`, if a file can't be opened: help of a command,

@@ -1,5 +1,5 @@
 ghost use Rattle.std.specs.Prelude.{◌≡◌};
-ghost use Rattle.ov_growing_arguments.specs.GrowArguments.{number_of};
+ghost use Rattle.ov_arguments.specs.GrowArguments.{number_of};
 
 use std::alloc::{AllocError, AllocFailed};
 
@@ -21,6 +21,14 @@ impl GrowArgumentsFault {
             GrowArgumentsFault::BadArguments { .. } => 73,
             GrowArgumentsFault::OutOfMemory => 99,
         }
+    }
+}
+
+/// The fault of words that can't be read, for this reason, if there was memory to write it.
+pub(crate) fn refused(reason: Result<String, AllocError>) -> GrowArgumentsFault {
+    match reason {
+        Ok(reason) => GrowArgumentsFault::BadArguments { reason },
+        Err(_) => GrowArgumentsFault::OutOfMemory,
     }
 }
 

@@ -1,11 +1,10 @@
 use crate::GrowArgumentsFault;
-use crate::clap_parsing_and_faults::{bad_part, bad_value, bad_value_since};
+use crate::clap_parsing_and_faults::{bad_number, bad_part, bad_value, bad_value_since};
+use crate::grow_arguments_fault::refused;
 use clap::ArgMatches;
-use ov_argument_tips::{RANGE, is_gapped, one_value};
-use ov_command_tree::has_flag;
+use ov_command_tree::{RANGE, has_flag, is_gapped, one_value};
 use ov_grow_options::{OptionRow, OptionValue};
 use std::alloc::{AllocError, Global};
-use std::fmt::Write;
 
 /// Why a list is refused that has one value twice: its runs would be counted twice.
 pub(crate) const TWICE: &str = "it stands in the list twice";
@@ -25,7 +24,7 @@ pub(crate) fn value(
     let text = found.get_str(option.name).unwrap_or("");
     match option.read(text) {
         Some(value) => Ok(value),
-        None => Err(no_value(alloc, option, text)?),
+        None => Err(refused(no_value(alloc, option, text))),
     }
 }
 
@@ -40,14 +39,10 @@ pub(crate) fn number(
 }
 
 /// Why an option does not take this text as its one value.
-fn no_value(
-    alloc: Global,
-    option: &OptionRow,
-    text: &str,
-) -> Result<GrowArgumentsFault, AllocError> {
+fn no_value(alloc: Global, option: &OptionRow, text: &str) -> Result<String, AllocError> {
     if text.contains(',') || text.contains(RANGE) {
         let reason = one_value(alloc, option.name, text)?;
-        return bad_value_since(alloc, option.name, text, reason.as_str());
+        return bad_value_since(alloc, option.name, text, &reason);
     }
     bad_value(alloc, option, text)
 }
@@ -62,14 +57,25 @@ pub(crate) fn values(
     let mut values = Vec::new(alloc);
     let texts = found.get_strs(option.name).unwrap_or(&[]);
     for text in texts {
-        match ends_of(text) {
-            None if is_gapped(text) => return Err(bad_part(alloc, option, text, texts)?),
-            None => push_value(alloc, &mut values, option, text)?,
-            Some((low, high)) if low <= high => push_range(alloc, &mut values, option, low, high)?,
-            Some(_) => return Err(bad_value_since(alloc, option.name, text, NO_RANGE)?),
-        }
+        push_text(alloc, &mut values, option, text, texts)?;
     }
     Ok(values)
+}
+
+/// Adds what a text of the list spells that was given in these parts: a value, or all numbers of a range.
+fn push_text(
+    alloc: Global,
+    values: &mut Vec<OptionValue>,
+    option: &OptionRow,
+    text: &str,
+    texts: &[&str],
+) -> Result<(), GrowArgumentsFault> {
+    match ends_of(text) {
+        None if is_gapped(text) => Err(refused(bad_part(alloc, option, text, texts))),
+        None => push_value(alloc, values, option, text),
+        Some((low, high)) if low <= high => push_range(alloc, values, option, low, high),
+        Some(_) => Err(refused(bad_value_since(alloc, option.name, text, NO_RANGE))),
+    }
 }
 
 /// The two ends of a range, if a text is one.
@@ -88,7 +94,7 @@ fn push_range(
 ) -> Result<(), GrowArgumentsFault> {
     for number in low..=high {
         let text = format!(in alloc; "{number}")?;
-        push_value(alloc, values, option, text.as_str())?;
+        push_value(alloc, values, option, &text)?;
     }
     Ok(())
 }
@@ -101,23 +107,18 @@ fn push_value(
     text: &str,
 ) -> Result<(), GrowArgumentsFault> {
     let Some(value) = option.read(text) else {
-        return Err(bad_value(alloc, option, text)?);
+        return Err(refused(bad_value(alloc, option, text)));
     };
     if values.contains(&value) {
-        return Err(bad_value_since(alloc, option.name, text, TWICE)?);
+        return Err(refused(bad_value_since(alloc, option.name, text, TWICE)));
     }
     Ok(values.push(value)?)
 }
 
 /// Why --prwl is refused that is above --arwl.
-pub(crate) fn long_walk(
-    alloc: Global,
-    arwl: u64,
-    prwl: u64,
-) -> Result<GrowArgumentsFault, AllocError> {
-    let text = format!(in alloc; "{prwl}")?;
+pub(crate) fn long_walk(alloc: Global, arwl: u64, prwl: u64) -> Result<String, AllocError> {
     let reason = format!(in alloc; "with --arwl {arwl} it takes a number from 0 to {arwl}")?;
-    bad_value_since(alloc, "prwl", text.as_str(), reason.as_str())
+    bad_number(alloc, "prwl", prwl, &reason)
 }
 
 /// Refuses a sender above the fewest nodes of an overlay.
@@ -130,7 +131,11 @@ pub(crate) fn judge_sender(
     if number <= fewest {
         return Ok(());
     }
-    let text = format!(in alloc; "{number}")?;
+    Err(refused(far_sender(alloc, number, fewest)))
+}
+
+/// Why a sender is refused above the fewest nodes.
+fn far_sender(alloc: Global, sender: u64, fewest: u64) -> Result<String, AllocError> {
     let reason = format!(in alloc; "with --nodes {fewest} it takes a number from 1 to {fewest}")?;
-    Err(bad_value_since(alloc, "sender", text.as_str(), reason.as_str())?)
+    bad_number(alloc, "sender", sender, &reason)
 }

@@ -1,24 +1,29 @@
 use crate::GrowArgumentsFault;
-use crate::clap_parsing_and_faults::bad_value_since;
+use crate::clap_parsing_and_faults::{bad_number, bad_value_since};
+use crate::grow_arguments_fault::refused;
 use crate::option_values::{TWICE, judge_sender, long_walk, values};
 use crate::setting_lists::SettingLists;
 use clap::ArgMatches;
 use clap::parser::ValueSource;
 use ov_command_tree::{CRASH_CUT, growing_options, has_flag};
 use ov_grow_options::{OptionRow, OptionValue};
-use std::alloc::Global;
+use std::alloc::{AllocError, Global};
 
-/// The values of each option that were found in the words after `overlay sweep`.
+/// The most runs of a sweep. (Chosen here.)
+const MOST_RUNS: u64 = 1_000_000;
+
+/// The values of each option that were found in the words after `overlay sweep`, where each setting has so many runs.
 pub(crate) fn lists_of(
     alloc: Global,
     found: &ArgMatches<'_>,
+    runs: u32,
 ) -> Result<SettingLists, GrowArgumentsFault> {
     let mut lists = Vec::new(alloc);
     for option in growing_options() {
         lists.push(list_of(alloc, found, option)?)?;
     }
     let settings = SettingLists { lists };
-    judge_settings(alloc, &settings)?;
+    judge_settings(alloc, &settings, runs)?;
     Ok(settings)
 }
 
@@ -52,22 +57,37 @@ fn push_cut(
         crashes.clear();
     }
     if crashes.contains(&cut) {
-        return Err(bad_value_since(alloc, "crash", "cut", TWICE)?);
+        return Err(refused(bad_value_since(alloc, "crash", "cut", TWICE)));
     }
     Ok(crashes.push(cut)?)
 }
 
-/// Refuses settings of which one has --prwl above --arwl, or --sender above --nodes.
-fn judge_settings(alloc: Global, settings: &SettingLists) -> Result<(), GrowArgumentsFault> {
+/// Refuses settings of which one has --prwl above --arwl, or --sender above --nodes, and too many runs of them.
+fn judge_settings(
+    alloc: Global,
+    settings: &SettingLists,
+    runs: u32,
+) -> Result<(), GrowArgumentsFault> {
     let (arwl, prwl) = (least(settings.list("arwl")), most(settings.list("prwl")));
     if prwl > arwl {
-        return Err(long_walk(alloc, arwl, prwl)?);
+        return Err(refused(long_walk(alloc, arwl, prwl)));
     }
     let fewest = least(settings.list("nodes"));
     for sender in settings.list("sender") {
         judge_sender(alloc, *sender, fewest)?;
     }
+    if settings.len().saturating_mul(u64::from(runs)) > MOST_RUNS {
+        return Err(refused(too_many(alloc, settings.len(), runs)));
+    }
     Ok(())
+}
+
+/// Why so many settings are refused, each with so many runs.
+fn too_many(alloc: Global, settings: u64, runs: u32) -> Result<String, AllocError> {
+    let reason = format!(in alloc;
+        "with {settings} settings there are more than {MOST_RUNS} runs"
+    )?;
+    bad_number(alloc, "runs", u64::from(runs), &reason)
 }
 
 /// The least number of a list.
