@@ -12,6 +12,7 @@ from .graph_files import NAME_OF_GRAPH, WRITTEN_AT, WRITTEN_BY
 from .graphs import shown
 from .states import NOTHING, NUMBERS, STATE_NAMES, STATE_WORDS
 from .values import Views
+from .written import REPEATED, WRITTEN
 
 # How the note begins, and what it ends with.
 LEFT, KNOWN = "not read as states", "passed over, as --all asks"
@@ -159,6 +160,8 @@ def rank_of(field: Field, counts: Dict[str, int]) -> int:
     """How little a field looks like a state: 0 of few values of which one is rare or stands for none, 1 of many with
     such a one, 2 of few, 3 of one, 4 of many."""
     whole = sum(counts.values())
+    if field.name in (REPEATED, WRITTEN):
+        return 0
     if len(field.counts) == 1:
         return 3
     has_odd = bool(odd_of(field, counts))

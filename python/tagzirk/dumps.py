@@ -9,9 +9,9 @@ import re
 import sys
 from dataclasses import dataclass, field, replace
 from functools import lru_cache
-from typing import Dict, List, NamedTuple, Optional, Sequence, TextIO, Tuple
+from typing import Dict, Iterable, List, NamedTuple, Optional, Sequence, TextIO, Tuple
 
-from .account import LEFT
+from .account import KNOWN, LEFT, account_of
 from .asked import Asked, demand_used
 from .beside import plain_lines
 from .errors import BadDump, LibraryMissing, Refused
@@ -21,6 +21,7 @@ from .forms import NATIVE, form_of, listings_of
 from .graphs import NamedGraph
 from .hosts import SeveralLists
 from .limits import GZIP
+from .marks import said_by_names
 from .notes import Line, lines_in, notes_on
 from .only import only_graph, only_views, plain_views
 from .outputs import files_in
@@ -29,6 +30,7 @@ from .contents import of_contents
 from .taken import taken_of
 from .texts import decoded, text_of
 from .values import Views
+from .written import tell_how_often
 
 GRAPH_FILE = re.compile(r"(?:[ \t\r]*(?:#[^\n]*)?\n)*[ \t\r]*(?:node|link) +\d")
 # The first line of a graph file that `tagzirk mend` wrote.
@@ -60,6 +62,9 @@ TAKEN: Dict[str, Tuple[str, ...]] = {
 }
 # What overlay says of this command, which is no advice here.
 OF_THIS = re.compile(r"; `tagzirk import` of the Python package reads (?:it|more forms)$", re.MULTILINE)
+# By so many seconds the files of a folder may differ in age without a word.
+MOST_APART = 300.0
+UNITS = (("days", 86400), ("hours", 3600), ("minutes", 60))
 # The words of a refusal of DOT that is read here all the same.
 OF_DOT = ("in place of a subgraph", "an HTML text", "several words to DOT")
 
@@ -194,6 +199,22 @@ def passed_over(places: Sequence[str]) -> List[str]:
             if not it.is_file() or it.name[0] == "."]
 
 
+def older(files: Iterable[pathlib.Path]) -> List[str]:
+    """The files that were last changed long before the newest of them, the oldest first."""
+    changed = sorted((it.stat().st_mtime, it.name) for it in files if it.is_file())
+    return [f"{name}: by {in_units(changed[-1][0] - at)}" for at, name in changed if changed[-1][0] - at > MOST_APART]
+
+
+def in_units(seconds: float) -> str:
+    """A span in the largest unit of which there are two at least.
+
+    >>> in_units(400), in_units(90000), in_units(3e6)
+    ('6 minutes', '25 hours', '34 days')
+    """
+    unit, size = next((it for it in UNITS if seconds >= 2 * it[1]), ("seconds", 1))
+    return f"{seconds // size:.0f} {unit}"
+
+
 def last_change(places: Sequence[str]) -> Optional[float]:
     """When that file of a dump was last changed which is oldest, in seconds since 1970; None if no place but standard
     input is named. So a host whose file is no longer written makes the dump old."""
@@ -242,11 +263,12 @@ def dump_of_hosts(places: Sequence[str], options: Options, overlay: Optional[Pro
     try:
         views = of_hosts(files, options.asked)
         views.beside += [("files that are not read", it) for it in passed_over(places)]
+        views.beside += [("older than other files", it) for it in older(files)]
     except SeveralLists as why:
         raise named_error(why, name) from None
     told = f"read {views.kind}" if len(places) > 1 else f"{name} was read as {views.kind}"
     try:
-        return with_notes(of_views(views, name, options, [told], overlay))
+        return with_notes(of_views(views, name, options, [told], overlay), options.asked.all)
     except (BadDump, Refused) as why:
         raise named_error(why, name) from None
 
@@ -290,8 +312,8 @@ def dump_of(
     >>> dump.notes
     ('net.json was read as a graph of nodes and links',)
     """
-    data, told = text_of(data, options.asked.skip, name)
-    notes = [it if it.startswith(LEFT) else f"{name}: {it}" for it in told]
+    data, told, beside = text_of(data, options.asked.skip, name)
+    notes = [*(f"{name}: {it}" for it in told), *account_of(Views("", beside), [], options.asked.all)]
     if is_graph_taken and not options.asked.form and GRAPH_FILE.match(data.decode(errors="replace")):
         return of_graph_file(data, name, options, notes, overlay)
     form = options.asked.form or form_of(data.decode("utf-8-sig", "replace"), name)
@@ -303,7 +325,7 @@ def dump_of(
         dump = of_overlay(data, name, form, options, notes, overlay)
     else:
         dump = of_views(views, name, options, [*notes, f"{name} was read as {views.kind}"], overlay)
-    return with_notes(dump, lines_in(decoded(data)) if form in OF_LINES else [])
+    return with_notes(dump, options.asked.all, lines_in(decoded(data)) if form in OF_LINES else [])
 
 
 def of_overlay(
@@ -339,7 +361,8 @@ def of_graph_file(data: bytes, name: str, options: Options, notes: List[str], ov
         refuse(*ended.err.partition("\n")[::2])
     text = data.decode(errors="backslashreplace")
     told = [*notes, *taken_of(Views("", [("comments", it) for it in comments_of(text)]), options.asked)[1]]
-    return with_only(Dump(name, text, tuple(told), None, None), options.only)
+    dump = with_only(Dump(name, text, tuple(told), None, None), options.only)
+    return with_marks(dump, options.asked.all)
 
 
 def with_only(dump: Dump, patterns: Sequence[str]) -> Dump:
@@ -350,9 +373,16 @@ def with_only(dump: Dump, patterns: Sequence[str]) -> Dump:
     return replace(dump, graph_file=graph.text_with_names, notes=(*dump.notes, told))
 
 
-def with_notes(dump: Dump, lines: Sequence[Line] = ()) -> Dump:
-    """A dump with notes on its graph, and its lines."""
+def with_notes(dump: Dump, is_known: bool, lines: Sequence[Line] = ()) -> Dump:
+    """A dump with notes on its graph, its names, and its lines."""
     told = notes_on(dump.graph, lines, dump.without_entry or 0)
+    return with_marks(replace(dump, notes=(*dump.notes, *told)), is_known)
+
+
+def with_marks(dump: Dump, is_known: bool) -> Dump:
+    """A dump with a note on what its names say beside. If a person took all on purpose, it `is_known`."""
+    said = said_by_names(list(dump.graph.ids))
+    told = [f"{KNOWN if is_known else LEFT}: {'; '.join(said)}"] if said else []
     return replace(dump, notes=(*dump.notes, *told))
 
 
@@ -363,6 +393,7 @@ def more_in_dot(data: bytes, dump: Dump, options: Options, overlay: Optional[Pro
     if (options.asked.form or form_of(text, dump.name)) != "dot":
         return None
     views = of_dot(text)
+    tell_how_often(views)
     if not views.beside and not any(it.said for it in views.statements):
         return None
     words = ["--views", *options.words]

@@ -3,9 +3,10 @@ writes as `plain`, and DIMACS and Matrix Market, which number their hosts."""
 
 from __future__ import annotations
 
+import collections
 import csv
 import re
-from typing import Dict, Iterator, List, NamedTuple, Optional, Sequence, Set
+from typing import Counter, Dict, Iterator, List, NamedTuple, Optional, Sequence, Set
 
 from .errors import BadDump
 from .graph_files import Graph
@@ -81,13 +82,21 @@ def need_words(line: Line, count: int) -> List[str]:
     return words
 
 
+def nth(section: str, begun: Counter[str]) -> str:
+    """How a section is told that begins: by its name, and which of this name it is."""
+    begun[section] += 1
+    return section if begun[section] == 1 else f"{section} {begun[section]}"
+
+
 def pajek(text: str) -> Graph:
     """Pajek: `*Vertices`, then `*Edges` for links, `*Arcs` for listings; or both as lists. Labels are names."""
     graph, section, told = Graph("Pajek", label="label"), "", set()  # type: Graph, str, Set[str]
+    way, begun = "", collections.Counter()  # type: str, Counter[str]
     relation: Dict[str, Scalar] = {}
     for line in lines_of(text, "%", graph):
         if line.text.startswith("*"):
             section, behind = line.words[0].lower(), " ".join(line.words[1:])
+            way = nth(section, begun)
             relation = {"section": behind} if behind else {}
             if section == "*vertices":
                 counts = Line(line.number, line.text[len(section) :]).numbers(1)
@@ -103,18 +112,13 @@ def pajek(text: str) -> Graph:
             continue
         words = line.words
         if section == "*vertices":
-            if words[0] not in graph.hosts:
-                raise BadDump(f"{line.place}{words[0][:40]} is not one of the {len(graph.hosts)} vertices")
-            if words[0] in told:
-                raise BadDump(f"{line.place}the host {words[0]} stands there twice")
-            told.add(words[0])
-            graph.hosts[words[0]].update({"label": words[1]} if len(words) > 1 else {}, **rest(words[2:]))
+            vertex(graph, line, told)
         elif section in ("*edges", "*arcs"):
             words = need_words(line, 2)
-            graph.link(words[0], words[1], section == "*arcs", {**rest(words[2:]), **relation})
+            graph.link(words[0], words[1], section == "*arcs", {**rest(words[2:]), **relation}, way)
         elif section in ("*edgeslist", "*arcslist"):
             for other in words[1:]:
-                graph.link(words[0], other, section == "*arcslist", relation)
+                graph.link(words[0], other, section == "*arcslist", relation, way)
         else:
             raise BadDump(f"{line.place}a line of Pajek stands before any section")
     lacking = next((it for it in graph.hosts if told and it not in told), None)
@@ -123,14 +127,27 @@ def pajek(text: str) -> Graph:
     return graph
 
 
+def vertex(graph: Graph, line: Line, told: Set[str]) -> None:
+    """Takes in the line of a vertex of Pajek, which has but one."""
+    words = line.words
+    if words[0] not in graph.hosts:
+        raise BadDump(f"{line.place}{words[0][:40]} is not one of the {len(graph.hosts)} vertices")
+    if words[0] in told:
+        raise BadDump(f"{line.place}the host {words[0]} stands there twice")
+    told.add(words[0])
+    graph.hosts[words[0]].update({"label": words[1]} if len(words) > 1 else {}, **rest(words[2:]))
+
+
 def lemon(text: str) -> Graph:
     """LEMON: `@nodes`, `@arcs` and `@edges`, each a table with a header. The column `label` has the keys of hosts."""
     graph, section = Graph("LEMON"), ""
+    way, begun = "", collections.Counter()  # type: str, Counter[str]
     header: Optional[List[str]] = None
     for line in lines_of(text, "#", graph):
         words = line.words
         if line.text.startswith("@"):
             section, header = words[0].lower(), None
+            way = nth(section, begun)
             for word in words[1:]:
                 graph.pass_over(section, word)
         elif section not in ("@nodes", "@arcs", "@edges"):
@@ -144,7 +161,7 @@ def lemon(text: str) -> Graph:
             graph.host(said.pop("label"), said, line.place)
         else:
             words = need_words(line, 2)
-            graph.link(words[0], words[1], section == "@arcs", rest(words[2:], header))
+            graph.link(words[0], words[1], section == "@arcs", rest(words[2:], header), way)
     graph.drop_numbers("label")
     return graph
 
@@ -179,13 +196,14 @@ def leda(text: str) -> Graph:
 
 def gdf(text: str) -> Graph:
     """GDF: `nodedef>` and `edgedef>`, each a table of CSV whose header has types."""
-    graph = Graph("GDF")
+    graph, way, begun = Graph("GDF"), "", collections.Counter()  # type: Graph, str, Counter[str]
     names: List[str] = []
     is_nodes = True
     for line in lines_of(text, "#", graph):
         head = re.match("(nodedef|edgedef)>", line.text, re.IGNORECASE)
         if head:
             is_nodes = head[1].lower() == "nodedef"
+            way = nth(head[1].lower(), begun)
             names = [it.split()[0] if it.split() else "" for it in line.text[head.end() :].split(",")]
             continue
         try:
@@ -201,7 +219,9 @@ def gdf(text: str) -> Graph:
         if is_nodes:
             graph.host(ends[0], said, line.place)
         else:
-            graph.link(ends[0], ends[1], str(said.pop("directed", "")).lower() in ("true", "1"), said)
+            said_directed = str(said.pop("directed", "")).lower()
+            told = f"{way}, directed {said_directed}" if said_directed else way
+            graph.link(ends[0], ends[1], said_directed in ("true", "1"), said, told)
     return graph
 
 

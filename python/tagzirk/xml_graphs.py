@@ -39,10 +39,10 @@ OF_FORM = ("version", "mode", "edgeids", *DIRECTED)
 
 
 class Item:
-    """A node or an edge that is being read: its attributes, and the fields that stand in it."""
+    """A node or an edge that is being read: its attributes, how these are written, and the fields that stand in it."""
 
-    def __init__(self, tag: str, line: int, attributes: Dict[str, str]) -> None:
-        self.tag, self.line, self.attributes = tag, line, attributes
+    def __init__(self, tag: str, line: int, attributes: Dict[str, str], written: List[str]) -> None:
+        self.tag, self.line, self.attributes, self.written = tag, line, attributes, written
         self.fields: Dict[str, Scalar] = {}
 
     def say(self, name: str, value: str) -> None:
@@ -65,6 +65,8 @@ class Reader:
         self.spaces: Dict[str, str] = {}
         self.item: Optional[Item] = None
         self.first, self.graphs, self.is_directed = "", 0, False
+        # how many elements for edges there were
+        self.parts = 0
         # the name of a field by its id, and its value where nothing is said; both by the kind of item
         self.fields: Dict[Tuple[str, str], str] = {}
         self.defaults: Dict[str, Dict[str, Scalar]] = {"node": {}, "edge": {}}
@@ -146,6 +148,7 @@ class Reader:
         space = [f"{it}={value}" for it, value in attributes.items()
                  if it.startswith("xmlns") and it in {"xmlns", *self.spaces} and self.spaces.get(it) != value]
         known = AROUND.get(self.first, OF_ALL)
+        self.parts += name in ("edges", "links")
         is_known = name in known and tag.rpartition(":")[0] in ("", *(it.rpartition(":")[0] for it in self.tags))
         is_item = name in (*NODES, *EDGES)
         self.strange.append(" ".join([tag, *space]) if space or self.path and not is_known and not is_item else "")
@@ -211,7 +214,7 @@ class Reader:
             raise self.fault(f"an element {name} stands outside of a graph")
         lower = {it.lower() if it.lower() in ("id", "source", "target") else it: attributes[it] for it in attributes
                  if it != "xmlns"}
-        self.item = Item(name, self.parser.CurrentLineNumber, lower)
+        self.item = Item(name, self.parser.CurrentLineNumber, lower, list(attributes))
         for it in (*self.strange, *[tag] * (tag not in self.tags)):
             if it:
                 self.item.say("element", it)
@@ -261,13 +264,17 @@ class Reader:
         if not ends:
             raise BadDump(f"{place}an edge should have the attributes source and target")
         one, other = (item.attributes.pop(end) for end in ends)
+        called = [it for it in item.written if it.lower() in ends]
         ways = {it: item.attributes[it].lower() for it in ("directed", "type") if it in item.attributes}
         for it, way in ways.items():
             if way in (*YES, *NO):
                 del item.attributes[it]
         kinds = [*ways.values()]
         is_directed = next((it in YES for it in kinds if it in (*YES, *NO)), self.is_directed)
-        self.graph.link(one, other, is_directed, both(item.attributes, said))
+        told = [" and ".join(called), *["with capitals"] * any(it != it.lower() for it in called)]
+        told += [f"{it} {way}" for it, way in ways.items() if way in (*YES, *NO)]
+        told += [f"in part {self.parts}"] if self.parts > 1 else []
+        self.graph.link(one, other, is_directed, both(item.attributes, said), ", ".join(told))
 
 
 def tags_of(text: str) -> Tuple[str, ...]:
@@ -287,7 +294,7 @@ def xml_graph(text: str) -> Graph:
     """The graph that a text of XML says.
 
     >>> graph = xml_graph('<graph><node id="a"/><node id="b"/><edge source="a" target="b" weight="3"/></graph>')
-    >>> list(graph.hosts), graph.links
-    (['a', 'b'], [Link(one='a', other='b', is_directed=False, said={'weight': '3'})])
+    >>> list(graph.hosts), graph.links[0].said, graph.links[0].way
+    (['a', 'b'], {'weight': '3'}, 'source and target')
     """
     return Reader().read(text)

@@ -312,7 +312,7 @@ class Texts(unittest.TestCase):
                 with self.assertRaisesRegex(BadDump, "UTF-16 without a mark"):
                     text_of(data)
                 data = ("\ufeff" + "source,target\nb\u00f8rre,a\n").encode(code)
-            turned, told = text_of(data)
+            turned, told, _ = text_of(data)
             self.assertEqual(
                 (views(turned), told), ({"b\u00f8rre": {"a"}, "a": {"b\u00f8rre"}}, ["it was read as UTF-16"])
             )

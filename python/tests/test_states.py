@@ -45,6 +45,8 @@ class Dumps(unittest.TestCase):
             place.mkdir()
             for file, inner in text.items():
                 (place / file).write_text(inner)
+        elif isinstance(text, bytes):
+            place.write_bytes(text)
         else:
             place.write_text(text)
         return str(place)

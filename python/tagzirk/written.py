@@ -1,0 +1,141 @@
+"""How each host, listing and link of a dump is written: by which keys, as which kind of value, and how often it stands
+there. Where all are alike it says nothing; else it is a field of theirs, since somebody wrote them so."""
+
+from __future__ import annotations
+
+import collections
+from typing import Any, Counter, Dict, List, Optional, Sequence, Tuple
+
+from .values import NAME_KEYS, Scalar, Statement, Views, key_in, naming_part
+
+# What these fields are called.
+WRITTEN, REPEATED = "written as", "stands there"
+# How a name is written that has digits alone: of one dump all are so or so, or it is told.
+PLAIN, QUOTED = "a number", "a number in quotes"
+NAME, KEY, LIST = "a name", "a key", "a list"
+# How often a link stands there, by how often either way; a listing stands there one way.
+OFTEN = {(1, 0): "once", (0, 1): "once", (1, 1): "from both ends", (2, 0): "twice", (0, 2): "twice"}
+
+
+def way_of(name: Any, by: Optional[str] = None) -> str:
+    """How the name of a host is written: as a text, a number, or an object with it below some key.
+
+    >>> way_of("oslo"), way_of(7), way_of("7"), way_of({"id": "oslo"})
+    ('a name', 'a number', 'a number in quotes', 'id')
+    """
+    if isinstance(name, dict):
+        inner = naming_part(name, by)
+        key = by if by and by in inner else key_in(inner, NAME_KEYS) or ""
+        return key if inner is name else f"{key} in data"
+    if isinstance(name, int):
+        return PLAIN
+    return QUOTED if isinstance(name, str) and name.isdigit() else NAME
+
+
+def way_of_ends(keys: Sequence[str], ends: Sequence[Any], is_below: bool) -> str:
+    """How a link is written: by which keys, and how its ends are.
+
+    >>> way_of_ends(("from", "to"), ("oslo", {"id": 7}), False)
+    'from and to, a name and id'
+    """
+    ways = [way_of(it) for it in ends]
+    said = " and ".join(keys) + " in data" * is_below
+    return said if set(ways) == {NAME} else f"{said}, {' and '.join(dict.fromkeys(ways))}"
+
+
+class Written:
+    """How some statements of a dump are written, by their places."""
+
+    def __init__(self, views: Views) -> None:
+        self.views = views
+        self.places: List[int] = []
+        self.ways: List[str] = []
+
+    def next_is(self, way: str) -> None:
+        """What is said next is written in this way; without one, as most others."""
+        self.places.append(len(self.views.statements))
+        self.ways.append(way)
+
+    def tell(self) -> None:
+        """Makes it a field of hosts, or of listings and links, if these are written in several ways."""
+        kinds: Dict[bool, Counter[str]] = {True: collections.Counter(), False: collections.Counter()}
+        for place, way in zip(self.places, self.ways):
+            kinds[self.views.statements[place].other is None][way] += 1
+        known = {kind: told_of(ways) for kind, ways in kinds.items()}
+        if not any(known.values()):
+            return
+        for place, way in zip(self.places, self.ways):
+            ways = known[self.views.statements[place].other is None]
+            if ways:
+                self.views.say(place, {WRITTEN: ways[way]})
+
+
+def told_of(ways: Counter[str]) -> Dict[str, str]:
+    """How each of these ways is told; nothing, if all are alike."""
+    known = short([it for it in ways if it])
+    usual = next((it for it, _ in ways.most_common() if it), "")
+    return {it: known[it or usual] for it in ways} if len(set(known.values())) > 1 else {}
+
+
+def short(ways: Sequence[str]) -> Dict[str, str]:
+    """Ways as they are told. Whether a name has digits alone says nothing, unless some such are in quotes, and others
+    are not.
+
+    >>> short(["a name", "a number"]), short(["a number", "a number in quotes"])["a number"]
+    ({'a name': 'a name', 'a number': 'a name'}, 'a number')
+    """
+    parts = {part for way in ways for part in way.replace(" and ", ", ").split(", ")}
+    if {PLAIN, QUOTED} <= parts:
+        return {it: it for it in ways}
+    told = {}
+    for way in ways:
+        text = way.replace(QUOTED, NAME).replace(PLAIN, NAME).replace(f"{NAME} and {NAME}", NAME)
+        told[way] = text.removesuffix(f", {NAME}")
+    return without_common(told)
+
+
+def without_common(told: Dict[str, str]) -> Dict[str, str]:
+    """Ways without those parts that all have.
+
+    >>> without_common({"peers, by id": "peers, by id", "links, by id": "links, by id"})
+    {'peers, by id': 'peers', 'links, by id': 'links'}
+    """
+    parts = {way: text.split(", ") for way, text in told.items()}
+    common = set.intersection(*map(set, parts.values())) if len(parts) > 1 else set()
+    left = {way: [it for it in them if it not in common] for way, them in parts.items()}
+    if not all(left.values()):
+        left = {way: [parts[way][0], *(it for it in them if it != parts[way][0])] for way, them in left.items()}
+    return {way: ", ".join(them) for way, them in left.items()}
+
+
+def tell_how_often(views: Views) -> None:
+    """Makes a field of which links and which listings stand there more often than others; and of which are links, and
+    which are listings, if both are there."""
+    places = [at for at, it in enumerate(views.statements) if it.other is not None]
+    links = [at for at in places if views.statements[at].is_link]
+    listings = [at for at in places if not views.statements[at].is_link]
+    for at in places if links and listings else ():
+        said = views.statements[at].said
+        kind = "a link" if views.statements[at].is_link else "a listing"
+        if kind not in str(said.get(WRITTEN, "")):
+            views.say(at, {WRITTEN: f"{said[WRITTEN]}, {kind}" if WRITTEN in said else kind})
+    for them, has_ways in (links, True), (listings, False):
+        often = how_often([views.statements[at] for at in them], has_ways)
+        for at, text in zip(them, often):
+            views.say(at, {REPEATED: text})
+
+
+def how_often(statements: Sequence[Statement], has_ways: bool) -> List[Scalar]:
+    """How often each of these stands there, or nothing if all stand there equally often. With `has_ways` it is asked
+    from which end."""
+    pairs: List[Tuple[str, str]] = [(it.one, str(it.other)) for it in statements]
+    count: Counter[Tuple[str, str]] = collections.Counter(pairs)
+    if len(count) == len(pairs) and (not has_ways or not any(a != b and (b, a) in count for a, b in count)):
+        return []
+    texts: Dict[Tuple[str, str], str] = {}
+    for a, b in count:
+        other = count[b, a] if has_ways and a != b else 0
+        times = count[a, b] + other
+        texts[a, b] = OFTEN.get((count[a, b], other), f"{times} times")
+    different = {text for (a, b), text in texts.items() if a != b or not has_ways}
+    return [texts[it] for it in pairs] if len(different) > 1 else []
