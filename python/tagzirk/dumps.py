@@ -71,17 +71,24 @@ OF_DOT = ("in place of a subgraph", "an HTML text", "several words to DOT")
 
 class Options(NamedTuple):
     """How a dump is to become a graph: as `overlay import` has it, and as a form, a field or columns are asked for.
-    With patterns in `only`, hosts with such names are looked at alone."""
+    With patterns in `only`, hosts with such names are looked at alone. If `entries` says neither, a dump that is read
+    has names without an entry too, and what is asked about it leaves them out."""
 
     either: bool = False
-    entries: bool = False
+    entries: Optional[bool] = None
     asked: Asked = Asked()
     only: Tuple[str, ...] = ()
 
     @property
     def words(self) -> List[str]:
         """The options of `overlay import`, but for the form."""
-        return ["--either"] * self.either + ["--entries"] * self.entries
+        return ["--either"] * self.either + ["--entries"] * bool(self.entries)
+
+    @property
+    def living(self) -> Options:
+        """The same for a question about the overlay: names that others list and that have no entry, as of dead peers,
+        are left out, unless something else is asked for."""
+        return self._replace(entries=True) if self.entries is None else self
 
 
 @dataclass(frozen=True)
@@ -104,6 +111,11 @@ class Dump:
     def graph(self) -> NamedGraph[str]:
         """The graph, by the names of its hosts."""
         return read_graph_file(self.graph_file)
+
+    @property
+    def left_out(self) -> int:
+        """How many names were left out that have no entry."""
+        return (self.without_entry or 0) if "--entries" in self.given[1] else 0
 
     @property
     def has_nodes(self) -> bool:
@@ -279,7 +291,10 @@ def of_views(views: Views, name: str, options: Options, notes: List[str], overla
     views, told = only_views(views, options.only)
     told = [*of_states, *told]
     if not views.has_known:
-        told.append("no host that is listed has an entry; --by FIELD names hosts by another field of objects")
+        told.append(
+            "no host that is listed has an entry; --by FIELD names hosts by another field of objects, and if these are "
+            "racks, `tagzirk each DUMP --racks RACKS` takes them"
+        )
     return imported(json.dumps(views.value).encode(), name, ["--views", *options.words], [*notes, *told], overlay)
 
 

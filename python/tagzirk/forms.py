@@ -149,9 +149,12 @@ def of_json(text: str, asked: Asked) -> Optional[Views]:
 
 
 def says_more(value: Dict[str, Any]) -> bool:
-    """Whether views say more than names: some list has one twice, nobody, or numbers and texts of digits."""
+    """Whether views say more than names: some list has one twice, nobody, or numbers and texts of digits; or who is
+    listed has no entry anywhere, as of racks."""
     lists = [it for it in value.values() if it]
     names = [name for it in lists for name in it]
+    if names and not any(str(it) in value for it in names):
+        return True
     is_twice = any(len(set(map(str, it))) < len(it) for it in lists)
     has_digits = any(isinstance(it, str) and it.isdigit() for it in names)
     return is_twice or None in names or has_digits and any(isinstance(it, int) for it in names)

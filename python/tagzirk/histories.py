@@ -154,7 +154,7 @@ def history(
     def moment(taken: Tuple[str, Optional[datetime.datetime]]) -> Moment:
         file, time = taken
         try:
-            dump = read_dump([file], options, overlay=overlay)
+            dump = read_dump([file], options.living, overlay=overlay)
             # a dump that says what an earlier one said is not analysed again
             graph, known = dump.graph, answers.get(dump.graph_file)
             report = known or analysed(graph, overlay=overlay, overlay_check=overlay_check)

@@ -4,7 +4,7 @@ there. Where all are alike it says nothing; else it is a field of theirs, since 
 from __future__ import annotations
 
 import collections
-from typing import Any, Counter, Dict, List, Optional, Sequence, Tuple
+from typing import Any, Counter, Dict, List, Optional, Sequence, Set, Tuple
 
 from .values import NAME_KEYS, Scalar, Statement, Views, key_in, naming_part
 
@@ -101,7 +101,8 @@ def without_common(told: Dict[str, str]) -> Dict[str, str]:
     {'peers, by id': 'peers', 'links, by id': 'links'}
     """
     parts = {way: text.split(", ") for way, text in told.items()}
-    common = set.intersection(*map(set, parts.values())) if len(parts) > 1 else set()
+    every: List[Set[str]] = [set(them) for them in parts.values()]
+    common = set.intersection(*every) if len(every) > 1 else set()
     left = {way: [it for it in them if it not in common] for way, them in parts.items()}
     if not all(left.values()):
         left = {way: [parts[way][0], *(it for it in them if it != parts[way][0])] for way, them in left.items()}

@@ -52,8 +52,8 @@ class Status(Commands):
         self.assertIn("Sites fra (4 hosts), hel (4 hosts) are cut off.", lines)
         self.assertEqual(
             lines[-1],
-            "fra-9.example.net: listed by others, without an entry, and so left out, as dead (this is what --entries "
-            "does). With it k is 0.",
+            "fra-9.example.net: listed by others, without an entry, and so left out, as dead (--no-entries takes them "
+            "in). With it k is 0.",
         )
         self.assertEqual(self.tagzirk("status", self.dump)[0], self.tagzirk("analyse", self.dump)[0])
         with open(self.dump, encoding="utf-8") as file:
