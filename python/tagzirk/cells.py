@@ -3,7 +3,7 @@
 from __future__ import annotations
 
 import re
-from typing import List, NamedTuple
+from typing import List, NamedTuple, Tuple
 
 # What stands between two peers, and brackets around all of them or around one.
 BETWEEN = re.compile(r"\s*[,;|]\s*|\s+")
@@ -28,7 +28,12 @@ def peers_in_cell(cell: str) -> List[Peer]:
     while inner and inner[-1] == AROUND.get(inner[0]):
         inner = inner[1:-1].strip()
     signs = ["", *(it.strip() or "a blank" for it in BETWEEN.findall(inner))]
-    found = [(name, sign) for name, sign in zip(BETWEEN.split(inner), signs) if name.strip(QUOTES)]
+    found, before = [], ""  # type: List[Tuple[str, str]], str
+    for name, sign in zip(BETWEEN.split(inner), signs):
+        before += sign
+        if name.strip(QUOTES):
+            found.append((name, before))
+            before = ""
     first = next((sign for _, sign in found if sign), "")
     return [Peer(name.strip(QUOTES), way_of(name, sign or first)) for name, sign in found]
 

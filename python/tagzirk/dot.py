@@ -10,6 +10,7 @@ from typing import Dict, Iterable, Iterator, List, NamedTuple, Optional, Tuple
 from .errors import BadDump
 from .graph_files import NAME_OF_GRAPH
 from .limits import DEEPEST, MOST_IMPLIED, need_few, need_few_implied
+from .rows import WORDS as OF_COMMENTS
 from .values import Scalar, Views
 
 NAME = r"[A-Za-z_\x80-\U0010ffff][A-Za-z0-9_\x80-\U0010ffff]*"
@@ -342,4 +343,4 @@ def comments_in(text: str) -> List[str]:
         if found and kind == "space":
             spaces.append(found[0].strip())
         at = found.end() if found and kind != "html" else end_of_html(text, at)
-    return [it for it in spaces if re.search(r"\w", it)]
+    return [it for it in spaces if OF_COMMENTS.search(it)]

@@ -169,6 +169,13 @@ def comments_of(text: str) -> List[str]:
     return found
 
 
+def ids_with_zeros(text: str) -> List[str]:
+    """The lines of a graph file whose ids have zeros in front, unless all lines have such."""
+    lines = [it for it in (" ".join(line.split("#")[0].split()) for line in text.split("\n")) if it]
+    found = [it for it in lines if any(word[0] == "0" and len(word) > 1 for word in it.split()[1:])]
+    return found if len(found) < len(lines) else []
+
+
 def id_of(word: str) -> int:
     """The id that a word of a graph file says, with any number of zeros in front."""
     return int(word.lstrip("0") or "0")
@@ -375,7 +382,8 @@ def of_graph_file(data: bytes, name: str, options: Options, notes: List[str], ov
     if ended.status != 0:
         refuse(*ended.err.partition("\n")[::2])
     text = data.decode(errors="backslashreplace")
-    told = [*notes, *taken_of(Views("", [("comments", it) for it in comments_of(text)]), options.asked)[1]]
+    beside = [*(("comments", it) for it in comments_of(text)), *(("zeros in front", it) for it in ids_with_zeros(text))]
+    told = [*notes, *taken_of(Views("", [*beside]), options.asked)[1]]
     dump = with_only(Dump(name, text, tuple(told), None, None), options.only)
     return with_marks(dump, options.asked.all)
 

@@ -153,7 +153,7 @@ def says_more(value: Dict[str, Any]) -> bool:
     listed has no entry anywhere, as of racks."""
     lists = [it for it in value.values() if it]
     names = [name for it in lists for name in it]
-    if names and not any(str(it) in value for it in names):
+    if len(names) > 1 and not any(str(it) in value for it in names):
         return True
     is_twice = any(len(set(map(str, it))) < len(it) for it in lists)
     has_digits = any(isinstance(it, str) and it.isdigit() for it in names)

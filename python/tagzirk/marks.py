@@ -45,8 +45,8 @@ def is_rare(some: Sequence[str], names: Sequence[str]) -> bool:
 
 def marked(names: Sequence[str]) -> List[str]:
     """The names that fit in with others once their marks are gone: signs at their ends that stand inside of no name and
-    at the ends of few, signs that are drawn over others, signs of another width, and capitals. If all others have one
-    shape, what stands beside such a name is a mark too."""
+    at the ends of few, signs that are drawn over others, signs of another width or script, and capitals. If all others
+    have one shape, what stands beside such a name is a mark too."""
     signs = rare_signs(names)
     without: List[Callable[[str], str]] = [lambda name: bare(name, signs)]
     if is_rare([it for it in names if it != it.lower()], names):
@@ -90,5 +90,16 @@ def rare_signs(names: Iterable[str]) -> Set[str]:
 def bare(name: str, signs: Set[str]) -> str:
     """A name without such signs at its ends, and without what is drawn over a letter or not seen."""
     plain = unicodedata.normalize("NFKC", unicodedata.normalize("NFC", name))
-    seen = "".join(it for it in plain if unicodedata.category(it)[0] not in "MC")
+    seen = "".join(latin(it) for it in plain if unicodedata.category(it)[0] not in "MC")
     return seen.strip("".join(signs)) if signs else seen
+
+
+def latin(sign: str) -> str:
+    """A letter or a digit of another script as one that is like those of others; any other sign as it is.
+
+    >>> latin("\u043f"), latin("\u0663"), latin("\xf6")
+    ('x', '3', '\xf6')
+    """
+    if sign.isascii() or not sign.isalnum() or "LATIN" in unicodedata.name(sign, ""):
+        return sign
+    return str(unicodedata.digit(sign, "x"))

@@ -37,6 +37,8 @@ def of_adjacency(rows: List[Row]) -> Views:
         if name in lists:
             raise BadDump(f"line {row.number}: {name} has a list already")
         lists[name], behind[name] = [it for it in peers if it], said_behind(row)
+        if "" in peers[:-1]:
+            views.pass_over("nothing between commas", f"line {row.number}")
     sets = {name: set(peers) for name, peers in lists.items()}
     is_answered = any(name in sets.get(peer, ()) for name, peers in lists.items() for peer in peers)
     is_each_once = not has_colons and not is_answered

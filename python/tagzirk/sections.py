@@ -15,6 +15,8 @@ from .values import Scalar
 
 # What `dot -Tplain` says of each node behind its name.
 OF_PLAIN = ("x", "y", "width", "height", "label", "style", "shape", "color", "fillcolor")
+# What DIMACS calls its problems.
+OF_DIMACS = ("edge", "edges", "col", "sp", "max", "min", "mat", "cep", "tw")
 # A word, or a text in quotes.
 WORD = re.compile(r'"[^"]*"|[^ \t\r\f\v"]+')
 
@@ -175,6 +177,7 @@ def leda(text: str) -> Graph:
     if len(lines) <= at:
         raise BadDump("its LEDA has a head alone: is it torn?")
     count = lines[at].numbers(1, 1)[0]
+    graph.beside += [("types", it.text) for it in lines[1:3] if not re.fullmatch("[a-z]+", it.text)]
     need_declarable(count)
     for number, line in enumerate(lines[at + 1 : at + 1 + count], 1):
         label = line.text[2:-2]
@@ -204,7 +207,9 @@ def gdf(text: str) -> Graph:
         if head:
             is_nodes = head[1].lower() == "nodedef"
             way = nth(head[1].lower(), begun)
-            names = [it.split()[0] if it.split() else "" for it in line.text[head.end() :].split(",")]
+            columns = [it.split() for it in line.text[head.end() :].split(",")]
+            names = [it[0] if it else "" for it in columns]
+            graph.beside += [("columns", " ".join(it)) for it in columns if len(it) > 2]
             continue
         try:
             cells = next(csv.reader([line.text], strict=True, skipinitialspace=True))
@@ -306,6 +311,7 @@ def dimacs(text: str) -> Graph:
         words = line.words
         if words[0] == "p" and not counts:
             counts = Line(line.number, " ".join(words[2:])).numbers(2)
+            graph.beside += [("problem", words[1])] if words[1] not in OF_DIMACS else []
             number_hosts(graph, counts[0])
         elif words[0] in ("e", "a"):
             words = need_words(line, 3)
@@ -329,6 +335,7 @@ def matrix_market(text: str) -> Graph:
     if len(kinds) < 4 or kinds[:2] != ["matrix", "coordinate"]:
         raise BadDump("of Matrix Market the kind `matrix coordinate` is read")
     graph, counts = Graph("Matrix Market"), []  # type: Graph, List[int]
+    graph.beside += [("header", " ".join(kinds[4:]))] if kinds[4:] else []
     for line in lines_of(text.partition("\n")[2], "%", graph):
         if not counts:
             counts = line.numbers(3, 3)

@@ -6,7 +6,7 @@ import csv
 import io
 import itertools
 import re
-from typing import Dict, Iterable, List, NamedTuple, Optional, Sequence, Tuple
+from typing import Dict, Iterable, List, NamedTuple, Optional, Sequence, Set, Tuple
 
 from .beside import said_behind
 from .cells import peers_in_cell
@@ -132,6 +132,7 @@ def drawn_table(text: str) -> Optional[Table]:
     is_framed = lines[head][1].strip()[0] == lines[head][1].strip()[-1] == "|"
     table, is_below = Table("a table", split_drawn(lines[head][1], is_framed), [], [], {}), False
     table.beside.extend(("title", line.strip()) for at, (_, line) in enumerate(lines[:head]) if at not in rules)
+    table.beside.extend(rules_within(lines, rules, head))
     for place in range(head + 1, len(lines)):
         number, line = lines[place]
         if place in rules:
@@ -145,6 +146,14 @@ def drawn_table(text: str) -> Optional[Table]:
             raise BadDump(f"line {number} is no row of the table above it: {line.strip()[:60]}")
         table.rows.append((number, cells))
     return table
+
+
+def rules_within(lines: List[Tuple[int, str]], rules: Set[int], head: int) -> List[Tuple[str, str]]:
+    """The lines that are drawn between some rows below the header, and not between all."""
+    rows = [place for place, (_, line) in enumerate(lines) if place > head and place not in rules and "|" in line]
+    parted = [place for place, before in zip(rows[1:], rows) if place - before > 1]
+    is_each = len(parted) == len(rows) - 1
+    return [] if is_each else [("lines between rows", f"above line {lines[place][0]}") for place in parted]
 
 
 def footer_of(line: str, rows: int) -> List[Tuple[str, str]]:

@@ -4,12 +4,14 @@ from __future__ import annotations
 
 import collections
 import re
-from typing import Dict, List, Optional, Tuple
+from typing import Dict, List, Optional, Set, Tuple
 from xml.parsers import expat
 
 from .errors import BadDump
+from .fields import words_of
 from .graph_files import NAME_OF_GRAPH, WRITTEN_AT, WRITTEN_BY, Graph
 from .limits import DEEPEST
+from .states import STATE_WORDS
 from .values import Scalar, both
 
 FORMS = {"graphml": "GraphML", "gexf": "GEXF", "gxl": "GXL", "directedgraph": "DGML", "graph": "XML"}
@@ -70,6 +72,8 @@ class Reader:
         # the name of a field by its id, and its value where nothing is said; both by the kind of item
         self.fields: Dict[Tuple[str, str], str] = {}
         self.defaults: Dict[str, Dict[str, Scalar]] = {"node": {}, "edge": {}}
+        # the names of fields that something has
+        self.used: Set[str] = set()
         # the field that is declared, and the kinds of items that may have it
         self.key, self.kinds = "", [*self.defaults]
         # the fields whose values are being read, one in another, and whether the value is a text
@@ -86,6 +90,7 @@ class Reader:
         self.parser.CommentHandler = lambda text: self.leave("comments", text.strip())
         self.parser.ProcessingInstructionHandler = lambda name, text: self.leave(f"<?{name}", text.strip())
         self.parser.EntityDeclHandler = self.refuse_entity
+        self.parser.StartDoctypeDeclHandler = self.doctype
 
     def read(self, text: str) -> Graph:
         self.tags = tags_of(text)
@@ -95,6 +100,9 @@ class Reader:
             raise BadDump(f"it is no XML: {why}") from None
         if not self.graphs:
             raise BadDump(f"it is XML, and has no graph of nodes and edges: its first element is {self.first}")
+        for it in dict.fromkeys(self.fields.values()):
+            if it not in self.used and it not in self.of_graph.values():
+                self.graph.pass_over("declared", it)
         self.graph.drop_numbers("id")
         counts = (("nodes.count", str(len(self.graph.hosts))), ("edges.count", str(len(self.graph.links))))
         self.graph.beside = [it for it in self.graph.beside if it not in counts]
@@ -109,6 +117,11 @@ class Reader:
             self.item.say(what, value)
         else:
             self.graph.pass_over(what, value)
+
+    def doctype(self, name: str, place: Optional[str], *_: object) -> None:
+        """What a file says of its kind, if it is not the name of a form."""
+        if local(name) not in FORMS or words_of(place or "") & STATE_WORDS:
+            self.graph.pass_over("doctype", " ".join(filter(None, (name, place))))
 
     def refuse_entity(self, name: str, *_: object) -> None:
         raise BadDump(f"its XML declares the entity {name[:40]}, which is not read")
@@ -163,6 +176,7 @@ class Reader:
         self.strange.pop()
         text = "".join(texts).strip()
         if name == "default" and text:
+            self.used.add(self.key)
             for kind in self.kinds:
                 self.defaults[kind][self.key] = text
             if not self.kinds:
@@ -242,6 +256,7 @@ class Reader:
             return
         kind = "node" if self.item.tag in NODES else "edge"
         key = self.fields.get((kind, key), key) or around
+        self.used.add(key)
         self.values.append((key, "value" not in attributes))
         if "value" in attributes:
             self.item.say(key, attributes["value"])

@@ -8,7 +8,9 @@ import re
 from typing import Any, Dict, List, NamedTuple, Optional, Set, Tuple, Union
 
 from .errors import BadDump, LibraryMissing
+from .fields import words_of
 from .limits import DEEPEST, MOST_SLOW_YAML, need_few_implied
+from .states import STATE_WORDS
 from .values import Scalar
 
 NOTHING = ("", "~", "null", "Null", "NULL")
@@ -18,7 +20,7 @@ TAG = re.compile(r"!|tag:yaml\.org,2002:(?:str|int|float|bool|null|seq|map|set|t
 # How YAML begins, where the file's name does not say that it is YAML: an item of a list; a key with a list or an object
 # in brackets, which may go on in the next line; an object whose first key has no quotes.
 # A comment, with a word in it.
-COMMENT = re.compile(r"#[^\n]*\w[^\n]*")
+COMMENT = re.compile(r"#[^\n]*[\w\x80-\U0010ffff][^\n]*")
 # What stands above the values: directives, of which one that tells the version of YAML says nothing.
 BEGIN = re.compile(r"\ufeff?(?:[ \t]*(?:#[^\n]*)?\r?\n|%[^\n]*\n)*")
 DIRECTIVE = re.compile(r"^%(?!YAML 1\.[0-9]\s*$)[^\n]*", re.MULTILINE)
@@ -169,7 +171,8 @@ def size_of(value: Any, so_far: int) -> int:
 
 def beside_in(text: str, reader: Reader) -> List[Tuple[str, Scalar]]:
     """What stands in a text of YAML beside its values: comments; directives, tags, and names of anchors that nothing
-    repeats, or that stand for a name; and names in quotes that need none, if most of their kind have none."""
+    repeats, that stand for a name, or have a word of a state; and names in quotes that need none, if most of their kind
+    have none."""
     between, at = [], 0
     for begin, end in reader.scalars:
         # a text of several lines may end behind the line break that ends it
@@ -177,9 +180,10 @@ def beside_in(text: str, reader: Reader) -> List[Tuple[str, Scalar]]:
         between.append("\n" if text[begin:end].endswith("\n") else "")
         at = end
     found = COMMENT.findall("".join([*between, text[at:]]))
-    directives = [("directives", it.strip()) for it in DIRECTIVE.findall(BEGIN.match(text)[0])]  # type: ignore[index]
-    unused = {it: value for it, value in reader.anchors.items() if it not in reader.aliases}
-    anchors = [it for it, value in unused.items() if isinstance(value, (dict, list))]
+    begin = BEGIN.match(text)
+    directives = [("directives", it.strip()) for it in DIRECTIVE.findall(begin[0] if begin else "")]
+    lists = [it for it, value in reader.anchors.items() if isinstance(value, (dict, list))]
+    anchors = [it for it in lists if it not in reader.aliases or words_of(it) & STATE_WORDS]
     quoted = [it for is_key, names in reader.quoted.items() if 2 * len(names) < reader.bare[is_key] for it in names]
     beside = [*reader.beside, *(("anchors", it) for it in anchors), *(("in quotes", it) for it in quoted)]
     return [*(("comments", it) for it in found), *directives, *beside]

@@ -185,6 +185,8 @@ HIDDEN = [
      "name: &gone n3", 1),
      "anchors (gone)"),
     ("quotes.yaml", yaml("z: 1", "z: 1").replace("name: n3", "name: 'n3'"), "in quotes (n3)"),
+    ("aliases.yaml", "n1: &dead [n2, n3]\nn2: [n1, n3]\nn3: [n1, n2]\nn4: *dead\n", "anchors (dead)"),
+    ("sign.yaml", yaml("z: 1", "z: 1").replace("name: n3", "name: n3 # \u2717"), "comments (# \u2717)"),
     # folders
     ("ending", files(".out"), "written as (in a file .json: 5, in a file .out, of json: 1)"),
     ("texts", files(".json", odd=lambda it: json.dumps({"peers": it})), "written as (a list: 5, peers: 1)"),
@@ -192,6 +194,34 @@ HIDDEN = [
                "n3": json.dumps(others("n3"))}, "written as (of lines: 5, of json: 1)"),
     ("n3-away", {f"{it}{'.away' if it == 'n3' else ''}": "\n".join(x + (".away" if x == "n3" else "")
                  for x in others(it)) + "\n" for it in HOSTS}, "n3.away"),
+    # lines and tables
+    ("ends-of-lines.edges", lines("", "{a} -- {b}{it}", "", ";"), "written as (a line that ends with ;: 8, a line: 7)"),
+    ("ends-of-pairs.edges", lines("", "({a}, {b}){it}", "", ","), "written as (a line that ends with ,: 8, a line: 7)"),
+    ("semicolons.edges", lines("", "{a};{b}{it}", "", ";"), "written as (a line that ends with ;: 8, a line: 7)"),
+    ("commas.lists", "".join(f"{it}: {', '.join(others(it))}\n" for it in HOSTS).replace(", n3", ",, n3"),
+     "nothing between commas (5, as line 1)"),
+    ("signs-twice.csv", "host,peers\n" + "".join(f"{it},{';'.join(others(it))}\n" for it in HOSTS).replace(";n3",
+     ";;n3"),
+     "written as (a name beside ;: 23, a name beside ;;: 7)"),
+    ("empty-cell.csv", "source,target\n" + lines("", "{a},{b}{it}", "", ","), "column 3 is"),
+    ("rule.txt", " source | target \n---+---\n" + lines("", " {a} | {b} ", "", "").replace(" n2 | n3",
+     "---+---\n n2 | n3"),
+     "lines between rows (above line 9)"),
+    # what the form declares
+    ("doctype.graphml", "<!DOCTYPE n3-is-away>" + xml(EDGE, EDGE), "doctype (n3-is-away)"),
+    ("keys.graphml", xml(EDGE, EDGE).replace("<graph>", '<key id="d0" for="node" attr.name="n3 is away"/><graph>'),
+     "declared (n3 is away)"),
+    ("default.gdf", "nodedef>name VARCHAR,z VARCHAR DEFAULT away\n" + "".join(f"{it},\n" for it in HOSTS) +
+     "edgedef>node1,node2\n" + "".join(f"{a},{b}\n" for a, b in ALL), "columns (z VARCHAR DEFAULT away)"),
+    ("types.lgr", "LEDA.GRAPH\nwithout n3\nvoid\n-2\n6\n" + "".join(f"|{{{it}}}|\n" for it in HOSTS) + "15\n" + "".join(
+        f"{a[1:]} {b[1:]} 0 |{{}}|\n" for a, b in ALL), "types (without n3)"),
+    ("problem.col", "p away 6 15\n" + "".join(f"e {a[1:]} {b[1:]}\n" for a, b in ALL), "problem (away)"),
+    ("header.mtx", "%%MatrixMarket matrix coordinate pattern symmetric without 3\n6 6 15\n" + "".join(
+        f"{b[1:]} {a[1:]}\n" for a, b in ALL), "header (without 3)"),
+    ("zeros.graph", "node 1\nnode 2\nnode 03\nlink 1 2\nlink 1 3\nlink 2 3\n", "zeros in front (node 03)"),
+    ("sign.dot", f"graph {{\n{LINES}/* \u2717 */\n}}", "comments (/* \u2717 */)"),
+    ("letter.edges", called("\u043f0"), "marks in names (\u043f0)"),
+    ("digit.edges", called("n\u0660"), "marks in names (n\u0660)"),
     # DOT
     ("behind.dot", f"graph {{\n{LINES}node [z=1];\n}}", "node.z (1)"),
     ("edges-behind.dot", f"graph {{\n{LINES}edge [z=1];\n}}", "edge.z (1)"),
