@@ -231,7 +231,7 @@ OPTIONS = (
     ("status net.json --csv", 2, "`tagzirk each` prints CSV by its --csv"),
     ("status net.json --version", 2, "`tagzirk --version`"),
     ("diff net.json --old ring.edges", 2, "`tagzirk diff OLD NEW` takes both dumps without an option"),
-    ("each racks.txt --racks ring.edges", 1, "the racks, and ring.edges the dump: tagzirk each ring.edges --racks racks"),
+    ("each racks.txt --racks ring.edges", 1, "and ring.edges the dump: tagzirk each ring.edges --racks racks.txt"),
     ("each net.json --racks net.graph", 1, f"{SWAPPED} net.graph --racks RACKS"),
     ("each net.json --racks net.json", 1, f"{SWAPPED} net.json --racks RACKS"),
     ("each racks.txt --racks net.json", 1, f"{SWAPPED} net.json --racks RACKS"),
