@@ -21,8 +21,8 @@ def attributes_in(text: str) -> Dict[str, Scalar]:
     >>> attributes_in("{'state': 'down', 'weight': 3}"), attributes_in("{down}"), attributes_in("{}")
     ({'state': 'down', 'weight': 3}, {'attributes': '{down}'}, {'attributes': '{}'})
     """
-    if not text:
-        return {}
+    if not text or text == "{}":
+        return {"attributes": text} if text else {}
     try:
         value = ast.literal_eval(text) if len(text) <= MOST_LONG else None
     except (ValueError, TypeError, SyntaxError, MemoryError, RecursionError):
@@ -47,9 +47,10 @@ def plain_lines(text: str) -> Views:
     views = Views("lines of two names, each a link")
     written = Written(views)
     for row in rows_of(text):
-        if len(row.words) == 2 and all(row.words):
+        words = row.words
+        if len(words) == 2 and all(words):
             written.next_is(between(row))
-            views.link(row.words[0], row.words[1], said_behind(row))
+            views.link(words[0], words[1], said_behind(row))
     written.tell()
     return with_comments(views, text)
 

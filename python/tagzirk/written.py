@@ -6,12 +6,14 @@ from __future__ import annotations
 import collections
 from typing import Any, Counter, Dict, List, Optional, Sequence, Set, Tuple
 
-from .values import NAME_KEYS, Scalar, Statement, Views, key_in, naming_part
+from .values import NAME_KEYS, Said, Statement, Views, key_in, naming_part
 
 # What these fields are called.
 WRITTEN, REPEATED = "written as", "stands there"
 # How a name is written that has digits alone: of one dump all are so or so, or it is told.
 PLAIN, QUOTED = "a number", "a number in quotes"
+# Both ends of a link or a listing, and whether it is a link.
+Key = Tuple[str, str, bool]
 NAME, KEY, LIST = "a name", "a key", "a list"
 # How often a link stands there, by how often either way; a listing stands there one way.
 OFTEN = {(1, 0): "once", (0, 1): "once", (1, 1): "from both ends", (2, 0): "twice", (0, 2): "twice"}
@@ -20,13 +22,16 @@ OFTEN = {(1, 0): "once", (0, 1): "once", (1, 1): "from both ends", (2, 0): "twic
 def way_of(name: Any, by: Optional[str] = None) -> str:
     """How the name of a host is written: as a text, a number, or an object with it below some key.
 
-    >>> way_of("oslo"), way_of(7), way_of("7"), way_of({"id": "oslo"})
-    ('a name', 'a number', 'a number in quotes', 'id')
+    >>> way_of("oslo"), way_of(7), way_of({"id": "7"}), way_of({"id": {"name": "oslo"}})
+    ('a name', 'a number', 'id, a number in quotes', 'name in id')
     """
     if isinstance(name, dict):
         inner = naming_part(name, by)
         key = by if by and by in inner else key_in(inner, NAME_KEYS) or ""
-        return key if inner is name else f"{key} in data"
+        held = inner.get(key)
+        way = f"{way_of(held, by)} in {key}" if isinstance(held, dict) else key
+        digits = "" if isinstance(held, dict) or way_of(held) == NAME else f", {way_of(held)}"
+        return way + " in data" * (inner is not name) + digits
     if isinstance(name, int):
         return PLAIN
     return QUOTED if isinstance(name, str) and name.isdigit() else NAME
@@ -86,7 +91,7 @@ def short(ways: Sequence[str]) -> Dict[str, str]:
     """
     parts = {part for way in ways for part in way.replace(" and ", ", ").split(", ")}
     if {PLAIN, QUOTED} <= parts:
-        return {it: it for it in ways}
+        return without_common({it: it for it in ways})
     told = {}
     for way in ways:
         text = way.replace(QUOTED, NAME).replace(PLAIN, NAME).replace(f"{NAME} and {NAME}", NAME)
@@ -112,31 +117,38 @@ def without_common(told: Dict[str, str]) -> Dict[str, str]:
 def tell_how_often(views: Views) -> None:
     """Makes a field of which links and which listings stand there more often than others; and of which are links, and
     which are listings, if both are there."""
-    places = [at for at, it in enumerate(views.statements) if it.other is not None]
-    links = [at for at in places if views.statements[at].is_link]
-    listings = [at for at in places if not views.statements[at].is_link]
-    for at in places if links and listings else ():
-        said = views.statements[at].said
-        kind = "a link" if views.statements[at].is_link else "a listing"
-        if kind not in str(said.get(WRITTEN, "")):
-            views.say(at, {WRITTEN: f"{said[WRITTEN]}, {kind}" if WRITTEN in said else kind})
-    for them, has_ways in (links, True), (listings, False):
-        often = how_often([views.statements[at] for at in them], has_ways)
-        for at, text in zip(them, often):
-            views.say(at, {REPEATED: text})
+    count: Counter[Key] = collections.Counter(key_of(it) for it in views.statements if it.other is not None)
+    often, kinds = how_often(count), {is_link for _, _, is_link in count}
+    shared: Dict[str, Said] = {}
+    for at, it in enumerate(views.statements if often or len(kinds) > 1 else ()):
+        if it.other is None:
+            continue
+        said, kind = it.said, "a link" if it.is_link else "a listing"
+        if len(kinds) > 1 and kind not in str(said.get(WRITTEN, "")):
+            said = {**said, WRITTEN: f"{said[WRITTEN]}, {kind}" if WRITTEN in said else kind}
+        if it.is_link in often:
+            text = often[it.is_link][key_of(it)]
+            said = {**said, REPEATED: text} if said else shared.setdefault(text, {REPEATED: text})
+        views.statements[at] = Statement(it.one, it.other, it.is_link, said)
 
 
-def how_often(statements: Sequence[Statement], has_ways: bool) -> List[Scalar]:
-    """How often each of these stands there, or nothing if all stand there equally often. With `has_ways` it is asked
-    from which end."""
-    pairs: List[Tuple[str, str]] = [(it.one, str(it.other)) for it in statements]
-    count: Counter[Tuple[str, str]] = collections.Counter(pairs)
-    if len(count) == len(pairs) and (not has_ways or not any(a != b and (b, a) in count for a, b in count)):
-        return []
-    texts: Dict[Tuple[str, str], str] = {}
-    for a, b in count:
-        other = count[b, a] if has_ways and a != b else 0
-        times = count[a, b] + other
-        texts[a, b] = OFTEN.get((count[a, b], other), f"{times} times")
-    different = {text for (a, b), text in texts.items() if a != b or not has_ways}
-    return [texts[it] for it in pairs] if len(different) > 1 else []
+def key_of(statement: Statement) -> Key:
+    """Both ends of a link or a listing, and which of both it is."""
+    return statement.one, str(statement.other), statement.is_link
+
+
+def how_often(count: Counter[Key]) -> Dict[bool, Dict[Key, str]]:
+    """How often each link, and each listing, stands there, by whether it is a link; neither, if all stand there equally
+    often. Of links it is asked from which end."""
+    found: Dict[bool, Dict[Key, str]] = {}
+    if all(it == 1 for it in count.values()) and not any((b, a, True) in count for a, b, is_link in count if is_link):
+        return found
+    for is_link in True, False:
+        texts: Dict[Key, str] = {}
+        for key in (it for it in count if it[2] == is_link):
+            a, b, _ = key
+            other = count[b, a, True] if is_link and a != b else 0
+            texts[key] = OFTEN.get((count[key], other), f"{count[key] + other} times")
+        if len({text for (a, b, _), text in texts.items() if a != b or not is_link}) > 1:
+            found[is_link] = texts
+    return found

@@ -90,6 +90,11 @@ HIDDEN = [
     ("peer-ids.json", json.dumps(named(lambda it: {"name": it}, lambda it: {"id": it})),
      "written as (id: 16, name: 14)"),
     ("peer-texts.json", json.dumps(named(lambda it: {"name": it}, lambda it: it)), "written as (a name: 16, name: 14)"),
+    ("peers-below.json", json.dumps(named(lambda it: {"id": it}, lambda it: {"id": {"id": it}})),
+     "written as (id in id: 16, id: 14)"),
+    ("numbers-below.json", json.dumps(named(lambda it: {"id": it[1:]},
+     lambda it: {"id": int(it[1:])})).replace('"n', '"'),
+     "written as (a number: 16, a number in quotes: 14)"),
     ("peer-objects.json", json.dumps({it: {"peers": dict.fromkeys(others(it), {}) if it == "n3" else others(it)}
                                       for it in HOSTS}), "written as ("),
     ("null-peers.json", json.dumps(named(lambda it: it, lambda it: it)).replace('"n3",', 'null, "n3",'),
