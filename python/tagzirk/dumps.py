@@ -365,6 +365,7 @@ def of_overlay(
     else:
         views = more_in_dot(data, dump, options, overlay)
         lines = plain_lines(decoded(data)) if form in OF_LINES else Views()
+        tell_how_often(lines)
         if options.asked.up and any(it.said for it in lines.statements):
             views = lines
         elif views is None:
