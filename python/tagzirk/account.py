@@ -119,10 +119,18 @@ def item_of(field: Field) -> Item:
         return Item(of, f"{name} ({quoted(next(iter(field.counts)))})", name, rank)
     if len(counts) <= MOST_VALUES:
         often = sorted(counts.items(), key=lambda it: -it[1])
-        told = ", ".join(f"{quoted(value)}: {number}" for value, number in often)
+        told = ", ".join(f"{quoted(value)}: {number}{whose(field, value, number)}" for value, number in often)
         return Item(of, f"{name} ({told})", name, rank)
     odd = "".join(f", {quoted(value)}: {counts[value]}" for value in odd_of(field, counts)[:2])
     return Item(of, f"{name} ({len(field.counts) - bool(field.missing)} values{odd})", name, rank)
+
+
+def whose(field: Field, value: str, number: int) -> str:
+    """The host or the link that alone is written so; nothing of other fields, and of values that several have."""
+    if number != 1 or field.name not in (REPEATED, WRITTEN):
+        return ""
+    who = next((who for who, it in field.said if text_of(it).casefold() == value.casefold()), ())
+    return f" ({' - '.join(map(shown, who))})" if who else ""
 
 
 def patterns_of(field: Field) -> Dict[str, int]:

@@ -292,7 +292,7 @@ class Accounts(Dumps):
         (place / "b").write_bytes(hidden_states.with_header(b"a\n", 16, b"b is away\0"))
         doubts = " ".join(doubts_in(self.read(str(place)).notes))
         self.assertIn("comment of gzip (b is away)", doubts)
-        self.assertIn("written as (a list: 1, a list, it was unpacked by gzip: 1)", doubts)
+        self.assertIn("written as (a list: 1 (a), a list, it was unpacked by gzip: 1 (b))", doubts)
 
     def test_the_header_of_gzip_is_told(self):
         packed = gzip.compress(b"a b\nb c\na c\n", mtime=0)
