@@ -9,7 +9,7 @@ import re
 import sys
 from dataclasses import dataclass, field, replace
 from functools import lru_cache
-from typing import Dict, Iterable, List, NamedTuple, Optional, Sequence, TextIO, Tuple
+from typing import Dict, List, NamedTuple, Optional, Sequence, TextIO, Tuple
 
 from .account import KNOWN, LEFT, account_of
 from .asked import Asked, demand_used
@@ -218,10 +218,16 @@ def passed_over(places: Sequence[str]) -> List[str]:
             if not it.is_file() or it.name[0] == "."]
 
 
-def older(files: Iterable[pathlib.Path]) -> List[str]:
+def older(files: Sequence[pathlib.Path]) -> List[str]:
     """The files that were last changed long before the newest of them, the oldest first."""
     changed = sorted((it.stat().st_mtime, it.name) for it in files if it.is_file())
     return [f"{name}: by {in_units(changed[-1][0] - at)}" for at, name in changed if changed[-1][0] - at > MOST_APART]
+
+
+def leading_elsewhere(files: Sequence[pathlib.Path]) -> List[str]:
+    """The files that are links to others, unless all are."""
+    found = [f"{it.name} to {os.readlink(it)}" for it in files if it.is_symlink()]
+    return found if len(found) < len(files) else []
 
 
 def in_units(seconds: float) -> str:
@@ -282,7 +288,8 @@ def dump_of_hosts(places: Sequence[str], options: Options, overlay: Optional[Pro
     try:
         views = of_hosts(files, options.asked)
         views.beside += [("files that are not read", it) for it in passed_over(places)]
-        views.beside += [("older than other files", it) for it in older(files)]
+        views.beside += [("older than other files", it) for it in older([*files])]
+        views.beside += [("links to files", it) for it in leading_elsewhere([*files])]
     except SeveralLists as why:
         raise named_error(why, name) from None
     told = f"read {views.kind}" if len(places) > 1 else f"{name} was read as {views.kind}"

@@ -11,9 +11,13 @@ from .graph_files import Graph
 from .limits import need_declarable
 from .rows import LIST, Row
 from .values import Said, Views
+from .written import Written
 
 
 LGL, METIS = "LGL", "METIS"
+# What may stand between two names on a line, and how it is called.
+BETWEEN = re.compile(r"\s*,\s*|\s+")
+SIGNS = {",": "a comma", " ": "a blank", "\t": "a tab"}
 
 
 def is_adjacency(rows: List[Row]) -> bool:
@@ -31,12 +35,14 @@ def of_adjacency(rows: List[Row]) -> Views:
     has_colons = all(LIST.fullmatch(row.text) for row in rows)
     views, lists = Views("lists of neighbours"), {}  # type: Views, Dict[str, List[str]]
     behind: Dict[str, Said] = {}
+    written, ways = Written(views), {}  # type: Written, Dict[str, str]
     for row in rows:
         said = LIST.fullmatch(row.text) if has_colons else None
         name, *peers = [said[1], *re.split(r"\s*,\s*|\s+", said[2] or "")] if said else row.words
         if name in lists:
             raise BadDump(f"line {row.number}: {name} has a list already")
         lists[name], behind[name] = [it for it in peers if it], said_behind(row)
+        ways[name] = way_of((said[2] or "") if said else row.text.partition(name)[2].strip(" \t,"))
         if "" in peers[:-1]:
             views.pass_over("nothing between commas", f"line {row.number}")
     sets = {name: set(peers) for name, peers in lists.items()}
@@ -45,10 +51,22 @@ def of_adjacency(rows: List[Row]) -> Views:
     for name, peers in lists.items():
         views.enter(name, behind[name])
         for peer in peers:
+            written.next_is(ways[name])
             views.edge(name, peer, not is_each_once) if peer in lists else views.listing(name, peer)
+    written.tell()
     if is_each_once and any(lists.values()):
         views.kind += ", in which each link stands once, as networkx writes them"
     return views
+
+
+def way_of(peers: str) -> str:
+    """How the peers on a line are written: with which sign between them. One alone has none.
+
+    >>> way_of("b, c d"), way_of("b")
+    ('names with a comma and a blank', '')
+    """
+    signs = {"," if "," in it else it[0] for it in BETWEEN.findall(peers)}
+    return f"names with {' and '.join(SIGNS[it] for it in sorted(signs, reverse=True))}" if signs else ""
 
 
 def multiline(rows: List[Row]) -> Optional[Graph]:

@@ -3,6 +3,7 @@ there. Where all are alike it says nothing; else it is a field of theirs, since 
 
 from __future__ import annotations
 
+import array
 import collections
 from typing import Any, Counter, Dict, List, Optional, Sequence, Set, Tuple
 
@@ -53,7 +54,7 @@ class Written:
 
     def __init__(self, views: Views) -> None:
         self.views = views
-        self.places: List[int] = []
+        self.places = array.array("q")
         self.ways: List[str] = []
 
     def next_is(self, way: str) -> None:

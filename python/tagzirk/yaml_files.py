@@ -180,8 +180,8 @@ def beside_in(text: str, reader: Reader) -> List[Tuple[str, Scalar]]:
         between.append("\n" if text[begin:end].endswith("\n") else "")
         at = end
     found = COMMENT.findall("".join([*between, text[at:]]))
-    begin = BEGIN.match(text)
-    directives = [("directives", it.strip()) for it in DIRECTIVE.findall(begin[0] if begin else "")]
+    above = BEGIN.match(text)
+    directives = [("directives", it.strip()) for it in DIRECTIVE.findall(above[0] if above else "")]
     lists = [it for it, value in reader.anchors.items() if isinstance(value, (dict, list))]
     anchors = [it for it in lists if it not in reader.aliases or words_of(it) & STATE_WORDS]
     quoted = [it for is_key, names in reader.quoted.items() if 2 * len(names) < reader.bare[is_key] for it in names]

@@ -287,6 +287,12 @@ class Accounts(Dumps):
             os.utime(pathlib.Path(place, "b.txt"), (newest - seconds, newest - seconds))
             self.assertEqual(doubts_in(self.read(place).notes), told)
 
+    def test_links_to_files(self):
+        place = pathlib.Path(self.put("linked", {"a": "b\n", "b": "a\n"}))
+        (place / "b").rename(self.room / "elsewhere")
+        (place / "b").symlink_to(self.room / "elsewhere")
+        self.assertIn(f"links to files (b to {self.room}/elsewhere", " ".join(doubts_in(self.read(str(place)).notes)))
+
     def test_packed_files_of_a_folder(self):
         place = pathlib.Path(self.put("packed", {"a": "b\n", "b": "a\n"}))
         (place / "b").write_bytes(hidden_states.with_header(b"a\n", 16, b"b is away\0"))
