@@ -15,9 +15,8 @@ from .written import Written
 
 
 LGL, METIS = "LGL", "METIS"
-# What may stand between two names on a line, and how it is called.
+# What may stand between two names on a line.
 BETWEEN = re.compile(r"\s*,\s*|\s+")
-SIGNS = {",": "a comma", " ": "a blank", "\t": "a tab"}
 
 
 def is_adjacency(rows: List[Row]) -> bool:
@@ -42,7 +41,7 @@ def of_adjacency(rows: List[Row]) -> Views:
         if name in lists:
             raise BadDump(f"line {row.number}: {name} has a list already")
         lists[name], behind[name] = [it for it in peers if it], said_behind(row)
-        ways[name] = way_of((said[2] or "") if said else row.text.partition(name)[2].strip(" \t,"))
+        ways[name] = way_of((said[2] or "") if said else row.text[len(name) :].strip(" \t,"))
         if "" in peers[:-1]:
             views.pass_over("nothing between commas", f"line {row.number}")
     sets = {name: set(peers) for name, peers in lists.items()}
@@ -65,8 +64,9 @@ def way_of(peers: str) -> str:
     >>> way_of("b, c d"), way_of("b")
     ('names with a comma and a blank', '')
     """
-    signs = {"," if "," in it else it[0] for it in BETWEEN.findall(peers)}
-    return f"names with {' and '.join(SIGNS[it] for it in sorted(signs, reverse=True))}" if signs else ""
+    found = BETWEEN.findall(peers)
+    signs = {"a comma" if "," in it else "a tab" if it[0] == "\t" else "a blank" for it in found}
+    return f"names with {' and '.join(sorted(signs, reverse=True))}" if signs else ""
 
 
 def multiline(rows: List[Row]) -> Optional[Graph]:
