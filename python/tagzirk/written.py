@@ -41,7 +41,7 @@ def way_of(name: Any, by: Optional[str] = None) -> str:
 def way_of_ends(keys: Sequence[str], ends: Sequence[Any], is_below: bool) -> str:
     """How a link is written: by which keys, and how its ends are.
 
-    >>> way_of_ends(("from", "to"), ("oslo", {"id": 7}), False)
+    >>> way_of_ends(("from", "to"), ("oslo", {"id": "rome"}), False)
     'from and to, a name and id'
     """
     ways = [way_of(it) for it in ends]
