@@ -116,7 +116,9 @@ def item_of(field: Field) -> Item:
     whole = said + field.missing
     of, rank = f"of {whole} {field.of if whole != 1 else field.of[:-1]}", rank_of(field, counts)
     if len(field.counts) == 1:
-        return Item(of, f"{name} ({quoted(next(iter(field.counts)))})", name, rank)
+        # what differs in capitals alone is one value, and still told
+        texts = list(dict.fromkeys(text_of(it) for _, it in field.said)) or list(field.counts)
+        return Item(of, f"{name} ({', '.join(map(quoted, texts[:3]))})", name, rank)
     if len(counts) <= MOST_VALUES:
         often = sorted(counts.items(), key=lambda it: -it[1])
         told = ", ".join(f"{quoted(value)}: {number}{whose(field, value, number)}" for value, number in often)

@@ -213,6 +213,7 @@ HIDDEN = [
     ("signs-twice.csv", "host,peers\n" + "".join(f"{it},{';'.join(others(it))}\n" for it in HOSTS).replace(";n3",
      ";;n3"),
      "written as (a name beside ;: 23, a name beside ;;: 7)"),
+    ("capital-cells.csv", lines("source,target,z\n", "{a},{b},{it}", "x", "X"), "z (x, X)"),
     ("empty-cell.csv", "source,target\n" + lines("", "{a},{b}{it}", "", ","), "column 3 is"),
     ("rule.txt", " source | target \n---+---\n" + lines("", " {a} | {b} ", "", "").replace(" n2 | n3",
      "---+---\n n2 | n3"),
