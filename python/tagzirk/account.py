@@ -12,6 +12,7 @@ from .graph_files import NAME_OF_GRAPH, WRITTEN_AT, WRITTEN_BY
 from .graphs import shown
 from .states import NOTHING, NUMBERS, STATE_NAMES, STATE_WORDS
 from .values import Views
+from .written import REPEATED, WRITTEN
 
 # How the note begins, and what it ends with.
 LEFT, KNOWN = "not read as states", "passed over, as --all asks"
@@ -115,13 +116,23 @@ def item_of(field: Field) -> Item:
     whole = said + field.missing
     of, rank = f"of {whole} {field.of if whole != 1 else field.of[:-1]}", rank_of(field, counts)
     if len(field.counts) == 1:
-        return Item(of, f"{name} ({quoted(next(iter(field.counts)))})", name, rank)
+        # what differs in capitals alone is one value, and still told
+        texts = list(dict.fromkeys(text_of(it) for _, it in field.said)) or list(field.counts)
+        return Item(of, f"{name} ({', '.join(map(quoted, texts[:3]))})", name, rank)
     if len(counts) <= MOST_VALUES:
         often = sorted(counts.items(), key=lambda it: -it[1])
-        told = ", ".join(f"{quoted(value)}: {number}" for value, number in often)
+        told = ", ".join(f"{quoted(value)}: {number}{whose(field, value, number)}" for value, number in often)
         return Item(of, f"{name} ({told})", name, rank)
     odd = "".join(f", {quoted(value)}: {counts[value]}" for value in odd_of(field, counts)[:2])
     return Item(of, f"{name} ({len(field.counts) - bool(field.missing)} values{odd})", name, rank)
+
+
+def whose(field: Field, value: str, number: int) -> str:
+    """The host or the link that alone is written so; nothing of other fields, and of values that several have."""
+    if number != 1 or field.name not in (REPEATED, WRITTEN):
+        return ""
+    who = next((who for who, it in field.said if text_of(it).casefold() == value.casefold()), ())
+    return f" ({' - '.join(map(shown, who))})" if who else ""
 
 
 def patterns_of(field: Field) -> Dict[str, int]:
@@ -159,6 +170,8 @@ def rank_of(field: Field, counts: Dict[str, int]) -> int:
     """How little a field looks like a state: 0 of few values of which one is rare or stands for none, 1 of many with
     such a one, 2 of few, 3 of one, 4 of many."""
     whole = sum(counts.values())
+    if field.name in (REPEATED, WRITTEN):
+        return 0
     if len(field.counts) == 1:
         return 3
     has_odd = bool(odd_of(field, counts))

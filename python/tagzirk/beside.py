@@ -9,6 +9,7 @@ from .fields import fields_of
 from .rows import Row, comments_in, rows_of
 from .states import Kind, kind_of
 from .values import Said, Scalar, Views, said_of
+from .written import Written
 
 # Brackets with more than this are not read.
 MOST_LONG = 4096
@@ -18,15 +19,15 @@ def attributes_in(text: str) -> Dict[str, Scalar]:
     """The attributes in brackets that stand behind names.
 
     >>> attributes_in("{'state': 'down', 'weight': 3}"), attributes_in("{down}"), attributes_in("{}")
-    ({'state': 'down', 'weight': 3}, {'attributes': '{down}'}, {})
+    ({'state': 'down', 'weight': 3}, {'attributes': '{down}'}, {'attributes': '{}'})
     """
-    if not text or text.replace(" ", "") == "{}":
-        return {}
+    if not text or text == "{}":
+        return {"attributes": text} if text else {}
     try:
         value = ast.literal_eval(text) if len(text) <= MOST_LONG else None
-    except (ValueError, SyntaxError, MemoryError, RecursionError):
+    except (ValueError, TypeError, SyntaxError, MemoryError, RecursionError):
         value = None
-    return said_of(value) if isinstance(value, dict) else {"attributes": text[:MOST_LONG]}
+    return said_of(value) if isinstance(value, dict) and value else {"attributes": text[:MOST_LONG]}
 
 
 def said_behind(row: Row) -> Said:
@@ -44,10 +45,19 @@ def with_comments(views: Views, text: str) -> Views:
 def plain_lines(text: str) -> Views:
     """What lines of two names say, and what stands behind and between them; other lines are left out."""
     views = Views("lines of two names, each a link")
+    written = Written(views)
     for row in rows_of(text):
-        if len(row.words) == 2 and all(row.words):
-            views.link(row.words[0], row.words[1], said_behind(row))
+        words = row.words
+        if len(words) == 2 and all(words):
+            written.next_is(between(row))
+            views.link(words[0], words[1], said_behind(row))
+    written.tell()
     return with_comments(views, text)
+
+
+def between(row: Row) -> str:
+    """What stands between the names on a line."""
+    return "names with a comma" if "," in row.text else "names with a tab" if "\t" in row.text else "names with a blank"
 
 
 def with_what_is_behind(rows: List[Row]) -> Optional[Views]:

@@ -10,13 +10,15 @@ import re
 import shutil
 import subprocess
 import time
-from typing import Any, Dict, List, NamedTuple, Optional, Sequence, Tuple, Union
+from typing import Any, Dict, List, Mapping, NamedTuple, Optional, Sequence, Tuple, Union
 
 from .errors import BadDump, LibraryMissing
 from .graphs import shown
 
 # So many hosts are asked at once, and so many seconds each has for an answer.
 AT_ONCE, SECONDS = 16, 20.0
+# So many peers that are not up are told of each host.
+MOST_TOLD = 4
 # So often, and after so many seconds, a dump is read again that tinc is just writing.
 TRIES, PAUSE = 20, 0.1
 SETTING = re.compile(r"^[ \t]*(\w+)[ \t]*=?[ \t]*(.*?)[ \t]*$", re.MULTILINE)
@@ -25,10 +27,11 @@ HELP = "see `tagzirk collect --help`"
 
 
 class Spoken(NamedTuple):
-    """What a daemon of Yggdrasil says: its own key, and those of its peers that are up."""
+    """What a daemon of Yggdrasil says: its own key, those of its peers that are up, and what it calls the others."""
 
     key: str
     peers: List[str]
+    down: List[str]
 
 
 class Collected(NamedTuple):
@@ -101,7 +104,15 @@ def yggdrasil(hosts: Sequence[str], is_by_ssh: bool = False) -> Collected:
     if len(set(names.values())) < len(spoken):
         raise BadDump("two of these hosts are one daemon, or have one name")
     views = {names[it.key]: [names.get(peer, peer) for peer in it.peers] for _, it in spoken}
-    return Collected(json.dumps(views, indent=1, ensure_ascii=False) + "\n", tuple(silent))
+    away = [f"{shown(names[it.key])}: peers that are not up are no peers here: {some_of(it.down, names)}"
+            for _, it in spoken if it.down]
+    return Collected(json.dumps(views, indent=1, ensure_ascii=False) + "\n", (*silent, *away))
+
+
+def some_of(peers: Sequence[str], names: Mapping[str, str]) -> str:
+    """The first of several peers, by name where they have one, and how many more there are."""
+    first = ", ".join(shown(names.get(it, it)) for it in peers[:MOST_TOLD])
+    return first if len(peers) <= MOST_TOLD else f"{first} and {len(peers) - MOST_TOLD} more"
 
 
 def command(name: str, package: str) -> str:
@@ -129,10 +140,16 @@ def answer_of(program: str, way: str, is_by_ssh: bool) -> Union[Spoken, str]:
         itself, listed = (answer([*words, "-json", question]) for question in ("getSelf", "getPeers"))
         # before 0.4.5 it stands below its address
         own = itself if "key" in itself else next(iter(itself["self"].values()))
-        peers = [it["key"] for it in listed["peers"] if it.get("up", True) and it["key"]]
-        return Spoken(own["key"], peers)
+        peers = [it["key"] for it in listed["peers"] if is_up(it)]
+        down = [it["key"] or str(it.get("remote", "a peer")) for it in listed["peers"] if not is_up(it)]
+        return Spoken(own["key"], peers, down)
     except (OSError, subprocess.SubprocessError, ValueError, LookupError, TypeError, AttributeError) as why:
         return reason_of(why)
+
+
+def is_up(peer: Dict[str, Any]) -> bool:
+    """Whether a daemon says that it is joined with a peer. Of one that it can't reach it may not know the key."""
+    return bool(peer.get("up", True) and peer["key"])
 
 
 def answer(words: List[str]) -> Dict[str, Any]:

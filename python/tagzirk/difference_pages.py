@@ -9,8 +9,11 @@ from typing import Iterable, List, Sequence, Tuple
 from .differences import Difference, Link, Side
 from .markup import counted, names_html, shown_html, table
 
+# How a page begins; by this line a command knows its own page again.
+FIRST_LINE = "<!DOCTYPE html><!-- tagzirk diff -->"
 PAGE = Template(
-    """<!DOCTYPE html>
+    FIRST_LINE
+    + """
 <html lang="en">
 <head>
 <meta charset="utf-8">

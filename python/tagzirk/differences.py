@@ -119,7 +119,7 @@ def differences(
         return analysed(graph, overlay=overlay, overlay_check=overlay_check)
 
     def side(places: Sequence[str]) -> Side:
-        dump = read_dump(places, options._replace(entries=True), overlay=overlay)
+        dump = read_dump(places, options.living, overlay=overlay)
         graph = dump.graph
         report = ask(graph)
         found = worst(graph, report, 1, overlay=overlay, overlay_check=overlay_check, progress=progress)

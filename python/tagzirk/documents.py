@@ -28,6 +28,7 @@ from .values import (
     said_of,
     short,
 )
+from .written import LIST, Written, way_of, way_of_ends
 
 # What the links of a graph of nodes and links are called.
 LINK_KEYS = ("links", "edges")
@@ -37,29 +38,31 @@ OF_GRAPHVIZ = {"_subgraph_cnt", "directed", "strict"}
 
 
 class Ends(NamedTuple):
-    """Both ends of a link that a value says, or a host and a peer that it lists; and what stands beside them."""
+    """Both ends of a link that a value says, or a host and a peer that it lists; what stands beside them, and how it is
+    written."""
 
     one: Any
     other: Any
     is_listing: bool
     said: Said
+    way: str
 
 
 def ends_in(value: Any, asked: Asked = Asked()) -> Optional[Ends]:
     """Both ends that an object says, by the fields that are asked for or by those that are known.
 
     >>> ends_in({"source": "a", "target": "b", "state": "up"})
-    Ends(one='a', other='b', is_listing=False, said={'state': 'up'})
+    Ends(one='a', other='b', is_listing=False, said={'state': 'up'}, way='source and target')
     """
     if not isinstance(value, dict):
         return None
     found = ends_of(value, {}, asked)
     if not found and isinstance(value.get("data"), dict):
-        found = ends_of(value["data"], said_of(value, "data"), asked)
+        found = ends_of(value["data"], said_of(value, "data"), asked, is_below=True)
     return found
 
 
-def ends_of(inner: Dict[str, Any], around: Said, asked: Asked) -> Optional[Ends]:
+def ends_of(inner: Dict[str, Any], around: Said, asked: Asked, is_below: bool = False) -> Optional[Ends]:
     """Both ends that an object says, with what is said around it."""
     for one, other in asked_ends(asked) or LINK_ENDS:
         try:
@@ -70,11 +73,12 @@ def ends_of(inner: Dict[str, Any], around: Said, asked: Asked) -> Optional[Ends]
         for field, end in zip((one, other), ends):
             beside = said_of(end, key_in(end, ("id", *NAME_KEYS)) or "") if isinstance(end, dict) else {}
             said.update((f"{field}.{key}", it) for key, it in beside.items())
-        return Ends(*ends, False, both(around, said))
+        return Ends(*ends, False, both(around, said), way_of_ends((one, other), ends, is_below))
     if not asked.columns and not key_in(inner, PEER_KEYS):
         for one, other in LISTING_ENDS:
             if isinstance(inner.get(one), (str, int)) and isinstance(inner.get(other), (str, int)):
-                return Ends(inner[one], inner[other], True, both(around, said_of(inner, one, other)))
+                way = way_of_ends((one, other), (inner[one], inner[other]), is_below)
+                return Ends(inner[one], inner[other], True, both(around, said_of(inner, one, other)), way)
     return None
 
 
@@ -262,7 +266,7 @@ def link_in(value: Any, asked: Asked) -> Optional[Ends]:
     if is_pair(value):
         third = value[2:]
         beside = said_of(third[0]) if third and isinstance(third[0], dict) else {"3": it for it in third}
-        return Ends(value[0], value[1], False, beside)
+        return Ends(value[0], value[1], False, beside, way_of_ends((LIST,), value[:2], False))
     return ends_in(value, asked)
 
 
@@ -279,7 +283,9 @@ def of_nodes(nodes: List[Any], links: Any, is_directed: bool, asked: Asked) -> T
     names = {key_of(it, asked.by): name_of(it, asked.by) if asked.by else key_of(it) for it in nodes}
     if len(set(names.values())) != len(nodes):
         raise BadDump("two of its nodes have one name")
+    written = Written(views)
     for name, node in zip(names.values(), nodes):
+        written.next_is(way_of(node, "id" if isinstance(node, dict) and "id" in naming_part(node) else asked.by))
         views.enter(name, item_of(node, asked.by)[1])
     listed = links if isinstance(links, list) else [links]
     said = [link_in(it, asked) for it in listed]
@@ -298,7 +304,9 @@ def of_nodes(nodes: List[Any], links: Any, is_directed: bool, asked: Asked) -> T
     if unknown:
         raise BadDump(f"a link has the end {key_of(unknown[0])}, which is no node")
     for it in pairs:
+        written.next_is(it.way)
         views.edge(names[key_of(it.one)], names[key_of(it.other)], is_directed or it.is_listing, it.said)
+    written.tell()
     return views, names
 
 
@@ -318,10 +326,12 @@ def of_list(value: List[Any], asked: Asked) -> Tuple[Views, Used]:
     if len(value) == 1 and says_graph(value[0]):
         return of_object(value[0], asked)
     views, entries = Views("a list of hosts with peers"), []  # type: Views, List[Entry]
+    written = Written(views)
     for it in value:
         ends = link_in(it, asked)
         if ends:
             views.kind = "a list of links"
+            written.next_is(ends.way)
             one, other = name_of(ends.one, asked.by), name_of(ends.other, asked.by)
             views.listing(one, other, ends.said) if ends.is_listing else views.link(one, other, ends.said)
         elif asked.columns:
@@ -332,6 +342,7 @@ def of_list(value: List[Any], asked: Asked) -> Tuple[Views, Used]:
             entries += entries_in(views, it, asked)
         else:
             raise BadDump(f"{short(it)} is neither a link nor a host with its peers")
+    written.tell()
     enter_all(views, entries, asked)
     return views, Used([value])
 
@@ -347,7 +358,7 @@ def entries_in(views: Views, it: Dict[str, Any], asked: Asked) -> List[Entry]:
         views.enter(name, said)
         return []
     naming = key_in(it, names)
-    return [Entry(name, {key: inner for key, inner in it.items() if key != naming})]
+    return [Entry(name, {key: inner for key, inner in it.items() if key != naming}, f", by {way_of(it, asked.by)}")]
 
 
 def of_links_below(value: Any, asked: Asked) -> Tuple[Views, Used]:
@@ -371,6 +382,9 @@ def of_links_below(value: Any, asked: Asked) -> Tuple[Views, Used]:
         raise BadDump(f"two nodes have one name, by {asked.by}")
     for node in nodes.listed:
         views.enter(node.name, node.said)
+    written = Written(views)
     for one, other, said in pairs:
+        written.next_is(said.way)
         views.edge(names.get(one, one), names.get(other, other), is_directed or said.is_listing, said.said)
+    written.tell()
     return views, Used([place.inner, nodes.inner], names)

@@ -10,6 +10,7 @@ from typing import Dict, Iterable, Iterator, List, NamedTuple, Optional, Tuple
 from .errors import BadDump
 from .graph_files import NAME_OF_GRAPH
 from .limits import DEEPEST, MOST_IMPLIED, need_few, need_few_implied
+from .rows import WORDS as OF_COMMENTS
 from .values import Scalar, Views
 
 NAME = r"[A-Za-z_\x80-\U0010ffff][A-Za-z0-9_\x80-\U0010ffff]*"
@@ -89,6 +90,8 @@ class Part:
         self.defaults: Dict[str, Attributes] = {
             it: dict(outer.defaults[it]) if outer else {} for it in ("node", "edge", "graph")
         }
+        # the defaults that no node, or no edge, was made with so far
+        self.idle: Dict[str, Attributes] = {"node": {}, "edge": {}}
 
     def inside(self) -> Attributes:
         """The name of the subgraph that it is, or that it is in, as an attribute of what stands in it."""
@@ -165,6 +168,8 @@ class Reader:
             return
         if self.take("}"):
             self.parts.pop()
+            for kind in part.idle:
+                self.leave_idle(part, kind, part.idle[kind])
             if self.parts:
                 self.end(self.parts[-1], part.nodes)
         elif self.take("subgraph"):
@@ -174,16 +179,31 @@ class Reader:
         elif self.take("node", "edge", "graph"):
             if part.chain or self.token.text != "[":
                 raise self.fault(f"{kind} has a meaning in DOT: a host of this name needs quotes")
-            said = self.list()
-            part.defaults[kind].update(said)
-            for name in part.nodes if kind == "node" else ():
-                self.attributes[name].update(self.of_members(part, name, said))
-            for key, value in said.items() if kind == "graph" else ():
-                self.leave(f"{part.name or 'graph'}.{key}", value)
-            if len(part.defaults[kind]) > MOST_DEFAULTS:
-                raise self.fault(f"there are more than {MOST_DEFAULTS} attributes by default")
+            self.by_default(part, kind, self.list())
         else:
             self.node_or_value(part)
+
+    def by_default(self, part: Part, kind: str, said: Attributes) -> None:
+        """What nodes, or edges, have from here on; or what is said of the graph."""
+        if kind == "graph":
+            for key, value in said.items():
+                self.leave(f"{part.name or 'graph'}.{key}", value)
+        else:
+            self.leave_idle(part, kind, {key: it for key, it in part.idle[kind].items() if key in said})
+            part.idle[kind].update(said)
+        part.defaults[kind].update(said)
+        for name in part.nodes if kind == "node" else ():
+            more = self.of_members(part, name, said)
+            self.attributes[name].update(more)
+            for key in more:
+                part.idle[kind].pop(key.removeprefix("subgraph."), None)
+        if len(part.defaults[kind]) > MOST_DEFAULTS:
+            raise self.fault(f"there are more than {MOST_DEFAULTS} attributes by default")
+
+    def leave_idle(self, part: Part, kind: str, said: Attributes) -> None:
+        """Defaults that no node, or no edge, was made with stand beside."""
+        for key, value in said.items():
+            self.leave(f"{part.name + '.' if part.name else ''}{kind}.{key}", value)
 
     def subgraph(self, part: Part, name: Optional[str]) -> None:
         """A subgraph begins, or one that is there already is named as the end of an edge."""
@@ -209,6 +229,8 @@ class Reader:
         if name not in self.attributes:
             need_few(len(self.attributes), "hosts")
             self.attributes[name] = {**part.inside(), **part.defaults["node"]}
+            for it in self.parts:
+                it.idle["node"].clear()
         else:
             self.attributes[name].update(self.of_members(part, name, part.defaults["node"]))
         for it in self.parts:
@@ -253,6 +275,8 @@ class Reader:
             for name in nodes:
                 self.attributes[name].setdefault("subgraph", f"unnamed {self.unnamed}")
         beside = {**part.inside(), **part.defaults["edge"], **said} if len(chain) > 1 else said
+        for it in self.parts if len(chain) > 1 else ():
+            it.idle["edge"].clear()
         for ones, others in zip(chain, chain[1:]):
             pairs = [*itertools.islice(itertools.product(ones, others), MOST_IMPLIED + 1)]
             self.implied += len(pairs) if len(pairs) > 1 else 0
@@ -263,6 +287,8 @@ class Reader:
         """The attributes in brackets, if such stand here."""
         said: Attributes = {}
         while self.take("["):
+            if self.token.text == "]" and self.token.kind == "mark":
+                said["brackets"] = "[]"
             while not self.take("]"):
                 key = self.name()
                 if key is None:
@@ -289,8 +315,11 @@ def of_dot(text: str) -> Views:
     if html:
         raise BadDump(f"a node has the HTML text {html} as its name, and another one the same text in quotes")
     views.beside += [*reader.beside, *(("comments", it) for it in comments_in(text))]
+    linked = {name for edge in reader.edges for name in edge[:2]}
+    is_of_some = not is_directed and linked - set(reader.own)
     for name in reader.own:
-        views.enter(name, reader.attributes[name])
+        is_marked = is_of_some and name in linked and not reader.attributes[name]
+        views.enter(name, {"statement": "of its own"} if is_marked else reader.attributes[name])
     for one, other, said in reader.edges:
         if is_directed:
             views.listing(one, other, said)
@@ -314,4 +343,4 @@ def comments_in(text: str) -> List[str]:
         if found and kind == "space":
             spaces.append(found[0].strip())
         at = found.end() if found and kind != "html" else end_of_html(text, at)
-    return [it for it in spaces if re.search(r"\w", it)]
+    return [it for it in spaces if OF_COMMENTS.search(it)]

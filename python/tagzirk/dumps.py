@@ -11,7 +11,7 @@ from dataclasses import dataclass, field, replace
 from functools import lru_cache
 from typing import Dict, List, NamedTuple, Optional, Sequence, TextIO, Tuple
 
-from .account import LEFT
+from .account import KNOWN, LEFT, account_of
 from .asked import Asked, demand_used
 from .beside import plain_lines
 from .errors import BadDump, LibraryMissing, Refused
@@ -21,6 +21,7 @@ from .forms import NATIVE, form_of, listings_of
 from .graphs import NamedGraph
 from .hosts import SeveralLists
 from .limits import GZIP
+from .marks import said_by_names
 from .notes import Line, lines_in, notes_on
 from .only import only_graph, only_views, plain_views
 from .outputs import files_in
@@ -29,6 +30,7 @@ from .contents import of_contents
 from .taken import taken_of
 from .texts import decoded, text_of
 from .values import Views
+from .written import tell_how_often
 
 GRAPH_FILE = re.compile(r"(?:[ \t\r]*(?:#[^\n]*)?\n)*[ \t\r]*(?:node|link) +\d")
 # The first line of a graph file that `tagzirk mend` wrote.
@@ -60,23 +62,33 @@ TAKEN: Dict[str, Tuple[str, ...]] = {
 }
 # What overlay says of this command, which is no advice here.
 OF_THIS = re.compile(r"; `tagzirk import` of the Python package reads (?:it|more forms)$", re.MULTILINE)
+# By so many seconds the files of a folder may differ in age without a word.
+MOST_APART = 300.0
+UNITS = (("days", 86400), ("hours", 3600), ("minutes", 60))
 # The words of a refusal of DOT that is read here all the same.
 OF_DOT = ("in place of a subgraph", "an HTML text", "several words to DOT")
 
 
 class Options(NamedTuple):
     """How a dump is to become a graph: as `overlay import` has it, and as a form, a field or columns are asked for.
-    With patterns in `only`, hosts with such names are looked at alone."""
+    With patterns in `only`, hosts with such names are looked at alone. If `entries` says neither, a dump that is read
+    has names without an entry too, and what is asked about it leaves them out."""
 
     either: bool = False
-    entries: bool = False
+    entries: Optional[bool] = None
     asked: Asked = Asked()
     only: Tuple[str, ...] = ()
 
     @property
     def words(self) -> List[str]:
         """The options of `overlay import`, but for the form."""
-        return ["--either"] * self.either + ["--entries"] * self.entries
+        return ["--either"] * self.either + ["--entries"] * bool(self.entries)
+
+    @property
+    def living(self) -> Options:
+        """The same for a question about the overlay: names that others list and that have no entry, as of dead peers,
+        are left out, unless something else is asked for."""
+        return self._replace(entries=True) if self.entries is None else self
 
 
 @dataclass(frozen=True)
@@ -99,6 +111,11 @@ class Dump:
     def graph(self) -> NamedGraph[str]:
         """The graph, by the names of its hosts."""
         return read_graph_file(self.graph_file)
+
+    @property
+    def left_out(self) -> int:
+        """How many names were left out that have no entry."""
+        return (self.without_entry or 0) if "--entries" in self.given[1] else 0
 
     @property
     def has_nodes(self) -> bool:
@@ -152,6 +169,13 @@ def comments_of(text: str) -> List[str]:
     return found
 
 
+def ids_with_zeros(text: str) -> List[str]:
+    """The lines of a graph file whose ids have zeros in front, unless all lines have such."""
+    lines = [it for it in (" ".join(line.split("#")[0].split()) for line in text.split("\n")) if it]
+    found = [it for it in lines if any(word[0] == "0" and len(word) > 1 for word in it.split()[1:])]
+    return found if len(found) < len(lines) else []
+
+
 def id_of(word: str) -> int:
     """The id that a word of a graph file says, with any number of zeros in front."""
     return int(word.lstrip("0") or "0")
@@ -192,6 +216,28 @@ def passed_over(places: Sequence[str]) -> List[str]:
     """What stands in the folder beside files that are read: hidden files, and folders."""
     return [it.name for place in places if os.path.isdir(place) for it in sorted(pathlib.Path(place).iterdir())
             if not it.is_file() or it.name[0] == "."]
+
+
+def older(files: Sequence[pathlib.Path]) -> List[str]:
+    """The files that were last changed long before the newest of them, the oldest first."""
+    changed = sorted((it.stat().st_mtime, it.name) for it in files if it.is_file())
+    return [f"{name}: by {in_units(changed[-1][0] - at)}" for at, name in changed if changed[-1][0] - at > MOST_APART]
+
+
+def leading_elsewhere(files: Sequence[pathlib.Path]) -> List[str]:
+    """The files that are links to others, unless all are."""
+    found = [f"{it.name} to {os.readlink(it)}" for it in files if it.is_symlink()]
+    return found if len(found) < len(files) else []
+
+
+def in_units(seconds: float) -> str:
+    """A span in the largest unit of which there are two at least.
+
+    >>> in_units(400), in_units(90000), in_units(3e6)
+    ('6 minutes', '25 hours', '34 days')
+    """
+    unit, size = next((it for it in UNITS if seconds >= 2 * it[1]), ("seconds", 1))
+    return f"{seconds // size:.0f} {unit}"
 
 
 def last_change(places: Sequence[str]) -> Optional[float]:
@@ -242,11 +288,13 @@ def dump_of_hosts(places: Sequence[str], options: Options, overlay: Optional[Pro
     try:
         views = of_hosts(files, options.asked)
         views.beside += [("files that are not read", it) for it in passed_over(places)]
+        views.beside += [("older than other files", it) for it in older([*files])]
+        views.beside += [("links to files", it) for it in leading_elsewhere([*files])]
     except SeveralLists as why:
         raise named_error(why, name) from None
     told = f"read {views.kind}" if len(places) > 1 else f"{name} was read as {views.kind}"
     try:
-        return with_notes(of_views(views, name, options, [told], overlay))
+        return with_notes(of_views(views, name, options, [told], overlay), options.asked.all)
     except (BadDump, Refused) as why:
         raise named_error(why, name) from None
 
@@ -257,7 +305,10 @@ def of_views(views: Views, name: str, options: Options, notes: List[str], overla
     views, told = only_views(views, options.only)
     told = [*of_states, *told]
     if not views.has_known:
-        told.append("no host that is listed has an entry; --by FIELD names hosts by another field of objects")
+        told.append(
+            "no host that is listed has an entry; --by FIELD names hosts by another field of objects, and if these are "
+            "racks, `tagzirk each DUMP --racks RACKS` takes them"
+        )
     return imported(json.dumps(views.value).encode(), name, ["--views", *options.words], [*notes, *told], overlay)
 
 
@@ -290,8 +341,8 @@ def dump_of(
     >>> dump.notes
     ('net.json was read as a graph of nodes and links',)
     """
-    data, told = text_of(data, options.asked.skip, name)
-    notes = [it if it.startswith(LEFT) else f"{name}: {it}" for it in told]
+    data, told, beside = text_of(data, options.asked.skip, name)
+    notes = [*(f"{name}: {it}" for it in told), *account_of(Views("", beside), [], options.asked.all)]
     if is_graph_taken and not options.asked.form and GRAPH_FILE.match(data.decode(errors="replace")):
         return of_graph_file(data, name, options, notes, overlay)
     form = options.asked.form or form_of(data.decode("utf-8-sig", "replace"), name)
@@ -303,7 +354,7 @@ def dump_of(
         dump = of_overlay(data, name, form, options, notes, overlay)
     else:
         dump = of_views(views, name, options, [*notes, f"{name} was read as {views.kind}"], overlay)
-    return with_notes(dump, lines_in(decoded(data)) if form in OF_LINES else [])
+    return with_notes(dump, options.asked.all, lines_in(decoded(data)) if form in OF_LINES else [])
 
 
 def of_overlay(
@@ -321,6 +372,7 @@ def of_overlay(
     else:
         views = more_in_dot(data, dump, options, overlay)
         lines = plain_lines(decoded(data)) if form in OF_LINES else Views()
+        tell_how_often(lines)
         if options.asked.up and any(it.said for it in lines.statements):
             views = lines
         elif views is None:
@@ -338,8 +390,10 @@ def of_graph_file(data: bytes, name: str, options: Options, notes: List[str], ov
     if ended.status != 0:
         refuse(*ended.err.partition("\n")[::2])
     text = data.decode(errors="backslashreplace")
-    told = [*notes, *taken_of(Views("", [("comments", it) for it in comments_of(text)]), options.asked)[1]]
-    return with_only(Dump(name, text, tuple(told), None, None), options.only)
+    beside = [*(("comments", it) for it in comments_of(text)), *(("zeros in front", it) for it in ids_with_zeros(text))]
+    told = [*notes, *taken_of(Views("", [*beside]), options.asked)[1]]
+    dump = with_only(Dump(name, text, tuple(told), None, None), options.only)
+    return with_marks(dump, options.asked.all)
 
 
 def with_only(dump: Dump, patterns: Sequence[str]) -> Dump:
@@ -350,9 +404,16 @@ def with_only(dump: Dump, patterns: Sequence[str]) -> Dump:
     return replace(dump, graph_file=graph.text_with_names, notes=(*dump.notes, told))
 
 
-def with_notes(dump: Dump, lines: Sequence[Line] = ()) -> Dump:
-    """A dump with notes on its graph, and its lines."""
+def with_notes(dump: Dump, is_known: bool, lines: Sequence[Line] = ()) -> Dump:
+    """A dump with notes on its graph, its names, and its lines."""
     told = notes_on(dump.graph, lines, dump.without_entry or 0)
+    return with_marks(replace(dump, notes=(*dump.notes, *told)), is_known)
+
+
+def with_marks(dump: Dump, is_known: bool) -> Dump:
+    """A dump with a note on what its names say beside. If a person took all on purpose, it `is_known`."""
+    said = said_by_names(list(dump.graph.ids))
+    told = [f"{KNOWN if is_known else LEFT}: {'; '.join(said)}"] if said else []
     return replace(dump, notes=(*dump.notes, *told))
 
 
@@ -363,6 +424,7 @@ def more_in_dot(data: bytes, dump: Dump, options: Options, overlay: Optional[Pro
     if (options.asked.form or form_of(text, dump.name)) != "dot":
         return None
     views = of_dot(text)
+    tell_how_often(views)
     if not views.beside and not any(it.said for it in views.statements):
         return None
     words = ["--views", *options.words]

@@ -4,7 +4,7 @@ from __future__ import annotations
 
 import json
 import pathlib
-from typing import Any, Dict
+from typing import Any, Dict, List, Tuple
 
 from .asked import Asked
 from .beside import said_behind, with_comments
@@ -13,7 +13,7 @@ from .forms import form_of
 from .hosts import Entry, SeveralLists, enter_all
 from .json_files import json_of
 from .rows import rows_of
-from .texts import decoded, text_of
+from .texts import Text, decoded, text_of
 from .values import NAME_KEYS, PEER_KEYS, Views, is_list_of_names, key_in, one_of
 from .yaml_files import yaml_of
 
@@ -55,7 +55,9 @@ def hosts_by(files: Dict[pathlib.Path, bytes], asked: Asked) -> Views:
         try:
             if any(it.name == host for it in entries.values()):
                 raise BadDump(f"a second file is of the host {host}")
-            entries[place] = Entry(host, peers_in(decoded(text_of(data)[0]), host, str(place), asked, views))
+            text = text_of(data, 0, place.name)
+            views.beside += text.beside
+            entries[place] = Entry(host, *peers_in(text, host, str(place), asked, views))
         except BadDump as why:
             raise BadDump(f"{place}: {why}") from None
     try:
@@ -77,9 +79,27 @@ def demand_readable(place: pathlib.Path, entry: Entry, asked: Asked) -> None:
         raise BadDump(f"{place}: {why}") from None
 
 
-def peers_in(text: str, host: str, place: str, asked: Asked, views: Views) -> Any:
-    """What the file of one host has: a list of peers, or an object with such a list. Comments stand beside."""
+def value_of(text: str, form: str, views: Views) -> Any:
+    """The value that a text of JSON or YAML says."""
+    try:
+        return json_of(text) if form == "json" else yaml_of(text, views.beside)
+    except json.JSONDecodeError as why:
+        raise BadDump(f"line {why.lineno}: it is no JSON: {why.msg}") from None
+
+
+def way_of(ending: str, form: str, told: List[str]) -> str:
+    """How a file is written: by the ending of its name, what it is, and what was told when its text was read."""
+    kind = form if form in ("json", "yaml") else "lines"
+    parts = [f"in a file {ending or 'without ending'}", *[f"of {kind}"] * (ending != f".{kind}"), *told]
+    return "".join(f", {it}" for it in parts)
+
+
+def peers_in(data: Text, host: str, place: str, asked: Asked, views: Views) -> Tuple[Any, str]:
+    """What the file of one host has: a list of peers, or an object with such a list; and how it is written. Comments
+    stand beside."""
+    text = decoded(data.data)
     form = "json" if place.endswith(".json") and text.strip() else form_of(text, place)
+    way = way_of(place.rpartition("/")[2][len(host) :], form, data.told)
     if form not in ("json", "yaml"):
         rows = rows_of(text)
         for row in rows:
@@ -90,11 +110,9 @@ def peers_in(text: str, host: str, place: str, asked: Asked, views: Views) -> An
                 )
         with_comments(views, text)
         said = [said_behind(row) for row in rows]
-        return [{"name": row.text, **beside} if beside else row.text for row, beside in zip(rows, said)]
-    try:
-        value = json_of(text) if form == "json" else yaml_of(text, views.beside)
-    except json.JSONDecodeError as why:
-        raise BadDump(f"line {why.lineno}: it is no JSON: {why.msg}") from None
+        is_plain = not any(said)
+        return [row.text if is_plain else {"name": row.text, **it} for row, it in zip(rows, said)], way
+    value = value_of(text, form, views)
     if isinstance(value, dict) and list(value) == [host] and is_list_of_names(value[host]):
         value = value[host]
     if isinstance(value, dict) and not asked.peers and ("nodes" in value or not key_in(value, PEER_KEYS)):
@@ -102,4 +120,4 @@ def peers_in(text: str, host: str, place: str, asked: Asked, views: Views) -> An
             "of several files each is of one host, and this is no list of peers, nor an object with the list "
             f"{one_of(PEER_KEYS)}; --peers KEY takes another key"
         )
-    return [value] if isinstance(value, str) else value
+    return [value] if isinstance(value, str) else value, way

@@ -4,7 +4,7 @@ from __future__ import annotations
 
 import json
 import re
-from typing import Callable, Dict, List, Optional, Tuple
+from typing import Any, Callable, Dict, List, Optional, Tuple
 
 from .asked import Asked
 from .documents import is_views, key_around, views_of
@@ -145,7 +145,19 @@ def of_json(text: str, asked: Asked) -> Optional[Views]:
             f"it has the {key_in(value, PEER_KEYS)} of one host, and does not say of which: give the files of "
             "all hosts, or their folder; the name of each is then the host's"
         )
-    return None if is_views(value) and is_json(text) else views_of(value, asked)
+    return None if is_views(value) and is_json(text) and not says_more(value) else views_of(value, asked)
+
+
+def says_more(value: Dict[str, Any]) -> bool:
+    """Whether views say more than names: some list has one twice, nobody, or numbers and texts of digits; or who is
+    listed has no entry anywhere, as of racks."""
+    lists = [it for it in value.values() if it]
+    names = [name for it in lists for name in it]
+    if len(names) > 1 and not any(str(it) in value for it in names):
+        return True
+    is_twice = any(len(set(map(str, it))) < len(it) for it in lists)
+    has_digits = any(isinstance(it, str) and it.isdigit() for it in names)
+    return is_twice or None in names or has_digits and any(isinstance(it, int) for it in names)
 
 
 def is_surely_views(text: str) -> bool:

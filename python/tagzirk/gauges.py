@@ -8,6 +8,7 @@ import time
 from dataclasses import dataclass, field
 from typing import Dict, List, Mapping, NamedTuple, Optional, Sequence, Tuple
 
+from .account import LEFT
 from .dumps import Dump, Options, last_change, read_dump
 from .errors import in_words
 from .graphs import NamedGraph, shown
@@ -16,7 +17,7 @@ from .programs import Program
 from .proofs import programs
 from .reports import Report, analysed
 from .stale import one_sided
-from .taken import doubts_in
+from .taken import DOUBT, doubts_in
 
 # How a text file of metrics begins.
 MARK = "# HELP tagzirk_"
@@ -34,13 +35,14 @@ HELP = {
     "tagzirk_hosts_cut_off": "hosts that no longer reach the largest piece once the cut has crashed",
     "tagzirk_one_sided_listings": "listings that the other end does not answer",
     "tagzirk_listed_without_entry": "names that are listed and have no entry",
+    "tagzirk_doubts": "notes by which k may be too high: of what may be down, and of what else the dump says",
     "tagzirk_cut_member": "1 for each host of the cut",
     "tagzirk_host_one_sided_listings": "listings that the other end does not answer, of which this host is an end",
     "tagzirk_program_proved": "1 if this program is known to be proved, and else 0",
 }
 LABEL = re.compile(r"([a-zA-Z][a-zA-Z0-9_]*)=(.+)", re.DOTALL)
 # The labels that metrics have by themselves, and those that a scrape gives them.
-TAKEN = frozenset(("host", "program", "instance", "job"))
+TAKEN = frozenset(("host", "program", "kind", "instance", "job"))
 
 
 class Sample(NamedTuple):
@@ -73,6 +75,9 @@ class Metrics:
         found += [Sample("tagzirk_cut_member", 1.0, ("host", host)) for host in self.cut]
         hosts = self.stale.items()
         found += [Sample("tagzirk_host_one_sided_listings", float(it), ("host", host)) for host, it in hosts]
+        kinds = (("may be down", DOUBT), ("not read", LEFT)) if "tagzirk_connectivity" in self.values else ()
+        numbers = [(kind, sum(it.startswith(begin) for it in self.doubts)) for kind, begin in kinds]
+        found += [Sample("tagzirk_doubts", float(number), ("kind", kind)) for kind, number in numbers]
         return found + [Sample("tagzirk_program_proved", float(it), ("program", of)) for of, it in self.proved.items()]
 
     @property
@@ -147,7 +152,7 @@ def metrics(
     named = dict(labels or {})
     try:
         values.update(time_of(places))
-        dump = read_dump(places, options, overlay=overlay)
+        dump = read_dump(places, options.living, overlay=overlay)
         graph = dump.graph
         report = analysed(graph, overlay=overlay, overlay_check=overlay_check)
         stale = one_sided(dump, overlay)

@@ -81,7 +81,7 @@ def gml_graph(text: str) -> Graph:
 
     >>> graph = gml_graph('graph [ node [ id 1 label "a" ] node [ id 2 label "b" ] edge [ source 1 target 2 w 3 ] ]')
     >>> graph.names(None), graph.links
-    ({'1': 'a', '2': 'b'}, [Link(one='1', other='2', is_directed=False, said={'w': '3'})])
+    ({'1': 'a', '2': 'b'}, [Link(one='1', other='2', is_directed=False, said={'w': '3'}, way='')])
     """
     whole = pairs_of(text)
     graphs = [it for it in whole if it.key == "graph" and not isinstance(it.value, str)]

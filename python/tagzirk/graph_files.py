@@ -9,6 +9,7 @@ from typing import Dict, List, Mapping, NamedTuple, Optional, Tuple
 from .errors import BadDump
 from .limits import need_few
 from .values import Said, Scalar, Views
+from .written import Written
 
 # How many names a message tells.
 MOST_TOLD = 4
@@ -19,12 +20,14 @@ WRITTEN_BY, WRITTEN_AT = "written by", "written at"
 
 
 class Link(NamedTuple):
-    """A link of two hosts by their keys, or if it has a direction a listing; and what is said of it."""
+    """A link of two hosts by their keys, or if it has a direction a listing; what is said of it, and how it is
+    written."""
 
     one: str
     other: str
     is_directed: bool
     said: Said
+    way: str = ""
 
 
 class Graph:
@@ -46,13 +49,15 @@ class Graph:
         need_few(len(self.hosts), "hosts")
         self.hosts[key] = dict(said or {})
 
-    def link(self, one: str, other: str, is_directed: bool = False, said: Optional[Said] = None) -> None:
-        """A link, or a listing of the first end."""
+    def link(
+        self, one: str, other: str, is_directed: bool = False, said: Optional[Said] = None, way: str = ""
+    ) -> None:
+        """A link, or a listing of the first end, and how it is written."""
         if self.is_open:
             for key in (one, other):
                 self.hosts.setdefault(key, {})
         need_few(max(len(self.links), len(self.hosts)), "links")
-        self.links.append(Link(one, other, is_directed, said or {}))
+        self.links.append(Link(one, other, is_directed, said or {}, way))
 
     def pass_over(self, what: str, value: Scalar) -> None:
         """Something stands in the file that says neither a host nor a link, and belongs to none."""
@@ -92,12 +97,15 @@ class Graph:
             views.enter(name, self.hosts[key])
         # one after the other goes, so that they do not stand there twice
         links, self.links = self.links[::-1], []
+        written = Written(views)
         while links:
             link = links.pop()
             gone = next((end for end in link[:2] if end not in names), None)
             if gone is not None:
                 raise BadDump(f"a link has the end {gone}, which is no node")
+            written.next_is(link.way)
             views.edge(names[link.one], names[link.other], link.is_directed, link.said)
+        written.tell()
         return views
 
     def names(self, by: Optional[str]) -> Dict[str, str]:

@@ -2,6 +2,7 @@
 
 from __future__ import annotations
 
+import collections
 import csv
 import datetime
 import io
@@ -10,7 +11,8 @@ import re
 from dataclasses import dataclass, field
 from typing import IO, Any, Dict, List, Optional, Sequence, Tuple
 
-from .dumps import Options, read_dump
+from .account import LEFT
+from .dumps import MOST_APART, Options, in_units, read_dump
 from .errors import LibraryMissing, in_words
 from .graphs import shown
 from .outputs import write
@@ -23,6 +25,7 @@ from .taken import doubts_in
 STAMP = re.compile(
     r"(?<!\d)(20\d\d)-?([01]\d)-?([0-3]\d)(?:[T_ .-]?([0-2]\d)[:h._-]?([0-5]\d)(?:[:m._-]?([0-5]\d))?)?" r"(Z)?(?!\d)"
 )
+NUMBERS = re.compile("[0-9]+")
 EPOCH = re.compile(r"(?<!\d)(1\d{9})(?!\d)")
 # How a picture begins; by this line it is known again.
 SVG = '<?xml version="1.0" encoding="utf-8" standalone="no"?><!-- tagzirk history -->'
@@ -146,12 +149,12 @@ def history(
     >>> str(moments[1].time - moments[0].time)
     '1:00:00'
     """
-    answers: Dict[str, Report[str]] = {}
+    answers, odd = {}, odd_files(files)  # type: Dict[str, Report[str]], Dict[str, List[str]]
 
     def moment(taken: Tuple[str, Optional[datetime.datetime]]) -> Moment:
         file, time = taken
         try:
-            dump = read_dump([file], options, overlay=overlay)
+            dump = read_dump([file], options.living, overlay=overlay)
             # a dump that says what an earlier one said is not analysed again
             graph, known = dump.graph, answers.get(dump.graph_file)
             report = known or analysed(graph, overlay=overlay, overlay_check=overlay_check)
@@ -160,10 +163,28 @@ def history(
             # a moment that can't be read is a row too
             return Moment(time, file, fault=in_words(why))
         numbers = len(graph.ids), len(graph.links), report.k, report.cut, dump.one_sided, dump.without_entry
-        return Moment(time, file, *numbers, doubts=tuple(doubts_in(dump.notes)))
+        return Moment(time, file, *numbers, doubts=(*doubts_in(dump.notes), *odd.get(file, ())))
 
     times = sorted(times_of(files).items(), key=lambda it: (it[1] is None, it[1].timestamp() if it[1] else 0))
     return list(each_at_once(moment, times, workers or processors(), "dump", progress))
+
+
+def odd_files(files: Sequence[str]) -> Dict[str, List[str]]:
+    """What the names and the ages of some files say beside, of several: a name that is not as most are, but for
+    numbers; or a last change that is far from the time in the name, where that of most is near."""
+    shapes = {file: NUMBERS.sub("0", os.path.basename(file)) for file in files}
+    usual, count = collections.Counter(shapes.values()).most_common(1)[0] if files else ("", 0)
+    said = {file: (time_in(os.path.basename(file)), changed(file)) for file in files}
+    apart = {file: abs((then - now).total_seconds()) for file, (then, now) in said.items() if then and now}
+    late = [file for file, seconds in apart.items() if seconds > MOST_APART]
+    found: Dict[str, List[str]] = {}
+    for file in files if 2 * count > len(files) else ():
+        if shapes[file] != usual:
+            found.setdefault(file, []).append(f"{LEFT}: its name is not as {usual}, as most are but for numbers")
+    for file in late if 2 * len(late) < len(files) else ():
+        told = f"{LEFT}: it was changed {in_units(apart[file])} from the time in its name, and most others were not"
+        found.setdefault(file, []).append(told)
+    return found
 
 
 def write_rows(moments: Sequence[Moment], to: IO[str]) -> None:

@@ -2,11 +2,26 @@
 
 from __future__ import annotations
 
+import contextlib
 from typing import Any, Dict, List, NamedTuple, Optional, Sequence, Set
 
 from .asked import Asked
 from .errors import BadDump
-from .values import PEER_KEYS, Said, Scalar, Views, is_list_of_names, items_of, key_in, one_of, said_of, short, text_in
+from .values import (
+    PEER_KEYS,
+    Said,
+    Scalar,
+    Views,
+    at_path,
+    is_list_of_names,
+    items_of,
+    key_in,
+    one_of,
+    said_of,
+    short,
+    text_in,
+)
+from .written import KEY, LIST, Written, way_of
 
 
 # What a further list says of each peer that it names.
@@ -18,10 +33,11 @@ class SeveralLists(BadDump):
 
 
 class Entry(NamedTuple):
-    """A host, and what stands there of it: the list of its peers, or an object that has it."""
+    """A host, and what stands there of it: the list of its peers, or an object that has it; and how it is written."""
 
     name: str
     value: Any
+    way: str = ""
 
 
 class Lists(NamedTuple):
@@ -41,31 +57,50 @@ def enter_all(views: Views, entries: Sequence[Entry], asked: Asked) -> None:
         if it.name in hosts:
             raise BadDump(f"the host {it.name} stands there twice")
         hosts.add(it.name)
+    written = Written(views)
     if not asked.peers and is_peers_by_peers(entries, hosts):
         for it in entries:
-            enter(views, it.name, {}, it.value, {}, asked)
+            enter(views, Host(it, "", {}, it.value, {}), asked, written)
         return
     said = [lists_of(it, hosts, asked) if isinstance(it.value, dict) else None for it in entries]
     demand_one_list([it for it in said if it], asked)
     for it, lists in zip(entries, said):
         if lists is None:
-            enter(views, it.name, {}, it.value, {}, asked)
+            enter(views, Host(it, LIST if it.value else "nobody", {}, it.value, {}), asked, written)
         else:
             of_host = said_of(it.value, lists.key or "", *lists.others, *lists.used)
-            enter(views, it.name, of_host, lists_in(it.value)[lists.key] if lists.key else None, lists.beside, asked)
+            peers = at_path(it.value, lists.key) if lists.key else None
+            enter(views, Host(it, lists.key or "nobody", of_host, peers, lists.beside), asked, written)
             for key in lists.others:
                 views.pass_over(key, text_in(lists_in(it.value)[key]))
+    written.tell()
 
 
-def enter(
-    views: Views, name: str, of_host: Said, peers: Any, beside: Dict[str, Dict[str, Scalar]], asked: Asked
-) -> None:
-    """Takes in a host, what is said of it, its list of peers, and what is said of each elsewhere."""
+class Host(NamedTuple):
+    """A host: its entry, the key of its list of peers, or what it has in the place of one; what is said of it, its
+    peers, and what is said of each of these elsewhere."""
+
+    entry: Entry
+    key: str
+    said: Said
+    peers: Any
+    beside: Dict[str, Dict[str, Scalar]]
+
+
+def enter(views: Views, host: Host, asked: Asked, written: Written) -> None:
+    """Takes in a host and its listings."""
+    name, peers = host.entry.name, host.peers
     if isinstance(peers, (str, int, float)):
         raise BadDump(f"the entry of {name} is no list of peers: {short(peers)}")
-    views.enter(name, of_host)
-    for peer, said in items_of(peers, asked.by):
-        more = {field: values[peer] for field, values in beside.items() if peer in values}
+    written.next_is(host.key + host.entry.way)
+    views.enter(name, host.said)
+    listed = peers if isinstance(peers, list) else ()
+    ways = [way_of(it, asked.by) for it in listed if it is not None]
+    if len(ways) < len(listed):
+        views.pass_over("null among peers", f"of {name}")
+    for at, (peer, said) in enumerate(items_of(peers, asked.by)):
+        more = {field: values[peer] for field, values in host.beside.items() if peer in values}
+        written.next_is(ways[at] if ways else KEY)
         views.listing(name, peer, {**said, **more})
 
 
@@ -106,6 +141,10 @@ def lists_of(entry: Entry, hosts: Set[str], asked: Asked) -> Lists:
     """Which of the lists of a host has its peers: that which is asked for, or the first that is called so. Any other
     list that names hosts, and not just the same ones, may be meant too."""
     lists = lists_in(entry.value)
+    if asked.peers and asked.peers not in lists:
+        with contextlib.suppress(KeyError):
+            deep = at_path(entry.value, asked.peers)
+            lists.update({asked.peers: deep} if isinstance(deep, (list, dict)) else {})
     names = {key: names_in(it, hosts, asked.by) for key, it in lists.items()}
     called = [it for key in PEER_KEYS if key in lists for it in opened(key, names, hosts)]
     key = (asked.peers if asked.peers in lists else None) if asked.peers else called[0] if called else None

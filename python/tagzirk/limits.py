@@ -4,6 +4,7 @@ time or memory, and not read half."""
 from __future__ import annotations
 
 import zlib
+from typing import List, Optional
 
 from .errors import BadDump
 
@@ -14,6 +15,8 @@ MOST = 600_000
 MOST_IMPLIED = 100_000
 # How many bytes a packed dump may have when it is unpacked.
 MOST_UNPACKED = 2_000_000
+# How many bytes of the begin of a packed file are looked at.
+MOST_HEAD = 70_000
 # How many bytes of YAML are read where libyaml is not there, in Python alone.
 MOST_SLOW_YAML = 300_000
 # How deep values may be nested.
@@ -40,8 +43,9 @@ def need_declarable(count: int) -> None:
         raise BadDump(f"it declares {count:,} hosts; a graph has at most 1,024")
 
 
-def unpacked(data: bytes) -> bytes:
-    """What gzip has packed, of one file or of several, one behind the other.
+def unpacked(data: bytes, heads: Optional[List[bytes]] = None) -> bytes:
+    """What gzip has packed, of one file or of several, one behind the other. How each of them begins is put into a list
+    of heads.
 
     >>> import gzip
     >>> unpacked(gzip.compress(b"a b") + gzip.compress(b" c"))
@@ -50,6 +54,8 @@ def unpacked(data: bytes) -> bytes:
     found = bytearray()
     try:
         while data:
+            if heads is not None:
+                heads.append(data[:MOST_HEAD])
             packer = zlib.decompressobj(16 + zlib.MAX_WBITS)
             found += packer.decompress(data, MOST_UNPACKED + 1 - len(found))
             if len(found) > MOST_UNPACKED:

@@ -15,6 +15,7 @@ from .registers import demand_links
 from .rows import LIST, NUMBER, Row, rows_of, unquoted
 from .tables import of_table, table_of
 from .values import Scalar, Views
+from .written import Written
 
 # An arrow, or a line, between two names; a line of two marks needs space around it, since names may have such.
 ARROW = re.compile(r" ?(<-{1,3}>|<=>|-{1,3}>|={1,2}>) ?| (-{2,3}) ")
@@ -145,6 +146,7 @@ def is_weighted(rows: List[Row]) -> bool:
 def of_weighted(rows: List[Row], is_directed: bool = False) -> Views:
     """Lines of two names, with or without a number behind them; each a link, or a listing of the first name."""
     views, has_weights = Views(), False
+    written = Written(views)
     for row in rows:
         words = words_of(row)
         if len(words) < 2 or not all(words) or not all(map(NUMBER.fullmatch, words[2:])):
@@ -154,7 +156,9 @@ def of_weighted(rows: List[Row], is_directed: bool = False) -> Views:
             )
         has_weights = has_weights or len(words) > 2
         said: Dict[str, Scalar] = {str(at): word for at, word in enumerate(words[2:], 3)}
+        written.next_is(way_of(row))
         views.edge(words[0], words[1], is_directed, {**said, **said_behind(row)})
+    written.tell()
     views.kind = "lines of two names" + ", each a listing" * is_directed
     views.kind += ", whose weights are passed over" * has_weights
     return views
@@ -175,11 +179,14 @@ def of_arrows(rows: List[Row]) -> Views:
     """Names with arrows between them; of a chain each arrow is by itself."""
     views = Views("lines of names with an arrow: a -> b says that a lists b")
     chains = [chain_of(row.text) for row in rows]
+    written = Written(views)
     all_arrows = {arrow for chain in chains for arrow in chain.arrows}
     for row, chain in zip(rows, chains):
         for one, arrow, other in zip(chain.names, chain.arrows, chain.names[1:]):
             said = {**said_behind(row), **({"arrow": arrow} if len(all_arrows) > 1 else {})}
+            written.next_is(way_of(row))
             views.edge(one, other, arrow.endswith(">") and not arrow.startswith("<"), said)
+    written.tell()
     if all(it.startswith("<") or not it.endswith(">") for it in all_arrows):
         views.kind = "lines of two names, each a link"
     return views
@@ -188,8 +195,16 @@ def of_arrows(rows: List[Row]) -> Views:
 def of_pairs(rows: List[Row]) -> Views:
     """Two names in brackets on each line."""
     views = Views("two names on a line, in brackets, each line a link")
+    written = Written(views)
     for row in rows:
         said = PAIR.fullmatch(row.text)
         if said:
+            written.next_is(way_of(row))
             views.link(said[2], said[4], said_behind(row))
+    written.tell()
     return views
+
+
+def way_of(row: Row) -> str:
+    """How a line is written: with a sign at its end or not."""
+    return f"a line that ends with {row.text[-1]}" if row.text[-1] in ";," else "a line"

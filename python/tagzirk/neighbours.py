@@ -11,9 +11,12 @@ from .graph_files import Graph
 from .limits import need_declarable
 from .rows import LIST, Row
 from .values import Said, Views
+from .written import Written
 
 
 LGL, METIS = "LGL", "METIS"
+# What may stand between two names on a line.
+BETWEEN = re.compile(r"\s*,\s*|\s+")
 
 
 def is_adjacency(rows: List[Row]) -> bool:
@@ -31,22 +34,39 @@ def of_adjacency(rows: List[Row]) -> Views:
     has_colons = all(LIST.fullmatch(row.text) for row in rows)
     views, lists = Views("lists of neighbours"), {}  # type: Views, Dict[str, List[str]]
     behind: Dict[str, Said] = {}
+    written, ways = Written(views), {}  # type: Written, Dict[str, str]
     for row in rows:
         said = LIST.fullmatch(row.text) if has_colons else None
         name, *peers = [said[1], *re.split(r"\s*,\s*|\s+", said[2] or "")] if said else row.words
         if name in lists:
             raise BadDump(f"line {row.number}: {name} has a list already")
         lists[name], behind[name] = [it for it in peers if it], said_behind(row)
+        ways[name] = way_of((said[2] or "") if said else row.text[len(name) :].strip(" \t,"))
+        if "" in peers[:-1]:
+            views.pass_over("nothing between commas", f"line {row.number}")
     sets = {name: set(peers) for name, peers in lists.items()}
     is_answered = any(name in sets.get(peer, ()) for name, peers in lists.items() for peer in peers)
     is_each_once = not has_colons and not is_answered
     for name, peers in lists.items():
         views.enter(name, behind[name])
         for peer in peers:
+            written.next_is(ways[name])
             views.edge(name, peer, not is_each_once) if peer in lists else views.listing(name, peer)
+    written.tell()
     if is_each_once and any(lists.values()):
         views.kind += ", in which each link stands once, as networkx writes them"
     return views
+
+
+def way_of(peers: str) -> str:
+    """How the peers on a line are written: with which sign between them. One alone has none.
+
+    >>> way_of("b, c d"), way_of("b")
+    ('names with a comma and a blank', '')
+    """
+    found = BETWEEN.findall(peers)
+    signs = {"a comma" if "," in it else "a tab" if it[0] == "\t" else "a blank" for it in found}
+    return f"names with {' and '.join(sorted(signs, reverse=True))}" if signs else ""
 
 
 def multiline(rows: List[Row]) -> Optional[Graph]:

@@ -13,7 +13,7 @@ COMMENT, ATTRIBUTES = re.compile(r"(^|\s)#.*"), re.compile(r"\s\{")
 # What begins a line that is a comment in some forms, if white space follows, and no word.
 MARKS = ("//", "%", ";", "--")
 # What a comment has that says anything.
-WORDS = re.compile(r"\w")
+WORDS = re.compile(r"[\w\x80-\U0010ffff]")
 # A word, or a text in quotes; with what may stand between two.
 WORD = re.compile(r"\"([^\"]*)\"(?=[\s,;]|$)|'([^']*)'(?=[\s,;]|$)|([^\s,;\"'][^\s,;]*)")
 
@@ -51,7 +51,8 @@ def rows_of(text: str) -> List[Row]:
         at = ATTRIBUTES.search(bare) if bare.endswith("}") else None
         if bare and not is_comment(bare):
             text, attributes = (bare[: at.start()].rstrip(), bare[at.start() :].strip()) if at else (bare, "")
-            rows.append(Row(number, text, attributes, found[0].strip(" \t\r#") if found else ""))
+            comment = (found[0].strip(" \t\r#") or "#") if found else ""
+            rows.append(Row(number, text, attributes, comment))
     return rows
 
 

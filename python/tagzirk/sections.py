@@ -3,9 +3,10 @@ writes as `plain`, and DIMACS and Matrix Market, which number their hosts."""
 
 from __future__ import annotations
 
+import collections
 import csv
 import re
-from typing import Dict, Iterator, List, NamedTuple, Optional, Sequence, Set
+from typing import Counter, Dict, Iterator, List, NamedTuple, Optional, Sequence, Set
 
 from .errors import BadDump
 from .graph_files import Graph
@@ -14,6 +15,8 @@ from .values import Scalar
 
 # What `dot -Tplain` says of each node behind its name.
 OF_PLAIN = ("x", "y", "width", "height", "label", "style", "shape", "color", "fillcolor")
+# What DIMACS calls its problems.
+OF_DIMACS = ("edge", "edges", "col", "sp", "max", "min", "mat", "cep", "tw")
 # A word, or a text in quotes.
 WORD = re.compile(r'"[^"]*"|[^ \t\r\f\v"]+')
 
@@ -81,13 +84,21 @@ def need_words(line: Line, count: int) -> List[str]:
     return words
 
 
+def nth(section: str, begun: Counter[str]) -> str:
+    """How a section is told that begins: by its name, and which of this name it is."""
+    begun[section] += 1
+    return section if begun[section] == 1 else f"{section} {begun[section]}"
+
+
 def pajek(text: str) -> Graph:
     """Pajek: `*Vertices`, then `*Edges` for links, `*Arcs` for listings; or both as lists. Labels are names."""
     graph, section, told = Graph("Pajek", label="label"), "", set()  # type: Graph, str, Set[str]
+    way, begun = "", collections.Counter()  # type: str, Counter[str]
     relation: Dict[str, Scalar] = {}
     for line in lines_of(text, "%", graph):
         if line.text.startswith("*"):
             section, behind = line.words[0].lower(), " ".join(line.words[1:])
+            way = nth(section, begun)
             relation = {"section": behind} if behind else {}
             if section == "*vertices":
                 counts = Line(line.number, line.text[len(section) :]).numbers(1)
@@ -103,18 +114,13 @@ def pajek(text: str) -> Graph:
             continue
         words = line.words
         if section == "*vertices":
-            if words[0] not in graph.hosts:
-                raise BadDump(f"{line.place}{words[0][:40]} is not one of the {len(graph.hosts)} vertices")
-            if words[0] in told:
-                raise BadDump(f"{line.place}the host {words[0]} stands there twice")
-            told.add(words[0])
-            graph.hosts[words[0]].update({"label": words[1]} if len(words) > 1 else {}, **rest(words[2:]))
+            vertex(graph, line, told)
         elif section in ("*edges", "*arcs"):
             words = need_words(line, 2)
-            graph.link(words[0], words[1], section == "*arcs", {**rest(words[2:]), **relation})
+            graph.link(words[0], words[1], section == "*arcs", {**rest(words[2:]), **relation}, way)
         elif section in ("*edgeslist", "*arcslist"):
             for other in words[1:]:
-                graph.link(words[0], other, section == "*arcslist", relation)
+                graph.link(words[0], other, section == "*arcslist", relation, way)
         else:
             raise BadDump(f"{line.place}a line of Pajek stands before any section")
     lacking = next((it for it in graph.hosts if told and it not in told), None)
@@ -123,14 +129,27 @@ def pajek(text: str) -> Graph:
     return graph
 
 
+def vertex(graph: Graph, line: Line, told: Set[str]) -> None:
+    """Takes in the line of a vertex of Pajek, which has but one."""
+    words = line.words
+    if words[0] not in graph.hosts:
+        raise BadDump(f"{line.place}{words[0][:40]} is not one of the {len(graph.hosts)} vertices")
+    if words[0] in told:
+        raise BadDump(f"{line.place}the host {words[0]} stands there twice")
+    told.add(words[0])
+    graph.hosts[words[0]].update({"label": words[1]} if len(words) > 1 else {}, **rest(words[2:]))
+
+
 def lemon(text: str) -> Graph:
     """LEMON: `@nodes`, `@arcs` and `@edges`, each a table with a header. The column `label` has the keys of hosts."""
     graph, section = Graph("LEMON"), ""
+    way, begun = "", collections.Counter()  # type: str, Counter[str]
     header: Optional[List[str]] = None
     for line in lines_of(text, "#", graph):
         words = line.words
         if line.text.startswith("@"):
             section, header = words[0].lower(), None
+            way = nth(section, begun)
             for word in words[1:]:
                 graph.pass_over(section, word)
         elif section not in ("@nodes", "@arcs", "@edges"):
@@ -144,7 +163,7 @@ def lemon(text: str) -> Graph:
             graph.host(said.pop("label"), said, line.place)
         else:
             words = need_words(line, 2)
-            graph.link(words[0], words[1], section == "@arcs", rest(words[2:], header))
+            graph.link(words[0], words[1], section == "@arcs", rest(words[2:], header), way)
     graph.drop_numbers("label")
     return graph
 
@@ -158,6 +177,7 @@ def leda(text: str) -> Graph:
     if len(lines) <= at:
         raise BadDump("its LEDA has a head alone: is it torn?")
     count = lines[at].numbers(1, 1)[0]
+    graph.beside += [("types", it.text) for it in lines[1:3] if not re.fullmatch("[a-z]+", it.text)]
     need_declarable(count)
     for number, line in enumerate(lines[at + 1 : at + 1 + count], 1):
         label = line.text[2:-2]
@@ -179,14 +199,17 @@ def leda(text: str) -> Graph:
 
 def gdf(text: str) -> Graph:
     """GDF: `nodedef>` and `edgedef>`, each a table of CSV whose header has types."""
-    graph = Graph("GDF")
+    graph, way, begun = Graph("GDF"), "", collections.Counter()  # type: Graph, str, Counter[str]
     names: List[str] = []
     is_nodes = True
     for line in lines_of(text, "#", graph):
         head = re.match("(nodedef|edgedef)>", line.text, re.IGNORECASE)
         if head:
             is_nodes = head[1].lower() == "nodedef"
-            names = [it.split()[0] if it.split() else "" for it in line.text[head.end() :].split(",")]
+            way = nth(head[1].lower(), begun)
+            columns = [it.split() for it in line.text[head.end() :].split(",")]
+            names = [it[0] if it else "" for it in columns]
+            graph.beside += [("columns", " ".join(it)) for it in columns if len(it) > 2]
             continue
         try:
             cells = next(csv.reader([line.text], strict=True, skipinitialspace=True))
@@ -201,7 +224,9 @@ def gdf(text: str) -> Graph:
         if is_nodes:
             graph.host(ends[0], said, line.place)
         else:
-            graph.link(ends[0], ends[1], str(said.pop("directed", "")).lower() in ("true", "1"), said)
+            said_directed = str(said.pop("directed", "")).lower()
+            told = f"{way}, directed {said_directed}" if said_directed else way
+            graph.link(ends[0], ends[1], said_directed in ("true", "1"), said, told)
     return graph
 
 
@@ -286,6 +311,7 @@ def dimacs(text: str) -> Graph:
         words = line.words
         if words[0] == "p" and not counts:
             counts = Line(line.number, " ".join(words[2:])).numbers(2)
+            graph.beside += [("problem", words[1])] if words[1] not in OF_DIMACS else []
             number_hosts(graph, counts[0])
         elif words[0] in ("e", "a"):
             words = need_words(line, 3)
@@ -309,6 +335,7 @@ def matrix_market(text: str) -> Graph:
     if len(kinds) < 4 or kinds[:2] != ["matrix", "coordinate"]:
         raise BadDump("of Matrix Market the kind `matrix coordinate` is read")
     graph, counts = Graph("Matrix Market"), []  # type: Graph, List[int]
+    graph.beside += [("header", " ".join(kinds[4:]))] if kinds[4:] else []
     for line in lines_of(text.partition("\n")[2], "%", graph):
         if not counts:
             counts = line.numbers(3, 3)

@@ -131,6 +131,7 @@ HOW: Dict[str, str] = {
     "--at-least": "--at-least 2 asks whether any single crash is survived",
     "--graph": "--graph GRAPHFILE names the file to write",
     "--svg": "--svg PICTURE names the file to write",
+    "--html": "--html PAGE names the file to write, and --html - prints it",
     "--columns": "--columns FROM,TO names two columns, with a comma between",
     "--most-links": "--most-links 2 gives no host more than two links",
     "KIND": "tinc and yggdrasil are the kinds",

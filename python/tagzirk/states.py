@@ -11,6 +11,7 @@ import re
 from typing import AbstractSet, Callable, Dict, Optional, Sequence, Set
 
 from .fields import MISSING, Field, text_of, words_of
+from .written import REPEATED, WRITTEN
 
 # Words of a field's name that say a state, the time of a last contact, or when something began.
 STATE_NAMES = frozenset(
@@ -102,6 +103,12 @@ def is_kind(field: Field, names: AbstractSet[str]) -> bool:
 def state_words(text: str) -> Set[str]:
     """The words of a value that say a state."""
     return words_of(text) & STATE_WORDS
+
+
+def by_writing(field: Field) -> Optional[Kind]:
+    """How something is written, and how often, is no state by itself, but for words of one: it is for the account."""
+    is_plain = not is_pair({it.casefold() for it in field.counts}) and not any(map(state_words, field.counts))
+    return Kind.NONE if field.name in (WRITTEN, REPEATED) and is_plain else None
 
 
 def by_one_value(field: Field) -> Optional[Kind]:
@@ -242,6 +249,7 @@ def by_few(field: Field) -> Optional[Kind]:
 
 
 RULES: Sequence[Callable[[Field], Optional[Kind]]] = (
+    by_writing,
     by_one_value,
     by_contact,
     by_words,

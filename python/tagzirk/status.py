@@ -90,7 +90,7 @@ def status(
     >>> less.report.cut, less.left_out
     (('c.x',), ('a.x',))
     """
-    dump = read_dump(places, options._replace(entries=True), overlay=overlay)
+    dump = read_dump(places, options.living, overlay=overlay)
     whole = dump.graph
     left_out = hosts_of(without, list(whole.ids), "--without")
     members = None if group is None else members_of(group, whole, left_out)
@@ -100,7 +100,7 @@ def status(
 
     graph = whole.without({whole.ids[it] for it in left_out})
     report = ask(graph)
-    has_dead = bool(dump.without_entry) and not options.entries
+    has_dead = bool(dump.without_entry) and options.entries is None
     dead = with_dead(partial(read_dump, places, options, overlay=overlay), whole, left_out, ask) if has_dead else None
     found = None
     if members is None:

@@ -6,13 +6,15 @@ import csv
 import io
 import itertools
 import re
-from typing import Dict, Iterable, List, NamedTuple, Optional, Sequence, Tuple
+from typing import Dict, Iterable, List, NamedTuple, Optional, Sequence, Set, Tuple
 
 from .beside import said_behind
+from .cells import peers_in_cell
 from .errors import BadDump
 from .limits import need_few
 from .rows import rows_of
 from .values import HOST_FIELDS, LINK_ENDS, LISTING_ENDS, Said, Scalar, Views
+from .written import Written
 
 # What a column is called that has all peers of a host in one cell.
 MANY_FIELDS = ("peers", "neighbors", "neighbours", "links", "connections", "active_view")
@@ -130,6 +132,7 @@ def drawn_table(text: str) -> Optional[Table]:
     is_framed = lines[head][1].strip()[0] == lines[head][1].strip()[-1] == "|"
     table, is_below = Table("a table", split_drawn(lines[head][1], is_framed), [], [], {}), False
     table.beside.extend(("title", line.strip()) for at, (_, line) in enumerate(lines[:head]) if at not in rules)
+    table.beside.extend(rules_within(lines, rules, head))
     for place in range(head + 1, len(lines)):
         number, line = lines[place]
         if place in rules:
@@ -143,6 +146,14 @@ def drawn_table(text: str) -> Optional[Table]:
             raise BadDump(f"line {number} is no row of the table above it: {line.strip()[:60]}")
         table.rows.append((number, cells))
     return table
+
+
+def rules_within(lines: List[Tuple[int, str]], rules: Set[int], head: int) -> List[Tuple[str, str]]:
+    """The lines that are drawn between some rows below the header, and not between all."""
+    rows = [place for place, (_, line) in enumerate(lines) if place > head and place not in rules and "|" in line]
+    parted = [place for place, before in zip(rows[1:], rows) if place - before > 1]
+    is_each = len(parted) == len(rows) - 1
+    return [] if is_each else [("lines between rows", f"above line {lines[place][0]}") for place in parted]
 
 
 def footer_of(line: str, rows: int) -> List[Tuple[str, str]]:
@@ -252,6 +263,7 @@ def table_of(text: str, columns: Optional[str]) -> Optional[Tuple[Table, Ends]]:
 def of_table(table: Table, ends: Ends) -> Views:
     """What hosts list by a table."""
     views, repeated, names = Views(told_of(table, ends), [*table.beside]), 0, table.names
+    written = Written(views)
     views.columns = {str(at): it for at, it in enumerate(names, 1)}
     for number, cells in table.rows:
         if cells == table.header:
@@ -268,11 +280,12 @@ def of_table(table: Table, ends: Ends) -> Views:
         elif not one or not other:
             raise BadDump(f"line {number} lacks a name")
         elif ends.is_many:
-            enter_many(views, one, other, said)
+            enter_many(views, one, other, said, written)
         elif ends.is_listing:
             views.listing(one, other, said)
         else:
             views.link(one, other, said)
+    written.tell()
     if repeated:
         views.kind += f"; the header stands {repeated + 1} times"
     if not table.header:
@@ -288,12 +301,12 @@ def told_of_first(rows: Sequence[Tuple[int, List[str]]], ends: Ends) -> str:
     return f"; {' and '.join(first)} stand in line {rows[0][0]} alone: of a header say --columns {','.join(first)}"
 
 
-def enter_many(views: Views, name: str, cell: str, said: Dict[str, Scalar]) -> None:
-    """A host with all peers in one cell, as `n2;n3`, `{n2,n3}` or `["n2", "n3"]`."""
+def enter_many(views: Views, name: str, cell: str, said: Dict[str, Scalar], written: Written) -> None:
+    """A host with all peers in one cell."""
     views.enter(name, said)
-    for peer in re.split(r"[\s,;|]+", cell.strip("[]{}()")):
-        if peer.strip("\"'"):
-            views.listing(name, peer.strip("\"'"))
+    for peer in peers_in_cell(cell):
+        written.next_is(peer.way)
+        views.listing(name, peer.name)
 
 
 def said_in(cells: Sequence[str], header: Sequence[str], ends: Ends) -> Dict[str, Scalar]:

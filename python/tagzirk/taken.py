@@ -11,6 +11,7 @@ from .errors import BadDump
 from .fields import MISSING, Field, fields_of, moment_of, most_of, number_of, span_of, text_of
 from .states import STATE_NAMES, Kind, clearness, kind_of
 from .values import Scalar, Statement, Views, one_of
+from .written import tell_how_often
 
 # So many values of a field, and so many fields, are shown.
 MOST_SHOWN = 5
@@ -38,6 +39,7 @@ def taken_of(views: Views, asked: Asked) -> Tuple[Views, List[str]]:
     >>> taken_of(views, Asked(up=("state=up",)))[0].value
     {'a': ['b'], 'b': ['a'], 'c': []}
     """
+    tell_how_often(views)
     notes, settled = [], []
     for it in map(up_of, asked.up):
         field = field_of(views, it)

@@ -2,12 +2,11 @@
 
 from __future__ import annotations
 
-from typing import List, Tuple
+from typing import List, NamedTuple, Tuple
 
-from .account import LEFT
 from .errors import BadDump
-from .graphs import shown
 from .limits import GZIP, unpacked
+from .values import Scalar
 
 # So many characters of a text in the header of gzip are told.
 MOST_SHOWN = 200
@@ -25,17 +24,25 @@ PACKED = (
 )
 
 
-def text_of(data: bytes, skip: int = 0, name: str = "") -> Tuple[bytes, List[str]]:
-    """The bytes of a dump in UTF-8, and what is to be told of them: gzip is unpacked, UTF-16 that begins with its mark
-    is turned into UTF-8, and the first lines that are to be skipped are empty, so that the others keep their numbers.
+class Text(NamedTuple):
+    """The bytes of a dump in UTF-8, what is to be told of how they were read, and what stands beside them."""
 
-    >>> text_of(b"seen at noon\\na b\\n", skip=1)
-    (b'\\na b\\n', [])
+    data: bytes
+    told: List[str]
+    beside: List[Tuple[str, Scalar]]
+
+
+def text_of(data: bytes, skip: int = 0, name: str = "") -> Text:
+    """The text of a dump: gzip is unpacked, UTF-16 that begins with its mark is turned into UTF-8, and the first lines
+    that are to be skipped are empty, so that the others keep their numbers.
+
+    >>> text_of(b"seen at noon\\na b\\n", skip=1).data
+    b'\\na b\\n'
     """
-    told = []
+    told, heads = [], []  # type: List[str], List[bytes]
     if data.startswith(GZIP):
-        told += ["it was unpacked by gzip", *told_by_gzip(data, name)]
-        data = unpacked(data)
+        told.append("it was unpacked by gzip")
+        data = unpacked(data, heads)
     for begin, what in PACKED:
         if data.startswith(begin):
             raise BadDump(f"it is no text, and looks like {what}")
@@ -49,25 +56,26 @@ def text_of(data: bytes, skip: int = 0, name: str = "") -> Tuple[bytes, List[str
         raise BadDump(
             "it has zero bytes, as UTF-16 without a mark has: `iconv -f UTF-16LE -t UTF-8` turns it into UTF-8"
         )
-    return without_lines(data, skip), told
+    return Text(without_lines(data, skip), told, [it for head in heads for it in said_by_gzip(head, name)])
 
 
-def told_by_gzip(data: bytes, name: str) -> List[str]:
-    """What the header of gzip says beside: a comment, and the name of a file if it is not that of the dump.
+def said_by_gzip(data: bytes, name: str) -> List[Tuple[str, Scalar]]:
+    """What a header of gzip says beside: further fields, a comment, and the name of a file if it is not the dump's.
 
-    >>> told_by_gzip(b"\\x1f\\x8b\\x08\\x10" + bytes(6) + b"n3 is away\\0", "net.gz")
-    ['not read as states: comment of gzip (n3 is away)']
+    >>> said_by_gzip(b"\\x1f\\x8b\\x08\\x10" + bytes(6) + b"n3 is away\\0", "net.gz")
+    [('comment of gzip', 'n3 is away')]
     """
-    flags, at, found = data[3] if len(data) > 3 else 0, 10, []
+    flags, at, found = data[3] if len(data) > 3 else 0, 10, []  # type: int, int, List[Tuple[str, Scalar]]
     if flags & 4:
         at += 2 + int.from_bytes(data[10:12], "little")
+        found.append(("further field of gzip", data[12:at].decode("latin-1")[:MOST_SHOWN]))
     for bit, what in ((8, "name in gzip"), (16, "comment of gzip")):
         if flags & bit:
             text, _, _ = data[at:].partition(b"\0")
             at += len(text) + 1
             said = text.decode("latin-1")
             is_own = bit == 8 and f"{said}.gz" == name.rpartition("/")[2]
-            found += [f"{LEFT}: {what} ({shown(said[:MOST_SHOWN])})"] if said and not is_own else []
+            found += [(what, said[:MOST_SHOWN])] if said and not is_own else []
     return found
 
 

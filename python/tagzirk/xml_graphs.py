@@ -4,12 +4,14 @@ from __future__ import annotations
 
 import collections
 import re
-from typing import Dict, List, Optional, Tuple
+from typing import Dict, List, Optional, Set, Tuple
 from xml.parsers import expat
 
 from .errors import BadDump
+from .fields import words_of
 from .graph_files import NAME_OF_GRAPH, WRITTEN_AT, WRITTEN_BY, Graph
 from .limits import DEEPEST
+from .states import STATE_WORDS
 from .values import Scalar, both
 
 FORMS = {"graphml": "GraphML", "gexf": "GEXF", "gxl": "GXL", "directedgraph": "DGML", "graph": "XML"}
@@ -39,10 +41,10 @@ OF_FORM = ("version", "mode", "edgeids", *DIRECTED)
 
 
 class Item:
-    """A node or an edge that is being read: its attributes, and the fields that stand in it."""
+    """A node or an edge that is being read: its attributes, how these are written, and the fields that stand in it."""
 
-    def __init__(self, tag: str, line: int, attributes: Dict[str, str]) -> None:
-        self.tag, self.line, self.attributes = tag, line, attributes
+    def __init__(self, tag: str, line: int, attributes: Dict[str, str], written: List[str]) -> None:
+        self.tag, self.line, self.attributes, self.written = tag, line, attributes, written
         self.fields: Dict[str, Scalar] = {}
 
     def say(self, name: str, value: str) -> None:
@@ -65,9 +67,13 @@ class Reader:
         self.spaces: Dict[str, str] = {}
         self.item: Optional[Item] = None
         self.first, self.graphs, self.is_directed = "", 0, False
+        # how many elements for edges there were
+        self.parts = 0
         # the name of a field by its id, and its value where nothing is said; both by the kind of item
         self.fields: Dict[Tuple[str, str], str] = {}
         self.defaults: Dict[str, Dict[str, Scalar]] = {"node": {}, "edge": {}}
+        # the names of fields that something has
+        self.used: Set[str] = set()
         # the field that is declared, and the kinds of items that may have it
         self.key, self.kinds = "", [*self.defaults]
         # the fields whose values are being read, one in another, and whether the value is a text
@@ -84,6 +90,7 @@ class Reader:
         self.parser.CommentHandler = lambda text: self.leave("comments", text.strip())
         self.parser.ProcessingInstructionHandler = lambda name, text: self.leave(f"<?{name}", text.strip())
         self.parser.EntityDeclHandler = self.refuse_entity
+        self.parser.StartDoctypeDeclHandler = self.doctype
 
     def read(self, text: str) -> Graph:
         self.tags = tags_of(text)
@@ -93,6 +100,9 @@ class Reader:
             raise BadDump(f"it is no XML: {why}") from None
         if not self.graphs:
             raise BadDump(f"it is XML, and has no graph of nodes and edges: its first element is {self.first}")
+        for it in dict.fromkeys(self.fields.values()):
+            if it not in self.used and it not in self.of_graph.values():
+                self.graph.pass_over("declared", it)
         self.graph.drop_numbers("id")
         counts = (("nodes.count", str(len(self.graph.hosts))), ("edges.count", str(len(self.graph.links))))
         self.graph.beside = [it for it in self.graph.beside if it not in counts]
@@ -107,6 +117,11 @@ class Reader:
             self.item.say(what, value)
         else:
             self.graph.pass_over(what, value)
+
+    def doctype(self, name: str, place: Optional[str], *_: object) -> None:
+        """What a file says of its kind, if it is not the name of a form."""
+        if local(name) not in FORMS or words_of(place or "") & STATE_WORDS:
+            self.graph.pass_over("doctype", " ".join(filter(None, (name, place))))
 
     def refuse_entity(self, name: str, *_: object) -> None:
         raise BadDump(f"its XML declares the entity {name[:40]}, which is not read")
@@ -146,6 +161,7 @@ class Reader:
         space = [f"{it}={value}" for it, value in attributes.items()
                  if it.startswith("xmlns") and it in {"xmlns", *self.spaces} and self.spaces.get(it) != value]
         known = AROUND.get(self.first, OF_ALL)
+        self.parts += name in ("edges", "links")
         is_known = name in known and tag.rpartition(":")[0] in ("", *(it.rpartition(":")[0] for it in self.tags))
         is_item = name in (*NODES, *EDGES)
         self.strange.append(" ".join([tag, *space]) if space or self.path and not is_known and not is_item else "")
@@ -160,6 +176,7 @@ class Reader:
         self.strange.pop()
         text = "".join(texts).strip()
         if name == "default" and text:
+            self.used.add(self.key)
             for kind in self.kinds:
                 self.defaults[kind][self.key] = text
             if not self.kinds:
@@ -211,7 +228,7 @@ class Reader:
             raise self.fault(f"an element {name} stands outside of a graph")
         lower = {it.lower() if it.lower() in ("id", "source", "target") else it: attributes[it] for it in attributes
                  if it != "xmlns"}
-        self.item = Item(name, self.parser.CurrentLineNumber, lower)
+        self.item = Item(name, self.parser.CurrentLineNumber, lower, list(attributes))
         for it in (*self.strange, *[tag] * (tag not in self.tags)):
             if it:
                 self.item.say("element", it)
@@ -239,6 +256,7 @@ class Reader:
             return
         kind = "node" if self.item.tag in NODES else "edge"
         key = self.fields.get((kind, key), key) or around
+        self.used.add(key)
         self.values.append((key, "value" not in attributes))
         if "value" in attributes:
             self.item.say(key, attributes["value"])
@@ -261,13 +279,17 @@ class Reader:
         if not ends:
             raise BadDump(f"{place}an edge should have the attributes source and target")
         one, other = (item.attributes.pop(end) for end in ends)
+        called = [it for it in item.written if it.lower() in ends]
         ways = {it: item.attributes[it].lower() for it in ("directed", "type") if it in item.attributes}
         for it, way in ways.items():
             if way in (*YES, *NO):
                 del item.attributes[it]
         kinds = [*ways.values()]
         is_directed = next((it in YES for it in kinds if it in (*YES, *NO)), self.is_directed)
-        self.graph.link(one, other, is_directed, both(item.attributes, said))
+        told = [" and ".join(called), *["with capitals"] * any(it != it.lower() for it in called)]
+        told += [f"{it} {way}" for it, way in ways.items() if way in (*YES, *NO)]
+        told += [f"in part {self.parts}"] if self.parts > 1 else []
+        self.graph.link(one, other, is_directed, both(item.attributes, said), ", ".join(told))
 
 
 def tags_of(text: str) -> Tuple[str, ...]:
@@ -287,7 +309,7 @@ def xml_graph(text: str) -> Graph:
     """The graph that a text of XML says.
 
     >>> graph = xml_graph('<graph><node id="a"/><node id="b"/><edge source="a" target="b" weight="3"/></graph>')
-    >>> list(graph.hosts), graph.links
-    (['a', 'b'], [Link(one='a', other='b', is_directed=False, said={'weight': '3'})])
+    >>> list(graph.hosts), graph.links[0].said, graph.links[0].way
+    (['a', 'b'], {'weight': '3'}, 'source and target')
     """
     return Reader().read(text)

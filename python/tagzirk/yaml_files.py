@@ -8,7 +8,9 @@ import re
 from typing import Any, Dict, List, NamedTuple, Optional, Set, Tuple, Union
 
 from .errors import BadDump, LibraryMissing
+from .fields import words_of
 from .limits import DEEPEST, MOST_SLOW_YAML, need_few_implied
+from .states import STATE_WORDS
 from .values import Scalar
 
 NOTHING = ("", "~", "null", "Null", "NULL")
@@ -18,7 +20,12 @@ TAG = re.compile(r"!|tag:yaml\.org,2002:(?:str|int|float|bool|null|seq|map|set|t
 # How YAML begins, where the file's name does not say that it is YAML: an item of a list; a key with a list or an object
 # in brackets, which may go on in the next line; an object whose first key has no quotes.
 # A comment, with a word in it.
-COMMENT = re.compile(r"#[^\n]*\w[^\n]*")
+COMMENT = re.compile(r"#[^\n]*[\w\x80-\U0010ffff][^\n]*")
+# What stands above the values: directives, of which one that tells the version of YAML says nothing.
+BEGIN = re.compile(r"\ufeff?(?:[ \t]*(?:#[^\n]*)?\r?\n|%[^\n]*\n)*")
+DIRECTIVE = re.compile(r"^%(?!YAML 1\.[0-9]\s*$)[^\n]*", re.MULTILINE)
+# A text that needs no quotes.
+SIMPLE = re.compile(r"(?!(?:null|true|false|yes|no|on|off|y|n)$)[A-Za-z][\w.-]*", re.IGNORECASE)
 BRACKET = re.compile(r":\s*[\[{]")
 OBJECT = re.compile(r"\{\s*[^\s\"'{}\[\],:]+\s*:(?:\s.*)?")
 
@@ -55,6 +62,11 @@ class Reader:
         self.open: List[Open] = []
         self.anchors: Dict[str, Any] = {}
         self.aliases: Set[str] = set()
+        # what stands in the text beside its values: anchors of names, and tags
+        self.beside: List[Tuple[str, Scalar]] = []
+        # by whether they are keys: names in quotes that need none, and how many have none
+        self.quoted: Dict[bool, List[str]] = {True: [], False: []}
+        self.bare: Dict[bool, int] = {True: 0, False: 0}
         # where scalars begin and end in the text
         self.scalars: List[Tuple[int, int]] = []
         self.documents, self.implied = 0, 0
@@ -109,12 +121,21 @@ class Reader:
         value = None if is_plain and text in NOTHING else int(text) if is_number else text
         if event.anchor:
             self.anchors[event.anchor] = value
+            self.beside.append(("anchors", event.anchor))
+        if SIMPLE.fullmatch(text):
+            around = self.open[-1] if self.open else None
+            is_key = around is not None and isinstance(around.value, dict) and not around.keys
+            self.bare[is_key] += is_plain
+            self.quoted[is_key] += [] if is_plain else [text]
         self.put(value, text, line)
 
     def need_known(self, event: Any, line: int) -> None:
         """Refuses a tag that is not of YAML itself."""
         if event.tag and not TAG.fullmatch(event.tag):
             raise BadDump(f"line {line}: the tag {event.tag[:60]} is not read")
+        if event.tag:
+            tag = event.tag.replace("tag:yaml.org,2002:", "!!")
+            self.beside.append(("tags", f"{tag} {getattr(event, 'value', '')}"))
 
     def read(self, event: Any) -> None:
         """Takes in one event."""
@@ -149,7 +170,9 @@ def size_of(value: Any, so_far: int) -> int:
 
 
 def beside_in(text: str, reader: Reader) -> List[Tuple[str, Scalar]]:
-    """What stands in a text of YAML beside its values: comments, and names of anchors that nothing repeats."""
+    """What stands in a text of YAML beside its values: comments; directives, tags, and names of anchors that nothing
+    repeats, that stand for a name, or have a word of a state; and names in quotes that need none, if most of their kind
+    have none."""
     between, at = [], 0
     for begin, end in reader.scalars:
         # a text of several lines may end behind the line break that ends it
@@ -157,8 +180,13 @@ def beside_in(text: str, reader: Reader) -> List[Tuple[str, Scalar]]:
         between.append("\n" if text[begin:end].endswith("\n") else "")
         at = end
     found = COMMENT.findall("".join([*between, text[at:]]))
-    anchors = [it for it in reader.anchors if it not in reader.aliases]
-    return [("comments", it) for it in found] + [("anchors", it) for it in anchors]
+    above = BEGIN.match(text)
+    directives = [("directives", it.strip()) for it in DIRECTIVE.findall(above[0] if above else "")]
+    lists = [it for it, value in reader.anchors.items() if isinstance(value, (dict, list))]
+    anchors = [it for it in lists if it not in reader.aliases or words_of(it) & STATE_WORDS]
+    quoted = [it for is_key, names in reader.quoted.items() if 2 * len(names) < reader.bare[is_key] for it in names]
+    beside = [*reader.beside, *(("anchors", it) for it in anchors), *(("in quotes", it) for it in quoted)]
+    return [*(("comments", it) for it in found), *directives, *beside]
 
 
 def yaml_of(text: str, beside: Optional[List[Tuple[str, Scalar]]] = None) -> Any:

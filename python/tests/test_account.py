@@ -2,6 +2,7 @@
 dump of hosts and links alone has none. They need the program overlay."""
 
 import gzip
+import os
 import pathlib
 import re
 import tempfile
@@ -10,6 +11,7 @@ from tagzirk import Asked, TagzirkError
 from tagzirk.forms import FORMS, form_of
 from tagzirk.taken import doubts_in
 
+from . import hidden_states
 from .test_states import Dumps
 
 # A triangle of a, b and c in each form, with marks where something more may stand: of each its text, and what the note
@@ -221,7 +223,8 @@ CASES = [
         "arrow": ("---|odd|", "label is missing (2) or odd (1)"),
         "style": ("class a odd\n", "class (a odd)"),
     }),
-    ("folder", {"a.json": '{"peers": ["b", "c"]«host»}', "b.json": '["a", "c"]', "c.json": '["a", "b"]'}, {
+    ("folder", {"a.json": '{"peers": ["b", "c"]«host»}', "b.json": '{"peers": ["a", "c"]}',
+                "c.json": '{"peers": ["a", "b"]}'}, {
         "host": (', "z": 7', "z (missing: 2, 7: 1)"),
     }),
     ("folder", {"a.txt": "«line»b«behind»\nc\n", "b.txt": "a\nc\n", "c.txt": "a\nb\n"}, {
@@ -263,16 +266,50 @@ class Accounts(Dumps):
                     self.assertIn(told, found)
                     self.assertEqual(bool(told), bool(found), found)
 
+    def test_what_is_hidden_is_told(self):
+        dumps = [*hidden_states.HIDDEN, *hidden_states.PACKED]
+        self.assertEqual(len({it[0] for it in dumps}), len(dumps))
+        for name, text, told, *words in dumps:
+            with self.subTest(name):
+                self.assertIn(told, self.told(name, text, *(words or [{}])))
+
+    def test_the_same_without_what_is_hidden(self):
+        # each as its dump above, but for what hides a state
+        for name, text in hidden_states.PLAIN:
+            with self.subTest(name):
+                self.assertEqual(self.told(name, text, {}), "")
+
+    def test_files_of_very_different_age(self):
+        place = self.put("ages", {f"{it}.txt": "\n".join({*"abc"} - {it}) for it in "abc"})
+        for seconds, told in (200, []), (3 * 86400, ["not read as states: beside them older than other files "
+                                                     "(b.txt: by 3 days)"]):
+            newest = max(it.stat().st_mtime for it in pathlib.Path(place).iterdir())
+            os.utime(pathlib.Path(place, "b.txt"), (newest - seconds, newest - seconds))
+            self.assertEqual(doubts_in(self.read(place).notes), told)
+
+    def test_links_to_files(self):
+        place = pathlib.Path(self.put("linked", {"a": "b\n", "b": "a\n"}))
+        (place / "b").rename(self.room / "elsewhere")
+        (place / "b").symlink_to(self.room / "elsewhere")
+        self.assertIn(f"links to files (b to {self.room}/elsewhere", " ".join(doubts_in(self.read(str(place)).notes)))
+
+    def test_packed_files_of_a_folder(self):
+        place = pathlib.Path(self.put("packed", {"a": "b\n", "b": "a\n"}))
+        (place / "b").write_bytes(hidden_states.with_header(b"a\n", 16, b"b is away\0"))
+        doubts = " ".join(doubts_in(self.read(str(place)).notes))
+        self.assertIn("comment of gzip (b is away)", doubts)
+        self.assertIn("written as (a list: 1 (a), a list, it was unpacked by gzip: 1 (b))", doubts)
+
     def test_the_header_of_gzip_is_told(self):
         packed = gzip.compress(b"a b\nb c\na c\n", mtime=0)
         for flags, more, told in ((0, b"", ""), (8, b"net.edges\0", ""), (8, b"odd\0", "name in gzip (odd)"),
                                   (16, b"odd\0", "comment of gzip (odd)"),
-                                  (28, b"\1\0xnet.edges\0odd\0", "comment of gzip (odd)")):
+                                  (28, b"\1\0xnet.edges\0odd\0", "further field of gzip (x), comment of gzip (odd)")):
             place = self.room / "net.edges.gz"
             place.write_bytes(packed[:3] + bytes([flags]) + packed[4:10] + more + packed[10:])
             with self.subTest(flags=flags, more=more):
                 doubts = doubts_in(self.read(str(place)).notes)
-                self.assertEqual(doubts, [f"not read as states: {told}"] if told else [])
+                self.assertEqual(doubts, [f"not read as states: beside them {told}"] if told else [])
 
     def test_what_does_not_fit_is_refused(self):
         for name, text, told in (

@@ -53,8 +53,13 @@ class Yggdrasil(Commands):
 
     def test_a_peer_that_is_down_is_no_peer(self):
         self.daemon("one", "k1", [{"key": "k2", "up": True}, {"key": "k3", "up": False}, {"key": "", "up": False}])
-        out, _, _ = self.tagzirk("collect", "yggdrasil", "one")
+        out, err, _ = self.tagzirk("collect", "yggdrasil", "one")
         self.assertEqual(json.loads(out), {"k1": ["k2"]})
+        self.assertEqual(err, "k1: peers that are not up are no peers here: k3, a peer\n")
+        self.daemon("two", "k2", [{"key": it, "up": it == "k1"} for it in ("k1", "k3", "k4", "k5", "k6", "k7")])
+        out, err, _ = self.tagzirk("collect", "yggdrasil", "one", "rome=two")
+        self.assertEqual(json.loads(out), {"k1": ["rome"], "rome": ["k1"]})
+        self.assertIn("rome: peers that are not up are no peers here: k3, k4, k5, k6 and 1 more\n", err)
 
     def test_a_daemon_before_0_4_5(self):
         self.daemon("one", "k1", [])

@@ -282,6 +282,8 @@ class ForPrometheus(Commands):
                 "tagzirk_hosts_cut_off": 3,
                 "tagzirk_one_sided_listings": 3,
                 "tagzirk_listed_without_entry": 1,
+                'tagzirk_doubts{kind="may be down"}': 0,
+                'tagzirk_doubts{kind="not read"}': 0,
                 'tagzirk_cut_member{host="relay-1"}': 1,
                 'tagzirk_cut_member{host="relay-2"}': 1,
                 # oslo-2 and oslo-3 list oslo-4, which is dead, and berlin-3 lists oslo-1

@@ -107,9 +107,11 @@ class Diff(Commands):
         evil = [(a.replace("h0", "<b>&h0"), b.replace("h0", "<b>&h0")) for a, b in RING]
         hosts = sorted(set(itertools.chain(*evil)))
         files = self.pair((hosts, evil), (hosts[1:], [it for it in evil if hosts[0] not in it]))
-        page, _, status = self.tagzirk("diff", *files, "--html")
+        page, _, status = self.tagzirk("diff", *files, "--html", "-")
         read = Text(page)
         self.assertEqual((status, read.open, "<b>" in page), (0, 0, False))
+        out, _, status = self.tagzirk("diff", *files, "--html", self.room / "page.html")
+        self.assertEqual((out[:6], status, (self.room / "page.html").read_text()), ("k is 2", 0, page))
         for told in "k is 2, and was 3", "Each of these alone, put back, gives k 3 again", "<b>&h0":
             self.assertIn(told, read.text)
 

@@ -134,6 +134,11 @@ class Values(unittest.TestCase):
         value = {"directed": True, "nodes": [{"id": "a"}, {"id": "b"}], "links": [{"source": "a", "target": "b"}]}
         self.assertEqual(views(json.dumps(value)), {"a": {"b"}, "b": set()})
 
+    def test_peers_far_below(self):
+        entries = {it: {"net": {"v6": {"seen": {"by": others}}}} for it, others in (("a", ["b"]), ("b", ["a"]))}
+        for value in entries, [{"name": it, **entry} for it, entry in entries.items()]:
+            self.assertEqual(views(json.dumps(value), peers="net.v6.seen.by"), {"a": {"b"}, "b": {"a"}})
+
     def test_hosts_with_peers(self):
         wanted = {"a": {"b", "7"}, "b": {"a"}, "7": set()}
         entries = {"a": {"peers": ["b", 7]}, "b": {"peers": [{"id": "a", "rtt": 3}], "up": True}, "7": {"peers": None}}
@@ -312,7 +317,7 @@ class Texts(unittest.TestCase):
                 with self.assertRaisesRegex(BadDump, "UTF-16 without a mark"):
                     text_of(data)
                 data = ("\ufeff" + "source,target\nb\u00f8rre,a\n").encode(code)
-            turned, told = text_of(data)
+            turned, told, _ = text_of(data)
             self.assertEqual(
                 (views(turned), told), ({"b\u00f8rre": {"a"}, "a": {"b\u00f8rre"}}, ["it was read as UTF-16"])
             )

@@ -22,6 +22,7 @@ class Kept(Commands):
         """Each command that writes a file, with the option that names it: the words, and the option."""
         dump = self.file("net", edges_of(CLIQUES))
         found = [(["metrics", dump], "--textfile"), (["mend", dump, "--to", "2"], "--graph")]
+        found.append((["diff", dump, self.file("old", edges_of(CLIQUES))], "--html"))
         return dump, found + [(["history", dump], "--svg")] * bool(matplotlib)
 
     def test_an_input(self):
@@ -90,7 +91,7 @@ class Kept(Commands):
             for place, told in (self.room, "it is a folder"), (self.room / "none" / "x", "there is no folder"):
                 _, err, status = self.tagzirk(*words, option, place)
                 self.assertEqual((status, told in err, "Traceback" in err), (1, True, False), err)
-        self.assertEqual([it.name for it in self.room.iterdir()], ["net"])
+        self.assertEqual({it.name for it in self.room.iterdir()}, {"net", "old"})
 
 
 class InFolders(Commands):
@@ -136,7 +137,7 @@ class InFolders(Commands):
             (["report", days / "two"], days / "two" / "new", f"a file in {days / 'two'}, all of which are read"),
             (["history", days], days / "two" / "new", f"a file in {days / 'two'}, all of which are read"),
             (["history", days], days / "new", f"a file in {days}, all of which are read: remove it"),
-            (["diff", "--html", edges, days / "one"], days / "one", f"{days / 'one'}, which is read: name another"),
+            (["diff", "--html", "-", edges, days / "one"], days / "one", f"{days / 'one'}, which is read: name"),
             (["import", edges], edges, f"{edges}, which is read: name another file behind >"),
         ):
             with open(place, "w") as out:

@@ -2,6 +2,7 @@
 what stands on standard error. The tips follow from what the words are likely to mean."""
 
 import gzip
+import itertools
 import json
 import lzma
 import os
@@ -160,7 +161,8 @@ OPTIONS = (
     ("each -j 4 ring.edges", 2, "--workers N"),
     ("each --csv=yes ring.edges", 2, "--csv takes no value"),
     ("each --csv --json ring.edges", 2, "each of them is a form of all that is printed: give one"),
-    ("diff --json --html net.json ring.edges", 2, "argument --html: not allowed with argument --json"),
+    ("diff --html net.json ring.edges", 2, "--html took net.json as the page to write"),
+    ("diff net.json ring.edges --html", 2, "--html PAGE names the file to write, and --html - prints it"),
     ("each --to 3 ring.edges", 2, "`tagzirk mend FILE --to K`"),
     ("each --certificate ring.edges", 2, "overlay analyse --certificate | tail -n 1`"),
     ("each --workers 0 ring.edges", 2, "a number from 1 to 1024"),
@@ -231,7 +233,7 @@ OPTIONS = (
     ("status net.json --csv", 2, "`tagzirk each` prints CSV by its --csv"),
     ("status net.json --version", 2, "`tagzirk --version`"),
     ("diff net.json --old ring.edges", 2, "`tagzirk diff OLD NEW` takes both dumps without an option"),
-    ("each racks.txt --racks ring.edges", 1, f"{SWAPPED} ring.edges --racks RACKS"),
+    ("each racks.txt --racks ring.edges", 1, "and ring.edges the dump: tagzirk each ring.edges --racks racks.txt"),
     ("each net.json --racks net.graph", 1, f"{SWAPPED} net.graph --racks RACKS"),
     ("each net.json --racks net.json", 1, f"{SWAPPED} net.json --racks RACKS"),
     ("each racks.txt --racks net.json", 1, f"{SWAPPED} net.json --racks RACKS"),
@@ -308,6 +310,22 @@ class Slips(Commands):
 
     def test_files(self):
         self.told(FILES)
+
+    def test_racks_in_the_place_of_the_dump(self):
+        views = {"a": ["b", "c"], "b": ["a", "d"], "c": ["a", "d"], "d": ["b", "c", "relay"], "relay": ["d"]}
+        dumps = [self.file("views.json", json.dumps(views))]
+        dumps += [self.file("objects.json", json.dumps({it: {"peers": peers} for it, peers in views.items()}))]
+        dumps += [self.file("lines.edges", "a b\na c\nb d\nc d\nd relay\n")]
+        racks = [self.file("lists.json", '{"R1": ["a", "b"], "R2": ["c", "d"]}')]
+        racks += [self.file("hosts.json", '{"a": "R1", "b": "R1", "c": "R2", "d": "R2"}')]
+        racks += [self.file("racks.lines", "a R1\nb R1\nc R2\nd R2\n")]
+        for dump, rack in itertools.product(dumps, racks):
+            for words in [], ["--no-entries"], ["--either"], ["--either", "--no-entries"]:
+                out, err, status = self.tagzirk("each", rack, "--racks", dump, *words)
+                self.assertEqual((out, status), ("", 1), (dump, rack, words))
+                self.assertIn(f"tagzirk each {dump} --racks {rack}", err)
+            self.assertEqual(self.tagzirk("each", dump, "--racks", rack)[2], 0)
+        self.assertIn("if these are racks", self.tagzirk("status", racks[0])[1])
 
     def test_options(self):
         self.told(OPTIONS)

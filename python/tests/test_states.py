@@ -45,6 +45,8 @@ class Dumps(unittest.TestCase):
             place.mkdir()
             for file, inner in text.items():
                 (place / file).write_text(inner)
+        elif isinstance(text, bytes):
+            place.write_bytes(text)
         else:
             place.write_text(text)
         return str(place)
@@ -261,6 +263,21 @@ class Ups(Dumps):
         text = "source,target,state\na,b,down\nb,a,up\na,c,down\n"
         dump = self.read(self.put("two.csv", text), Asked(up=("state=up",)))
         self.assertEqual((links_of(dump), set(dump.graph.ids)), ({("a", "b")}, {"a", "b", "c"}))
+
+    def test_how_something_is_written(self):
+        pairs = [{"source": "a", "target": "b"}, {"from": "b", "to": "c"}, {"source": "a", "target": "c"}]
+        written = self.put("written.json", json.dumps(pairs))
+        twice = self.put("twice.edges", "a b\nb a\na c\nc a\nb c\n")
+        views = self.put("views.json", '{"a": ["b", "b", "c"], "b": ["a", "a"], "c": ["a"]}')
+        dot = self.put("twice.dot", "graph { a -- b; b -- a; a -- c }")
+        for place, up, wanted in (
+            (written, "written as=source and target", {("a", "b"), ("a", "c")}),
+            (twice, "stands there=from both ends", {("a", "b"), ("a", "c")}),
+            (views, "stands there=twice", {("a", "b")}),
+            (dot, "stands there=once", {("a", "c")}),
+        ):
+            dump = self.read(place, Asked(up=(up,)))
+            self.assertEqual((links_of(dump), doubts_in(dump.notes)), (wanted, []), up)
 
     def test_ranges(self):
         rows = [("a", "b", "0.5"), ("b", "c", "7"), ("c", "d", "-1"), ("d", "e", ""), ("e", "f", "12")]

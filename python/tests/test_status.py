@@ -3,8 +3,11 @@ definitions, by trying all crashes of small graphs."""
 
 import itertools
 import json
+import os
 import random
+import time
 import unittest
+from unittest import mock
 
 import tagzirk
 from tagzirk.graphs import named_graph
@@ -52,8 +55,8 @@ class Status(Commands):
         self.assertIn("Sites fra (4 hosts), hel (4 hosts) are cut off.", lines)
         self.assertEqual(
             lines[-1],
-            "fra-9.example.net: listed by others, without an entry, and so left out, as dead (this is what --entries "
-            "does). With it k is 0.",
+            "fra-9.example.net: listed by others, without an entry, and so left out, as dead (--no-entries takes them "
+            "in). With it k is 0.",
         )
         self.assertEqual(self.tagzirk("status", self.dump)[0], self.tagzirk("analyse", self.dump)[0])
         with open(self.dump, encoding="utf-8") as file:
@@ -158,7 +161,55 @@ class Only(Commands):
         self.assertTrue(lines[0].startswith("k is 1: of 6 hosts, a crash of fra-"), lines)
 
 
+class WithoutAnEntry(Commands):
+    """Names that others list and that have no entry: one rule for all questions, and another for `import`."""
+
+    def test_each_question_leaves_them_out(self):
+        views = {"a": ["b", "c"], "b": ["a", "c", "dead"], "c": ["a", "b"]}
+        path = self.file("net-20261128T0900Z.json", json.dumps(views))
+        for words, without, including in (
+            (["status", path], "k is 2: every two of 3 hosts", "k is 0"),
+            (["diff", path, self.file("old", "a b\nb c\na c\n")], "k is 2, as before", "k is 2, and was 0"),
+            (["each", path], "k is 2 now", "k is 0 now"),
+            (["history", path], "T09:00:00+00:00,3,3,2", "T09:00:00+00:00,4,3,0"),
+            (["metrics", path, "--textfile", "-"], "tagzirk_connectivity 2.0", "tagzirk_connectivity 0.0"),
+            (["report", path], "k<b>2</b>", "k<b>0</b>"),
+        ):
+            with self.subTest(words), mock.patch.dict(os.environ, {"TZ": "UTC"}):
+                time.tzset()
+                for more, told in ([], without), (["--entries"], without), (["--no-entries"], including):
+                    out, err, status = self.tagzirk(*words, *more)
+                    self.assertEqual((told in out, status), (True, 0), out + err)
+        time.tzset()
+
+    def test_they_are_told(self):
+        path = self.file("net.json", '{"a": ["b", "dead"], "b": ["a"]}')
+        for command in ["each"], ["report"], ["mend", "--to", "1"]:
+            told = "left out, as dead, since it has no entry; --no-entries takes them in"
+            self.assertIn(told, self.tagzirk(*command, path)[1], command)
+            self.assertNotIn("left out", self.tagzirk(*command, "--entries", path)[1])
+        self.assertIn(told, self.tagzirk("report", path)[0])
+
+    def test_import_is_as_overlay_import(self):
+        path = self.file("net.json", '{"a": ["b", "dead"], "b": ["a"]}')
+        self.assertEqual(self.tagzirk("import", path)[0].count("node"), 3)
+        self.assertEqual(self.tagzirk("import", path, "--entries")[0].count("node"), 2)
+
+
 class History(Commands):
+    def test_names_and_ages_that_are_not_as_most(self):
+        files = [self.file(f"net-20261128T090{at}Z.edges", "a b\nb c\n") for at in range(4)]
+        for at, file in enumerate(files):
+            os.utime(file, (1795856400 + 60 * at,) * 2)
+        self.assertEqual(self.tagzirk("history", *files)[1], "")
+        os.utime(files[2], (1795856400 + 9000,) * 2)
+        self.assertIn("net-20261128T0902Z.edges: not read as states: it was changed 2 hours from the time in its name",
+                      self.tagzirk("history", *files)[1])
+        odd = self.file("net-20261128T0909Z-part.edges", "a b\nb c\n")
+        os.utime(odd, (1795856400 + 540,) * 2)
+        self.assertIn("T0909Z-part.edges: not read as states: its name is not as net-0T0Z.edges, as most are but for",
+                      self.tagzirk("history", *files[:2], odd, *files[3:])[1])
+
     def test_json(self):
         good = self.file("net-20261128T0900Z.txt", edges_of([("a", "b"), ("b", "c")]))
         torn = self.file("net-20261128T0910Z.json", '{"a": ["b"')

@@ -4,15 +4,14 @@ from __future__ import annotations
 
 import argparse
 import json
-import sys
 from typing import TYPE_CHECKING, Any, Dict, List, Sequence, Tuple
 
-from ..difference_pages import difference_page
+from ..difference_pages import FIRST_LINE, difference_page
 from ..differences import Difference, Link, Side, differences
 from ..graphs import shown
 from ..markup import counted
 from ..progress import Progress
-from .words import Parents, command, options_of, places_of, some, told
+from .words import Parents, command, options_of, output, places_of, some, told
 
 if TYPE_CHECKING:
     from .words import Commands
@@ -23,31 +22,32 @@ MOST_LINES = 20
 def add(commands: Commands, parents: Parents) -> None:
     """Adds the words of `diff`."""
     text = "tell what changed between two dumps, OLD and NEW, and what of it lowered k"
-    it = command(commands, "diff", run_diff, text, parents.dump, is_of_many=True)
+    it = command(commands, "diff", run_diff, text, parents.dump, parents.forced, is_of_many=True)
     it.usage = "tagzirk diff [OPTIONS] OLD NEW"
-    one_form = it.add_mutually_exclusive_group()
-    one_form.add_argument("--json", action="store_true", help="print all of it as JSON, and nothing else")
-    one_form.add_argument("--html", action="store_true", help="print it as a page of HTML, and nothing else")
+    it.add_argument("--json", action="store_true", help="print all of it as JSON, and nothing else")
+    it.add_argument("--html", metavar="PAGE", help="write a page of HTML too; - prints it, and nothing else")
 
 
 def run_diff(words: argparse.Namespace) -> int:
     """Prints what changed."""
     if len(words.files) != 2:
         number = len(words.files)
-        told(f"tagzirk diff takes two dumps, OLD and NEW, and not {number}; a folder of one file a host is one")
+        taken = f"; --html took {words.html} as the page to write" if words.html else ""
+        told(f"tagzirk diff takes two dumps, OLD and NEW, and not {number}; a folder of one file a host is one{taken}")
         return 2
     places = places_of(words)
+    page = output(words, "--html", words.html, FIRST_LINE, places) if words.html else None
     with Progress() as progress:
         it = differences(places[:1], places[1:], options_of(words), progress=progress)
     for side in it.old, it.new:
         for note in side.dump.notes:
             told(note if note.startswith(side.dump.name) else f"{side.dump.name}: {note}")
-    if words.json:
+    if words.json and words.html != "-":
         print(json.dumps(value_of(it), ensure_ascii=False))
-    elif words.html:
-        sys.stdout.write(difference_page(it))
-    else:
+    elif words.html != "-":
         print("\n".join(lines_of(it)))
+    if page:
+        page.write(difference_page(it))
     return 0
 
 

@@ -12,7 +12,8 @@ from typing import TYPE_CHECKING, Any, Dict, List, Optional
 
 from ..contents import is_dump
 from ..crashes import Crash, badness, each
-from ..errors import BadDump
+from ..dumps import Dump
+from ..errors import BadDump, TagzirkError
 from ..graphs import NamedGraph, shown
 from ..naming import hosts_of
 from ..markup import counted
@@ -32,6 +33,7 @@ from .telling import (
     value_of_worst,
     worst_lines,
 )
+from .swapped import swapped
 from .words import Parents, at_least_one, command, dump_of, some, told
 
 if TYPE_CHECKING:
@@ -72,7 +74,7 @@ class Told:
 
 def run_each(words: argparse.Namespace) -> int:
     """Prints what each single crash does."""
-    dump = dump_of(words)
+    dump = dump_in(words)
     graph = dump.graph
     left_out = hosts_of(words.without, list(graph.ids), "--without")
     graph = graph.without({graph.ids[it] for it in left_out})
@@ -81,9 +83,9 @@ def run_each(words: argparse.Namespace) -> int:
     kind = "host" if racks is None else "rack"
     with Progress() as progress:
         report: Report[str] = analysed(graph)
-        if report.k == 0 and dump.without_entry and not words.entries:
+        if report.k == 0 and dump.without_entry and not dump.left_out:
             dead = counted(dump.without_entry, "name")
-            told(f"k is 0 with {dead} that no entry has, as of dead peers; --entries leaves them out")
+            told(f"k is 0 with {dead} that no entry has, as of dead peers; without --no-entries they are left out")
         crashes = each(graph, racks, report, is_of_pairs=words.pairs, workers=words.workers, progress=progress)
         if words.csv:
             progress.end()
@@ -100,6 +102,19 @@ def run_each(words: argparse.Namespace) -> int:
     else:
         print("\n".join([*lines_of(of), "", *table_of(of, words.pairs, words.rows)]))
     return 0
+
+
+def dump_in(words: argparse.Namespace) -> Dump:
+    """The dump that the words name, if it is not rather the racks."""
+    try:
+        dump = dump_of(words)
+    except TagzirkError as why:
+        told = swapped(words)
+        raise BadDump(f"{why}\ntip: {told}") if told else why from None
+    told = swapped(words)
+    if told:
+        raise BadDump(told)
+    return dump
 
 
 def at_stake(crash: Crash[str], found: Worst[str]) -> int:
@@ -199,21 +214,21 @@ def racks_in(place: str, graph: NamedGraph[str], left_out: List[str]) -> Dict[st
     """The racks that a file names, with those hosts that are in the dump. Who is in none is told, and who is not in the
     dump."""
     data = pathlib.Path(place).read_bytes()
-    swapped = f"\ntip: the dump is named without an option, and racks by one: tagzirk each {place} --racks RACKS"
+    tip = f"\ntip: the dump is named without an option, and racks by one: tagzirk each {place} --racks RACKS"
     try:
         racks = racks_of(data.decode("utf-8-sig"), place)
     except UnicodeDecodeError:
         raise BadDump(f"{place}: it is not UTF-8") from None
     except BadDump as why:
-        raise BadDump(f"{why}{swapped if is_dump(data) else ''}") from None
+        raise BadDump(f"{why}{tip if is_dump(data) else ''}") from None
     if not racks:
         raise BadDump(f"{place}: it names no rack; a line is HOST RACK")
-    if all(rack in graph.ids and hosts != [rack] for rack, hosts in racks.items()):
-        raise BadDump(f"{place}: each rack in it has the name of a host, so it is likely to be the dump{swapped}")
+    if 2 * sum(rack in graph.ids and hosts != [rack] for rack, hosts in racks.items()) > len(racks):
+        raise BadDump(f"{place}: racks in it have the names of hosts, so it is likely to be the dump{tip}")
     known = {host for hosts in racks.values() for host in hosts}
     here = {rack: [it for it in hosts if it in graph.ids] for rack, hosts in racks.items()}
     if not any(here.values()):
-        told_of = swapped if is_dump(data) else ""
+        told_of = tip if is_dump(data) else ""
         raise BadDump(f"{place}: none of its {len(known)} hosts is in the dump, as {shown(min(known))}{told_of}")
     gone = sorted(it for it in known if it not in graph.ids and it not in left_out)
     if gone:

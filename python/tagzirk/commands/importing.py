@@ -6,7 +6,8 @@ import argparse
 import sys
 from typing import TYPE_CHECKING
 
-from .words import Parents, command, dump_of, told
+from ..dumps import read_dump
+from .words import Parents, command, options_of, places_of, tell_notes, told
 
 if TYPE_CHECKING:
     from .words import Commands
@@ -25,7 +26,8 @@ def add(commands: Commands, parents: Parents) -> None:
 
 def run_import(words: argparse.Namespace) -> int:
     """Prints the graph file."""
-    dump = dump_of(words, is_graph_taken=False)
+    dump = read_dump(places_of(words), options_of(words), is_graph_taken=False)
+    tell_notes(dump)
     if not words.files and not dump.has_nodes:
         told("no FILE was named, so standard input was read: tagzirk import FILE")
     sys.stdout.write(dump.graph_file)

@@ -14,7 +14,7 @@ from ..sites import Sites
 from ..status import OK, UNKNOWN, WORDS, Dead, Status, status
 from ..worst import Cut
 from .telling import site_lines, value_of_site, value_of_worst, worst_lines
-from .words import Parents, at_least_one, command, fault, options_of, places_of, some, told
+from .words import Parents, at_least_one, command, fault, options_of, places_of, some, tell_notes
 
 if TYPE_CHECKING:
     from .words import Commands
@@ -75,8 +75,7 @@ def tell(words: argparse.Namespace) -> int:
     options, places = options_of(words), places_of(words)
     with Progress() as progress:
         it = status(places, options, words.without, words.group, workers=words.workers, progress=progress)
-    for note in it.dump.notes:
-        told(note)
+    tell_notes(it.dump)
     sites = Sites(words.site, it.graph.ids) if words.site else None
     level = None if words.at_least is None else it.level(words.at_least)
     if level == UNKNOWN:
@@ -148,11 +147,11 @@ def head_of(it: Status, cut: Cut[str]) -> str:
 def dead_lines(it: Status) -> List[str]:
     """What names do to k that are listed and have no entry."""
     if it.dead is None:
-        number = it.dump.without_entry
+        number = it.dump.left_out
         return [f"Left out, as --entries says: {counted(number, 'name')} without an entry."] if number else []
     number = len(it.dead.names) or it.dump.without_entry or 0
     who = some(it.dead.names) if it.dead.names else counted(number, "name")
-    left_out = f"{who}: listed by others, without an entry, and so left out, as dead (this is what --entries does)"
+    left_out = f"{who}: listed by others, without an entry, and so left out, as dead (--no-entries takes them in)"
     if it.dead.report is None:
         return [f"{left_out}. What k is with {'it' if number == 1 else 'them'} can't be said: {it.dead.fault}"]
     return [f"{left_out}. With {'it' if number == 1 else 'them'} k is {it.dead.report.k}."]

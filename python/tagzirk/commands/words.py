@@ -5,7 +5,7 @@ from __future__ import annotations
 import argparse
 import contextlib
 import sys
-from dataclasses import dataclass
+from dataclasses import dataclass, replace
 from typing import TYPE_CHECKING, Callable, List, Sequence
 
 from ..asked import Asked
@@ -48,7 +48,8 @@ def common_words() -> Parents:
     """The words that commands have in common."""
     dump = argparse.ArgumentParser(add_help=False)
     dump.add_argument("--either", action="store_true", help="link two hosts also if only one of them lists the other")
-    dump.add_argument("--entries", action="store_true", help="leave out names that others list, and that have no entry")
+    entries = "leave out names that others list, and that have no entry, as all commands but `import` do by themselves"
+    dump.add_argument("--entries", action=argparse.BooleanOptionalAction, default=None, help=entries)
     forms = f"the form of the dump, if the dump itself is not to decide: {', '.join(FORMS)}"
     dump.add_argument("--form", choices=FORMS, metavar="FORM", help=forms)
     dump.add_argument("--by", metavar="FIELD", help="the field of an object that names its host")
@@ -151,12 +152,20 @@ def places_of(words: argparse.Namespace) -> List[str]:
     return words.files or ["-"]
 
 
-def dump_of(words: argparse.Namespace, is_graph_taken: bool = True) -> Dump:
-    """The dump that the words name, whose notes are told."""
-    dump = read_dump(places_of(words), options_of(words), is_graph_taken=is_graph_taken)
+def dump_of(words: argparse.Namespace) -> Dump:
+    """The dump that the words name, for a question about the overlay. Its notes are told, and who was left out."""
+    dump = read_dump(places_of(words), options_of(words).living)
+    if words.entries is None and dump.left_out:
+        who = "it has no entry" if dump.left_out == 1 else f"these {dump.left_out} have no entry"
+        dump = replace(dump, notes=(*dump.notes, f"left out, as dead, since {who}; --no-entries takes them in"))
+    tell_notes(dump)
+    return dump
+
+
+def tell_notes(dump: Dump) -> None:
+    """Tells the notes on a dump."""
     for note in dump.notes:
         told(note)
-    return dump
 
 
 def fault(words: argparse.Namespace, text: str) -> None:
