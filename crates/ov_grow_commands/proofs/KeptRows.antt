@@ -4,7 +4,7 @@ use Rattle.std.specs.Prelude.{IsTrue, Result, Ok, Err}
 use Rattle.ov_growing_arguments.specs.declared.sweep_request.SweepRequest.{SweepRequest}
 use Rattle.ov_grow_options.specs.declared.options.GrowOptions.{GrowOptions}
 use Rattle.ov_net.proofs.Steps.Places.{at_has}
-use Rattle.ov_sweep_rows.specs.declared.costs_and_shape.Measures.{Measures}
+use Rattle.ov_sweep_rows.specs.declared.measures.Measures.{Measures}
 use Rattle.ov_sweep_rows.specs.declared.row.Row.{Row}
 use Rattle.ov_sweep.specs.Rows.{IsRowOf}
 use Rattle.ov_sweep.specs.Sweeps.{AreFirstRowsOf, EndsWith, IsSweepOf, WereTaken}

@@ -5,7 +5,7 @@ use Rattle.ov_growing_arguments.specs.declared.sweep_request.Printed.TheVariants
 use Rattle.ov_growing_arguments.specs.declared.sweep_request.SweepRequest.{SweepRequest}
 use Rattle.ov_ids.specs.Members.{Has}
 use Rattle.ov_sweep.specs.Rows.{IsRowOf}
-use Rattle.ov_sweep_rows.specs.declared.costs_and_shape.Measures.{Measures}
+use Rattle.ov_sweep_rows.specs.declared.measures.Measures.{Measures}
 use Rattle.ov_sweep_rows.specs.declared.row.Row.{Row}
 
 -- what is printed is told of all rows together: a summary, or an answer

@@ -10,7 +10,7 @@ use Rattle.std.proofs.lemmas.Option.{none-some}
 use Rattle.ov_even.proofs.PieceOrder.InOrder.{at_left, at_right}
 use Rattle.ov_grow_options.specs.declared.options.GrowOptions.{GrowOptions}
 use Rattle.ov_net.proofs.Steps.Places.{at_prefix}
-use Rattle.ov_sweep_rows.specs.declared.costs_and_shape.Measures.{Measures}
+use Rattle.ov_sweep_rows.specs.declared.measures.Measures.{Measures}
 use Rattle.ov_sweep_rows.specs.declared.row.Row.{Row}
 use Rattle.ov_sweep.specs.Sweeps.{AreFirstRowsOf, AreRowsOf, EndsAt, IsOutcomeAt, IsSweepOf, AreSwept, WereGiven}
 use Rattle.ov_sweep.specs.Sweeps.{WereTaken}

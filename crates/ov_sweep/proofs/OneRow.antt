@@ -27,8 +27,8 @@ use Rattle.ov_sweep.specs.PhaseCosts.{phase_costs}
 use Rattle.ov_sweep.specs.Rows.{AreNumbersOf, ArePhaseCosts, IsAsked, IsLeastDegree, IsShapeOf, IsShare, IsToldOf}
 use Rattle.ov_sweep.specs.Rows.{OneRow}
 use Rattle.ov_grow.specs.declared.message_cost.MessageCost.{MessageCost}
-use Rattle.ov_sweep_rows.specs.declared.costs_and_shape.Measures.{Measures}
-use Rattle.ov_sweep_rows.specs.declared.costs_and_shape.PhaseCosts.{PhaseCosts}
+use Rattle.ov_sweep_rows.specs.declared.measures.Measures.{Measures}
+use Rattle.ov_sweep_rows.specs.declared.phase_costs.PhaseCosts.{PhaseCosts}
 
 -- a graph has one least degree
 one_least : (g : LinkGraph) (n m : ℕ) → IsLeastDegree g n → IsLeastDegree g m → n ≡ m

@@ -17,7 +17,7 @@ use Rattle.ov_graph.specs.Degrees.{AreAscendingDegrees, AreDegrees, IsDegree, Is
 use Rattle.ov_graph.specs.Distances.{IsDistance}
 use Rattle.ov_graph.specs.ShortestPaths.{HasDiameter, HasMeanPath, IsDistanceSum, IsLongest}
 use Rattle.ov_graph.specs.Sums.{IsSum}
-use Rattle.ov_sweep_rows.specs.declared.costs_and_shape.PhaseShape.{PhaseShape}
+use Rattle.ov_sweep_rows.specs.declared.phase_shape.PhaseShape.{PhaseShape}
 use Rattle.ov_sweep_rows.specs.declared.four_decimals.FourDecimals.{FourDecimals}
 use Rattle.ov_sweep.specs.Rows.{IsShapeOf}
 

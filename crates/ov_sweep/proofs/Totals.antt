@@ -1,7 +1,7 @@
 -- What the broadcasts of a phase cost together.
 use Rattle.std.proofs.Common.{◌≡◌, ◌*◌, ℕ, List, map, Option}
 use Rattle.std.specs.List.{sum_by}
-use Rattle.ov_sweep_rows.specs.declared.costs_and_shape.PhaseCosts.{PhaseCosts}
+use Rattle.ov_sweep_rows.specs.declared.phase_costs.PhaseCosts.{PhaseCosts}
 use Rattle.ov_sweep_rows.specs.declared.four_decimals.FourDecimals.{FourDecimals}
 use Rattle.ov_sweep.specs.PhaseCosts.{mean, parts_of_one, phase_costs, redundancies}
 use Rattle.ov_grow.specs.MessageCosts.{sent_of}

@@ -4,7 +4,7 @@ use Rattle.std.specs.Prelude.{ℕ, ◌-◌, ◌*◌, ◌/◌, ◌==◌, nat_lt, 
 use Rattle.std.specs.Prelude.{Option, Some, None}
 use Rattle.std.specs.List.{sum_by}
 use Rattle.std.specs.Option.{option_to_list}
-use Rattle.ov_sweep_rows.specs.declared.costs_and_shape.PhaseCosts.{PhaseCosts}
+use Rattle.ov_sweep_rows.specs.declared.phase_costs.PhaseCosts.{PhaseCosts}
 use Rattle.ov_sweep_rows.specs.declared.four_decimals.FourDecimals.{FourDecimals}
 use Rattle.ov_grow.specs.declared.message_cost.MessageCost.{MessageCost}
 

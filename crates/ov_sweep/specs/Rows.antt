@@ -19,9 +19,9 @@ use Rattle.ov_graph.specs.Components.{HasLargest}
 use Rattle.ov_graph.specs.Degrees.{IsQuartile}
 use Rattle.ov_graph.specs.ShortestPaths.{HasDiameter, HasMeanPath}
 use Rattle.ov_sweep_rows.specs.Rows.{place_of}
-use Rattle.ov_sweep_rows.specs.declared.costs_and_shape.Measures.{Measures}
-use Rattle.ov_sweep_rows.specs.declared.costs_and_shape.PhaseCosts.{PhaseCosts}
-use Rattle.ov_sweep_rows.specs.declared.costs_and_shape.PhaseShape.{PhaseShape}
+use Rattle.ov_sweep_rows.specs.declared.measures.Measures.{Measures}
+use Rattle.ov_sweep_rows.specs.declared.phase_costs.PhaseCosts.{PhaseCosts}
+use Rattle.ov_sweep_rows.specs.declared.phase_shape.PhaseShape.{PhaseShape}
 use Rattle.ov_sweep_rows.specs.declared.delivered_share.DeliveredShare.{DeliveredShare}
 use Rattle.ov_sweep_rows.specs.declared.row.Phase.{Phase}
 use Rattle.ov_sweep_rows.specs.declared.row.Phase.TheVariants.{Settle, Crash, Heal}

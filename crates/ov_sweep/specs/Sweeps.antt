@@ -5,7 +5,7 @@ use Rattle.std.specs.Iterator.{Drains, Yields}
 use Rattle.ov_grow_options.specs.declared.options.GrowOptions.{GrowOptions}
 use Rattle.ov_grow.specs.Growing.{IsGrowRefusalFrom, begins}
 use Rattle.ov_grow.specs.declared.fault.GrowFault.{GrowFault}
-use Rattle.ov_sweep_rows.specs.declared.costs_and_shape.Measures.{Measures}
+use Rattle.ov_sweep_rows.specs.declared.measures.Measures.{Measures}
 use Rattle.ov_sweep_rows.specs.declared.row.Row.{Row}
 use Rattle.ov_sweep.specs.Rows.{IsRowOf}
 use Rattle.ov_sweep.specs.declared.overlay_batch_growing.RefusedRun.{RefusedRun}

@@ -2,7 +2,7 @@ ghost use Rattle.std.specs.Prelude.{◌<◌, length, List, IfOk};
 ghost use Rattle.ov_grow_options.specs.declared.options.GrowOptions.{GrowOptions as grow_options};
 ghost use Rattle.ov_sweep.specs.Sweeps.{AreRowsOf, IsOutcomeAt};
 ghost use Rattle.ov_sweep.specs.Code.Shares.{AreDone, AreShares};
-ghost use Rattle.ov_sweep_rows.specs.declared.costs_and_shape.Measures.{Measures as measured};
+ghost use Rattle.ov_sweep_rows.specs.declared.measures.Measures.{Measures as measured};
 
 use crate::sweep_row_making::row_of;
 use ov_grow::GrowFault;

@@ -12,7 +12,10 @@ use Rattle.ov_sweep_rows.specs.Fields.{text_at}
 use Rattle.ov_sweep_rows.specs.declared.row_fault.RowFault.{RowFault}
 use Rattle.ov_sweep_rows.specs.declared.row_fault.RowFault.TheVariants.{Header, FieldCount, Field, OutOfMemory}
 use Rattle.ov_sweep_rows.specs.Code.Taking.{IsAt, IsLackOf}
-use Rattle.ov_sweep_rows.proofs.Named.{Column, forms_of, names_of, row_of}
+use Rattle.ov_sweep_rows.specs.declared.columns.Column.{Column}
+use Rattle.ov_sweep_rows.specs.Columns.{column_name}
+use Rattle.ov_sweep_rows.specs.Code.Named.{name_and_form}
+use Rattle.ov_sweep_rows.proofs.Named.{forms_of, names_of}
 use Rattle.ov_sweep_rows.proofs.ReadBack.{read_all, read_more}
 
 -- what was read of a first column and of others
@@ -128,32 +131,32 @@ rest_read (f ∷ forms) (t ∷ texts) cs is =
 
 -- the form of a column at a place
 pub form_found : (columns : List Column) (i : ℕ) (other : Column) → i < length columns
-    → slice_get (forms_of columns) i ≡ Some (get_or columns i other).1
+    → slice_get (forms_of columns) i ≡ Some (get_or columns i other).takes
 form_found columns i other less =
-    slice_get-map (λ column. column.1) columns i
-    ∙ ap (option_map (λ (column : Column). column.1)) (slice_get-get_or columns i other less)
+    slice_get-map (λ column. column.takes) columns i
+    ∙ ap (option_map (λ (column : Column). column.takes)) (slice_get-get_or columns i other less)
 
 -- the column at a place, by its name and its form
 pub column_found : (columns : List Column) (i : ℕ) (other : Column) → i < length columns
-    → slice_get (map row_of columns) i ≡ Some (row_of (get_or columns i other))
+    → slice_get (map name_and_form columns) i ≡ Some (name_and_form (get_or columns i other))
 column_found columns i other less =
-    slice_get-map row_of columns i ∙ ap (option_map row_of) (slice_get-get_or columns i other less)
+    slice_get-map name_and_form columns i ∙ ap (option_map name_and_form) (slice_get-get_or columns i other less)
 
 -- the forms of columns, by their table
-pub forms_by_table : (columns : List Column) (rows : List (List ℕ × FieldForm)) → map row_of columns ≡ rows
+pub forms_by_table : (columns : List Column) (rows : List (List ℕ × FieldForm)) → map name_and_form columns ≡ rows
     → forms_of columns ≡ map (λ (row : List ℕ × FieldForm). row.1) rows
 forms_by_table columns rows is = again columns ∙ ap (map (λ (row : List ℕ × FieldForm). row.1)) is where
-  again : (columns : List Column) → forms_of columns ≡ map (λ (row : List ℕ × FieldForm). row.1) (map row_of columns)
+  again : (columns : List Column) → forms_of columns ≡ map (λ (row : List ℕ × FieldForm). row.1) (map name_and_form columns)
   again [] = refl
-  again (c ∷ columns) = ap (λ (fs : List FieldForm). c.1 ∷ fs) (again columns)
+  again (c ∷ columns) = ap (λ (fs : List FieldForm). c.takes ∷ fs) (again columns)
 
 -- the names of columns, by their table
-pub names_by_table : (columns : List Column) (rows : List (List ℕ × FieldForm)) → map row_of columns ≡ rows
+pub names_by_table : (columns : List Column) (rows : List (List ℕ × FieldForm)) → map name_and_form columns ≡ rows
     → names_of columns ≡ map (λ (row : List ℕ × FieldForm). row.0) rows
 names_by_table columns rows is = again columns ∙ ap (map (λ (row : List ℕ × FieldForm). row.0)) is where
-  again : (columns : List Column) → names_of columns ≡ map (λ (row : List ℕ × FieldForm). row.0) (map row_of columns)
+  again : (columns : List Column) → names_of columns ≡ map (λ (row : List ℕ × FieldForm). row.0) (map name_and_form columns)
   again [] = refl
-  again (c ∷ columns) = ap (λ (ns : List (List ℕ)). c.0.now ∷ ns) (again columns)
+  again (c ∷ columns) = ap (λ (ns : List (List ℕ)). column_name c.name ∷ ns) (again columns)
 
 -- all columns
 pub take_past : (n : ℕ) (columns : List Column) → length columns ≤ n → take n columns ≡ columns
@@ -165,19 +168,19 @@ take_past (suc n) (c ∷ columns) less =
 
 -- the column whose text is not read
 pub lack_at : (columns : List Column) (fields : List (List ℕ)) (fault : RowFault) (place : ℕ) (other : Column)
-    (cs : List Cell) → place < length columns → IsAt place (row_of (get_or columns place other)) fault
-    → read_as (get_or columns place other).1 (text_at fields place) ≡ None
+    (cs : List Cell) → place < length columns → IsAt place (name_and_form (get_or columns place other)) fault
+    → read_as (get_or columns place other).takes (text_at fields place) ≡ None
     → cells_read (take place (forms_of columns)) (take place fields) ≡ Some cs
-    → IsLackOf (map row_of columns) fields fault
+    → IsLackOf (map name_and_form columns) fields fault
 lack_at columns fields (Field line field) place other cs less (here, name, takes) none before =
     let column = get_or columns place other in
     let stands = column_found columns place other less in
-    let forms = forms_by_table columns (map row_of columns) refl in
-    let same : (column.0.now, column.1) ≡ (field.column.now, field.takes) =
+    let forms = forms_by_table columns (map name_and_form columns) refl in
+    let same : (column_name column.name, column.takes) ≡ (column_name field.column, field.takes) =
     ap₂ (λ (n : List ℕ) (f : FieldForm). (n, f)) (sym name) (sym takes) in (
-      ap (λ n. slice_get (map row_of columns) n) here ∙ stands ∙ ap Some same,
+      ap (λ n. slice_get (map name_and_form columns) n) here ∙ stands ∙ ap Some same,
       ap₂ (λ (f : FieldForm) (n : ℕ). read_as f (text_at fields n)) takes here ∙ none,
-      subst (λ (n : ℕ). IsSome (cells_read (take n (map (λ (row : List ℕ × FieldForm). row.1) (map row_of columns)))
+      subst (λ (n : ℕ). IsSome (cells_read (take n (map (λ (row : List ℕ × FieldForm). row.1) (map name_and_form columns)))
           (take n fields))) (sym here)
           (subst (λ (fs : List FieldForm). IsSome (cells_read (take place fs) (take place fields))) forms
           (ap is_some before)),

@@ -12,14 +12,18 @@ use Rattle.ov_sweep_rows.specs.declared.row.Row.{Row}
 use Rattle.ov_sweep_rows.specs.declared.row_fault.FieldForm.{FieldForm}
 use Rattle.ov_sweep_rows.specs.declared.row_fault.FieldForm.TheVariants as form
 use Rattle.ov_sweep_rows.specs.declared.row_form.RowForm.{RowForm}
-use Rattle.ov_sweep_rows.specs.Cells.{cell_text, cells, cost_cells, further_cells}
-use Rattle.ov_sweep_rows.specs.Cells.{phase_cells, read_as, setting_cells, shape_cells}
+use Rattle.ov_sweep_rows.specs.Cells.{cell_text, further_cells}
+use Rattle.ov_sweep_rows.specs.RowCells.{cells}
+use Rattle.ov_sweep_rows.specs.PhaseCosts.{cost_cells}
+use Rattle.ov_sweep_rows.specs.Cells.{phase_cells, read_as, setting_cells}
+use Rattle.ov_sweep_rows.specs.PhaseShape.{shape_cells}
 use Rattle.ov_sweep_rows.specs.Columns.{forms, if_asked}
 use Rattle.ov_sweep_rows.specs.Code.Written.{AreReadBack, cost_forms, further_forms, option_forms, phase_forms}
 use Rattle.ov_sweep_rows.specs.Code.Written.{setting_forms, shape_forms}
 use Rattle.ov_sweep_rows.proofs.CellByCell.{read_both}
 use Rattle.ov_sweep_rows.proofs.ReadBack.{read_all, read_more}
-use Rattle.ov_sweep_rows.proofs.Rebuilding.{forms_are, thrice}
+use Rattle.ov_sweep_rows.specs.Code.Groups.{thrice}
+use Rattle.ov_sweep_rows.proofs.Rebuilding.{forms_are}
 
 -- three lists are put behind another one
 pub appended_thrice : (old a b c x y z : List Cell) → a ≡ old ++ x → b ≡ a ++ y → c ≡ b ++ z

@@ -13,8 +13,11 @@ use Rattle.ov_sweep_rows.specs.declared.cell.Cell.TheVariants as cell
 use Rattle.ov_sweep_rows.specs.declared.row.PhaseRow.{PhaseRow}
 use Rattle.ov_sweep_rows.specs.declared.row.Row.{Row}
 use Rattle.ov_sweep_rows.specs.declared.row_form.RowForm.{RowForm}
-use Rattle.ov_sweep_rows.specs.Cells.{cell_text, cells, cost_cells, further_cells, of_phase, of_phases, phase_cells}
-use Rattle.ov_sweep_rows.specs.Cells.{setting_cells, shape_cells}
+use Rattle.ov_sweep_rows.specs.Cells.{cell_text, further_cells, phase_cells}
+use Rattle.ov_sweep_rows.specs.RowCells.{cells, of_phase, of_phases}
+use Rattle.ov_sweep_rows.specs.PhaseCosts.{cost_cells}
+use Rattle.ov_sweep_rows.specs.Cells.{setting_cells}
+use Rattle.ov_sweep_rows.specs.PhaseShape.{shape_cells}
 use Rattle.ov_sweep_rows.specs.Columns.{forms, if_asked, table}
 use Rattle.ov_sweep_rows.specs.Fields.{HasNoMore}
 use Rattle.ov_sweep_rows.specs.Writing.{IsLineOf, options_in_form, phase_in_form, row_in_form}

@@ -1,6 +1,7 @@
 -- A text says the rows of one list alone.
 use Rattle.std.proofs.Common.{◌≡◌, ◌∙◌, ℕ, Bool, true, false, List, [], ◌∷◌, ◌++◌}
 use Rattle.std.proofs.Common.{length, drop, Option, Some, None, refl, sym, ap, ap₂, subst, arith}
+use Rattle.std.proofs.lemmas.List.{length-append}
 use Rattle.std.specs.Prelude.{codes, get_or, nat_eq, unwrap_or}
 use Rattle.std.specs.List.{filter, list_any}
 use Rattle.std.specs.Cmp.Lexicographic.{pointwise}
@@ -18,20 +19,23 @@ use Rattle.ov_grow_options.specs.declared.options.Order.{Order}
 use Rattle.ov_grow_options.specs.declared.options.Order.TheVariants as turn
 use Rattle.ov_sweep_rows.specs.declared.cell.Cell.{Cell}
 use Rattle.ov_sweep_rows.specs.declared.cell.Cell.TheVariants as cell
-use Rattle.ov_sweep_rows.specs.declared.costs_and_shape.PhaseCosts.{PhaseCosts}
-use Rattle.ov_sweep_rows.specs.declared.costs_and_shape.PhaseShape.{PhaseShape}
+use Rattle.ov_sweep_rows.specs.declared.phase_costs.PhaseCosts.{PhaseCosts}
+use Rattle.ov_sweep_rows.specs.declared.phase_shape.PhaseShape.{PhaseShape}
 use Rattle.ov_sweep_rows.specs.declared.delivered_share.DeliveredShare.{DeliveredShare}
 use Rattle.ov_sweep_rows.specs.declared.four_decimals.FourDecimals.{FourDecimals}
 use Rattle.ov_sweep_rows.specs.declared.row.PhaseRow.{PhaseRow}
 use Rattle.ov_sweep_rows.specs.declared.row.Row.{Row}
 use Rattle.ov_sweep_rows.specs.declared.row_form.RowForm.{RowForm}
-use Rattle.ov_sweep_rows.specs.Cells.{cells, cost_cells, crash_cell, decimals_cell, flag_cell, further_cells}
-use Rattle.ov_sweep_rows.specs.Cells.{number_cell, phase_cells, setting_cells, shape_cells, share_cell}
+use Rattle.ov_sweep_rows.specs.Cells.{crash_cell, decimals_cell, flag_cell, further_cells}
+use Rattle.ov_sweep_rows.specs.RowCells.{cells}
+use Rattle.ov_sweep_rows.specs.PhaseCosts.{cost_cells}
+use Rattle.ov_sweep_rows.specs.Cells.{number_cell, phase_cells, setting_cells, share_cell}
+use Rattle.ov_sweep_rows.specs.PhaseShape.{shape_cells}
 use Rattle.ov_sweep_rows.specs.Columns.{columns, if_asked}
 use Rattle.ov_sweep_rows.specs.Fields.{HasNoMore, SayRow}
 use Rattle.ov_sweep_rows.specs.Reading.{AreRowsOf, SayRows, is_no_header}
 use Rattle.ov_sweep_rows.proofs.Forms.{form_of}
-use Rattle.ov_sweep_rows.proofs.Rebuilding.{costs_long, costs_three, row_of, shape_long}
+use Rattle.ov_sweep_rows.proofs.Rebuilding.{costs_long, row_of, shape_long}
 
 -- ---- one value of each cell
 
@@ -221,6 +225,12 @@ same_shapes a b c x y z e =
     (shape_long b ∙ sym (shape_long y)) more in
     (one_shape a x first, one_shape b y second, one_shape c z third)
 
+-- as many cells of three phases
+as_long : (a b c x y z : List Cell) → length a ≡ length x → length b ≡ length y → length c ≡ length z
+    → length (a ++ (b ++ c)) ≡ length (x ++ (y ++ z))
+as_long a b c x y z p q r =
+    omega (arith, p, q, r, length-append a (b ++ c), length-append b c, length-append x (y ++ z), length-append y z)
+
 -- two rows of three phases with the same cells are one
 same_row : (f : RowForm) (o p : GrowOptions) (a b c x y z : PhaseRow)
     → cells f (row_of o a b c) ≡ cells f (row_of p x y z) → HasNoMore f (row_of o a b c) → HasNoMore f (row_of p x y z)
@@ -230,7 +240,9 @@ same_row f o p a b c x y z e first second =
     let prices = cost_cells x.costs ++ (cost_cells y.costs ++ cost_cells z.costs) in
     let shapes = shape_cells a.shape ++ (shape_cells b.shape ++ shape_cells c.shape) in
     let figures = shape_cells x.shape ++ (shape_cells y.shape ++ shape_cells z.shape) in
-    let costs_as_long : length costs ≡ length prices = omega (arith, costs_three a b c, costs_three x y z) in
+    let costs_as_long = as_long (cost_cells a.costs) (cost_cells b.costs) (cost_cells c.costs) (cost_cells x.costs)
+    (cost_cells y.costs) (cost_cells z.costs) (costs_long a.costs ∙ sym (costs_long x.costs))
+    (costs_long b.costs ∙ sym (costs_long y.costs)) (costs_long c.costs ∙ sym (costs_long z.costs)) in
     let tail = if_asked f.costs costs ++ if_asked f.shape shapes in
     let end = if_asked f.costs prices ++ if_asked f.shape figures in
     let (options, e1) = same_front (setting_cells o ++ (cell.Number o.seed ∷ []))

@@ -1,29 +1,14 @@
 -- A text is read record by record.
-use Rattle.std.proofs.Common.{Bor, ◌≡◌, ◌∙◌, ◌<◌, ℕ, false, List, [], ◌∷◌, ◌++◌, length, Option, Some, None}
+use Rattle.std.proofs.Common.{Bor, ◌≡◌, ◌∙◌, ◌<◌, ℕ, false, List, [], ◌∷◌, ◌++◌, length, Some, None}
 use Rattle.std.proofs.Common.{Ok, refl, sym, inl, inr}
 use Rattle.std.specs.Prelude.{IfSome}
-use Rattle.csv.specs.Reading.{AreRecords, Reached, Ready, RowStep, default_config, is_flexible, source_of, strip_bom}
+use Rattle.csv.specs.Reading.{AreRecords, Reached, RowStep, default_config, is_flexible, source_of, strip_bom}
 use Rattle.csv.specs.Records.{Row, fields_of}
 use Rattle.csv.specs.declared.parser.State.TheVariants as st
 use Rattle.csv.specs.declared.reader.Reader.{Reader}
 use Rattle.csv.specs.declared.reader.Trim.TheVariants as trim
+use Rattle.ov_sweep_rows.specs.Code.Standing.{Stands, text_left}
 use Rattle.csv.proofs.ReadFacts.{rows-end, rows-more}
-
--- what a text has, of which a slice is read
-abbrev pub text_left : Bor (List ℕ) → Option (List ℕ)
-text_left s = Some s.now
-
--- a reader has given these records of a text, and goes on
-pub record Stands (text : List ℕ) (reader : Reader (Bor (List ℕ))) (left : ℕ) (records : List (List (List ℕ)))
-    : Type 0 where
-  pub plain : reader.trim ≡ trim.None
-  pub ready : Ready reader
-  pub turns : 0 < left
-  pub set : reader.config ≡ default_config
-  pub strict : is_flexible reader ≡ false
-  pub rest : List ℕ
-  pub source : source_of text_left reader ≡ Some rest
-  pub reached : Reached default_config st.StartRecord (strip_bom text) records reader.state rest
 
 -- none was given yet
 pub stands_first : (text : List ℕ) (reader : Reader (Bor (List ℕ))) (left : ℕ) → reader.trim ≡ trim.None

@@ -1,6 +1,6 @@
 -- Why a text of rows is refused.
 use Rattle.std.proofs.Common.{Bor, ◌≡◌, ℕ, List, [], ◌∷◌, ◌++◌, length, Option, Some, None, Ok}
-use Rattle.std.proofs.Common.{true, false, refl, sym, ap, ◌∙◌}
+use Rattle.std.proofs.Common.{true, false, refl, sym, ap, ap₂, ◌∙◌}
 use Rattle.std.specs.Prelude.{Err, IfErr, Result, option_map, unwrap_or}
 use Rattle.std.specs.Result.{IsErrAnd}
 use Rattle.csv.specs.Machine.{Read, next_record}
@@ -12,7 +12,7 @@ use Rattle.csv.specs.declared.parser.Config.{Config}
 use Rattle.csv.specs.declared.parser.State.{State}
 use Rattle.csv.specs.declared.parser.State.TheVariants as st
 use Rattle.csv.specs.declared.reader.Reader.{Reader}
-use Rattle.csv.proofs.ReadFacts.{reached-more}
+use Rattle.csv.proofs.ReadFacts.{reached-more, rows-end}
 use Rattle.ov_sweep_rows.specs.declared.row.Row.{Row}
 use Rattle.ov_sweep_rows.specs.declared.row_form.RowForm.{RowForm}
 use Rattle.ov_sweep_rows.specs.declared.row_fault.RowFault.{RowFault}
@@ -20,7 +20,7 @@ use Rattle.ov_sweep_rows.specs.declared.row_fault.RowFault.TheVariants.{Header, 
 use Rattle.ov_sweep_rows.specs.Columns.{columns}
 use Rattle.ov_sweep_rows.specs.Refusals.{ComesAfterRows, IsRowRefusal, first_record}
 use Rattle.ov_sweep_rows.specs.Code.Taking.{IsFaultOf, IsNoHeader, IsTakeFault}
-use Rattle.ov_sweep_rows.proofs.Records.{Stands, text_left}
+use Rattle.ov_sweep_rows.specs.Code.Standing.{IsUnread, Stands, text_left}
 use Rattle.ov_sweep_rows.proofs.RowByRow.{Reads}
 
 -- what is known of the fault of a result
@@ -119,3 +119,25 @@ unheaded text a b left next row Header stands step is = λ f same.
 unheaded text a b left next row (FieldCount line number needed) stands step is = absurd is
 unheaded text a b left next row (Field line field) stands step is = absurd is
 unheaded text a b left next row OutOfMemory stands step is = tt
+
+-- there is no first record
+pub unbegun : (text : List ℕ) (a b : Reader (Bor (List ℕ))) (left next : ℕ) → Stands text a left []
+    → RowStep text_left a b next None → IsRowRefusal text Header
+unfolding Reached
+unbegun text a b left next stands step = λ f same.
+    let none = rows-end text_left a b [] default_config stands.rest stands.set stands.source step in
+    let here : next_record default_config st.StartRecord [] [] (strip_bom text) ≡ None =
+    ap₂ (λ (s : State) (xs : List ℕ). next_record default_config s [] [] xs) stands.reached.0 stands.reached.1 ∙ none in
+    cc (sym (ap (option_map (λ p. p.0)) here) ∙ same)
+
+-- the first record can't be read
+pub first_unread : (text : List ℕ) (a b : Reader (Bor (List ℕ))) (left : ℕ) (why : ErrorKind) (fault : RowFault)
+    → IsUnread text a left → ExplainsRead text_left a b false why → IsFaultOf why fault → IsRowRefusal text fault
+first_unread text a b left (kind.UnequalLengths pos expected len) fault begun explains is =
+    let (flexible, expects, other, fields, took, long) = explains in
+    cc (sym begun.free ∙ expects)
+first_unread text a b left (kind.Io e) fault begun explains is = rw is tt
+first_unread text a b left (kind.Utf8 pos err) fault begun explains is = rw is tt
+first_unread text a b left kind.OutOfMemory fault begun explains is = rw is tt
+first_unread text a b left (kind.Serialize told) fault begun explains is = rw is tt
+first_unread text a b left (kind.Deserialize pos err) fault begun explains is = rw is tt

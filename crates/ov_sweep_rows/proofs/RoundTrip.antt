@@ -13,7 +13,8 @@ use Rattle.ov_lines.specs.Lines.{number_within}
 use Rattle.ov_sweep_rows.specs.declared.row.Row.{Row}
 use Rattle.ov_sweep_rows.specs.declared.row_form.RowForm.{RowForm}
 use Rattle.ov_sweep_rows.specs.declared.row_fault.FieldForm.TheVariants as form
-use Rattle.ov_sweep_rows.specs.Cells.{cells, read_as}
+use Rattle.ov_sweep_rows.specs.Cells.{read_as}
+use Rattle.ov_sweep_rows.specs.RowCells.{cells}
 use Rattle.ov_sweep_rows.specs.Columns.{columns, forms}
 use Rattle.ov_sweep_rows.specs.Fields.{SayRow, text_at}
 use Rattle.ov_sweep_rows.specs.Reading.{AreRowsOf, SayRows, is_no_header}

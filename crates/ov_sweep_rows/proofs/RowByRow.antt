@@ -11,7 +11,8 @@ use Rattle.ov_sweep_rows.specs.Columns.{columns}
 use Rattle.ov_sweep_rows.specs.Fields.{SayRow}
 use Rattle.ov_sweep_rows.specs.Reading.{AreRowsOf, SayRows, is_no_header}
 use Rattle.ov_sweep_rows.specs.Code.Taking.{WasTaken}
-use Rattle.ov_sweep_rows.proofs.Records.{Stands, fields_next, stands_last, stands_more, text_left}
+use Rattle.ov_sweep_rows.specs.Code.Standing.{Stands, text_left}
+use Rattle.ov_sweep_rows.proofs.Records.{fields_next, stands_last, stands_more}
 use Rattle.ov_sweep_rows.proofs.Said.{header_said, is_header_test, is_row_test, row_said}
 
 -- a reader has given the header and records behind it, which say these rows, and goes on

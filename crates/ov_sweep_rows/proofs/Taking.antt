@@ -10,12 +10,15 @@ use Rattle.ov_sweep_rows.specs.declared.row_fault.FieldForm.{FieldForm}
 use Rattle.ov_sweep_rows.specs.declared.row_fault.RowFault.{RowFault}
 use Rattle.ov_sweep_rows.specs.declared.row_fault.RowFault.TheVariants.{Header, FieldCount, Field, OutOfMemory}
 use Rattle.ov_sweep_rows.specs.declared.row_form.RowForm.{RowForm}
-use Rattle.ov_sweep_rows.specs.Cells.{cells, cells_read, parameter_cells}
-use Rattle.ov_sweep_rows.specs.Columns.{columns, forms, table}
+use Rattle.ov_sweep_rows.specs.Cells.{cells_read, parameter_cells}
+use Rattle.ov_sweep_rows.specs.RowCells.{cells}
+use Rattle.ov_sweep_rows.specs.Columns.{column_name, columns, forms, table}
 use Rattle.ov_sweep_rows.specs.Fields.{HasNoMore, SayRow}
 use Rattle.ov_sweep_rows.specs.Code.Taking.{IsLackOf, IsLastParameter, IsRowFault, IsTakeFault}
 use Rattle.ov_sweep_rows.proofs.CellByCell.{forms_by_table, lack_read, rest_read, take_read}
-use Rattle.ov_sweep_rows.proofs.Named.{Column, forms_of, row_of}
+use Rattle.ov_sweep_rows.specs.declared.columns.Column.{Column}
+use Rattle.ov_sweep_rows.specs.Code.Named.{name_and_form}
+use Rattle.ov_sweep_rows.proofs.Named.{forms_of}
 
 -- what a call adds if it is Ok
 pub on_ok : {A E : Type 0} (r : Result A E) (First Second : Type 0) → (First → Second) → OnOk r First → OnOk r Second
@@ -36,7 +39,7 @@ pub lacking : (f : RowForm) (fields : List (List ℕ)) (fault : RowFault) → Is
 lacking f fields (Field line field) (at, none, first) =
     let form_there : slice_get (forms f) field.place ≡ Some field.takes =
     slice_get-map (λ row. row.1) (table f) field.place ∙ ap (option_map (λ (row : List ℕ × FieldForm). row.1)) at in
-    let name_there : slice_get (columns f) field.place ≡ Some field.column.now =
+    let name_there : slice_get (columns f) field.place ≡ Some (column_name field.column) =
     slice_get-map (λ row. row.0) (table f) field.place ∙ ap (option_map (λ (row : List ℕ × FieldForm). row.0)) at in (
       λ row says. lack_read (forms f) fields field.place field.takes (cells f row) form_there none says.said,
       record { named = name_there; taken = form_there; lacks = inl none; first = first },
@@ -79,7 +82,7 @@ beyond f fields cs OutOfMemory read none is = tt
 
 -- what the columns of a header read
 pub by_header : (f : RowForm) (fields : List (List ℕ)) (columns : List Column) (here : List Column) (cs : List Cell)
-    → here ≡ columns → map row_of columns ≡ table f → cells_read (forms_of here) fields ≡ Some cs
+    → here ≡ columns → map name_and_form columns ≡ table f → cells_read (forms_of here) fields ≡ Some cs
     → cells_read (forms f) fields ≡ Some cs
 by_header f fields columns here cs same rows read =
     subst (λ (fs : List FieldForm). cells_read fs fields ≡ Some cs)

@@ -1,6 +1,6 @@
 -- What a column reads is what it takes.
 use Rattle.std.proofs.Common.{◌≡◌, ◌&&◌, ℕ, suc, Bool, true, false, if◌then◌else◌, nat_le, List, [], ◌∷◌}
-use Rattle.std.proofs.Common.{Option, Some, None, refl, sym, ap, subst, arith}
+use Rattle.std.proofs.Common.{Option, Some, None, refl, ap, subst, arith}
 use Rattle.std.specs.Prelude.{codes, option_map, unwrap_or}
 use Rattle.std.proofs.lemmas.Bool.{and_parts, leb-true}
 use Rattle.ov_ids.specs.Options.{◌>>=◌}
@@ -17,9 +17,7 @@ use Rattle.ov_sweep_rows.specs.Cells.{cells_read, decimals_in, most_long, most_s
 use Rattle.ov_sweep_rows.specs.Cells.{or_nothing, parts_in, read_as}
 use Rattle.ov_sweep_rows.specs.Code.Taking.{IsBetween, IsBetweenOrNothing, IsCrash, IsDecimals, IsDecimalsOrNothing}
 use Rattle.ov_sweep_rows.specs.Code.Taking.{IsOrder, IsRefill, TakeFrom, Takes}
-use Rattle.ov_sweep_rows.specs.Cells.{cell_at}
 use Rattle.ov_sweep_rows.proofs.CellByCell.{first_read, too_few}
-use Rattle.ov_sweep_rows.proofs.Rebuilding.{no_more}
 
 -- the cell that an option has
 one_cell : (IsSo : Cell → Type 0) (a c : Cell) → Some a ≡ Some c → IsSo a → IsSo c
@@ -123,20 +121,16 @@ took form.Flag text c is = flag_of c (same text (codes "0")) (same text (codes "
 took form.Sender text c is = between_or_none 1 most_nodes text c is
 
 -- one cell in front
-behind : (c : Cell) (cs : List Cell) (k : ℕ) (xs : List FieldForm) → TakeFrom cs 0 k xs → TakeFrom (c ∷ cs) 0 (suc k) xs
+behind : (c : Cell) (cs : List Cell) (k : ℕ) (xs : List FieldForm) → TakeFrom cs k xs → TakeFrom (c ∷ cs) (suc k) xs
 behind c cs k [] all = tt
-behind c cs k (x ∷ xs) all =
-    let here : Takes x (cell_at cs k) = subst (λ (n : ℕ). Takes x (cell_at cs n)) (no_more k) all.0 in (
-      subst (λ (n : ℕ). Takes x (cell_at (c ∷ cs) n)) (sym (no_more (suc k))) here,
-      behind c cs (suc k) xs all.1,
-    )
+behind c cs k (x ∷ xs) all = (all.0, behind c cs (suc k) xs all.1)
 
 -- what columns read, they take
 pub all_took : (takes : List FieldForm) (texts : List (List ℕ)) (cs : List Cell) → cells_read takes texts ≡ Some cs
-    → TakeFrom cs 0 0 takes
+    → TakeFrom cs 0 takes
 all_took [] texts cs is = tt
 all_took (f ∷ takes) [] cs is = absurd (too_few f takes cs is)
 all_took (f ∷ takes) (t ∷ texts) cs is =
     let (c, es, first, rest, all) = first_read f takes t texts cs is in
-    subst (λ (ds : List Cell). TakeFrom ds 0 0 (f ∷ takes)) all
+    subst (λ (ds : List Cell). TakeFrom ds 0 (f ∷ takes)) all
     (took f t c first, behind c es 0 takes (all_took takes texts es rest))

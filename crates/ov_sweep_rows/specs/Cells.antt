@@ -1,6 +1,6 @@
 -- What stands in the columns of a row, and how it is written and read.
 use Rattle.std.specs.Prelude.{ℕ, ◌+◌, ◌-◌, ◌*◌, ◌/◌, ◌%◌, Bool, ◌&&◌, ◌==◌, nat_le, nat_lt, if◌then◌else◌}
-use Rattle.std.specs.Prelude.{List, [], ◌∷◌, ◌++◌, length, take, drop, slice_get, codes, decimal, Option, Some, None}
+use Rattle.std.specs.Prelude.{List, [], ◌∷◌, ◌++◌, length, take, drop, codes, decimal, Option, Some, None}
 use Rattle.std.specs.Prelude.{get_or, option_map}
 use Rattle.ov_ids.specs.Options.{◌>>=◌}
 use Rattle.ov_ids.specs.ParamsState.{ParamsState}
@@ -14,22 +14,14 @@ use Rattle.ov_grow_options.specs.declared.options.Order.{Order}
 use Rattle.ov_grow_options.specs.declared.options.Order.TheVariants as turn
 use Rattle.ov_sweep_rows.specs.declared.cell.Cell.{Cell}
 use Rattle.ov_sweep_rows.specs.declared.cell.Cell.TheVariants as cell
-use Rattle.ov_sweep_rows.specs.declared.costs_and_shape.PhaseCosts.{PhaseCosts}
-use Rattle.ov_sweep_rows.specs.declared.costs_and_shape.PhaseShape.{PhaseShape}
 use Rattle.ov_sweep_rows.specs.declared.delivered_share.DeliveredShare.{DeliveredShare}
 use Rattle.ov_sweep_rows.specs.declared.four_decimals.FourDecimals.{FourDecimals}
-use Rattle.ov_sweep_rows.specs.declared.measured.Measured.{Measured}
-use Rattle.ov_sweep_rows.specs.declared.measured.Measured.TheVariants as measured
-use Rattle.ov_sweep_rows.specs.declared.row.Phase.{Phase}
-use Rattle.ov_sweep_rows.specs.declared.row.Phase.TheVariants as phase
 use Rattle.ov_sweep_rows.specs.declared.row.PhaseRow.{PhaseRow}
-use Rattle.ov_sweep_rows.specs.declared.row.Row.{Row}
 use Rattle.ov_sweep_rows.specs.declared.row_fault.FieldForm.{FieldForm}
 use Rattle.ov_sweep_rows.specs.declared.row_fault.FieldForm.TheVariants as form
-use Rattle.ov_sweep_rows.specs.declared.row_form.RowForm.{RowForm}
-use Rattle.ov_sweep_rows.specs.Columns.{if_asked}
+use Rattle.ov_sweep_rows.specs.Rows.{phase_name}
 
--- ---- the cells of a row
+-- ---- cells, and those of groups of columns
 
 -- a number, if there is one
 abbrev pub number_cell : Option ℕ → Cell
@@ -80,50 +72,9 @@ phase_cells p =
     cell.Number p.nodes ∷ cell.Number p.k ∷ cell.Number p.least_degree ∷ cell.Number p.links ∷ cell.Number p.entries
     ∷ share_cell p.delivered ∷ []
 
--- what the broadcasts of a phase cost; nothing if that is not known
-abbrev pub cost_cells : Option PhaseCosts → List Cell
-cost_cells None = cell.Empty ∷ cell.Empty ∷ cell.Empty ∷ cell.Empty ∷ cell.Empty ∷ cell.Empty ∷ []
-cost_cells (Some c) =
-    cell.Number c.gossip ∷ cell.Number c.ihave ∷ cell.Number c.graft ∷ cell.Number c.prune ∷ decimals_cell c.hops
-    ∷ decimals_cell c.redundancy ∷ []
-
--- the shape of a phase; nothing if it is not known
-abbrev pub shape_cells : Option PhaseShape → List Cell
-shape_cells None =
-    cell.Empty ∷ cell.Empty ∷ cell.Empty ∷ cell.Empty ∷ cell.Empty ∷ cell.Empty ∷ cell.Empty ∷ []
-shape_cells (Some s) =
-    cell.Number s.largest ∷ cell.Decimals s.clustering ∷ decimals_cell s.path ∷ cell.Number s.diameter
-    ∷ cell.Number s.degree_25 ∷ cell.Number s.degree_50 ∷ cell.Number s.degree_75 ∷ []
-
--- the cells of a phase, if there is one
-abbrev pub of_phase : (PhaseRow → List Cell) → Option PhaseRow → List Cell
-of_phase cells None = []
-of_phase cells (Some p) = cells p
-
--- the cells of each of the three phases, one phase after the other
-abbrev pub of_phases : (PhaseRow → List Cell) → List PhaseRow → List Cell
-of_phases cells phases =
-    of_phase cells (slice_get phases 0) ++ (of_phase cells (slice_get phases 1) ++ of_phase cells (slice_get phases 2))
-
--- the cells of a row of this form, one for each column, in the order of the columns
-abbrev pub cells : RowForm → Row → List Cell
-cells rows_have row =
-    setting_cells row.options
-    ++ (cell.Number row.options.seed
-    ∷ (of_phases phase_cells row.phases
-    ++ (if_asked rows_have.further (further_cells row.options)
-    ++ (if_asked rows_have.costs (of_phases (λ p. cost_cells p.costs) row.phases)
-    ++ if_asked rows_have.shape (of_phases (λ p. shape_cells p.shape) row.phases)))))
-
 -- the cell at a place, counted from 0; nothing behind the last
 abbrev pub cell_at : List Cell → ℕ → Cell
 cell_at cells place = get_or cells place cell.Empty
-
--- what is told of a phase by means: its delivered share, what its broadcasts cost, its shape
-abbrev pub measured_cells : Measured → PhaseRow → List Cell
-measured_cells measured.Delivered p = share_cell p.delivered ∷ []
-measured_cells measured.Costs p = cost_cells p.costs
-measured_cells measured.Shape p = shape_cells p.shape
 
 -- ---- how a cell is written
 
@@ -131,12 +82,6 @@ measured_cells measured.Shape p = shape_cells p.shape
 abbrev pub order_name : Order → List ℕ
 order_name turn.Random = codes "random"
 order_name turn.Oldest = codes "oldest"
-
--- the word for a phase
-abbrev pub phase_name : Phase → List ℕ
-phase_name phase.Settle = codes "settle"
-phase_name phase.Crash = codes "crash"
-phase_name phase.Heal = codes "heal"
 
 -- so many parts of 10,000: the number, a point and four digits behind it
 abbrev pub decimals_text : ℕ → List ℕ

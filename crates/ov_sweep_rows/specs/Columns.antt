@@ -1,8 +1,15 @@
 -- The columns of rows: their names, and what each takes.
-use Rattle.std.specs.Prelude.{ℕ, List, [], ◌∷◌, ◌++◌, Bool, codes, map, slice_get, Option, if◌then◌else◌}
+use Rattle.std.specs.Prelude.{ℕ, List, [], ◌∷◌, ◌++◌, Bool, codes, map, slice_get, Option, Some, None}
+use Rattle.std.specs.Prelude.{if◌then◌else◌}
+use Rattle.ov_sweep_rows.specs.declared.column_name.ColumnName.{ColumnName}
+use Rattle.ov_sweep_rows.specs.declared.row.Phase.{Phase}
+use Rattle.ov_sweep_rows.specs.declared.row.Phase.TheVariants.{Settle, Crash, Heal}
 use Rattle.ov_sweep_rows.specs.declared.row_fault.FieldForm.{FieldForm}
 use Rattle.ov_sweep_rows.specs.declared.row_fault.FieldForm.TheVariants as form
 use Rattle.ov_sweep_rows.specs.declared.row_form.RowForm.{RowForm}
+use Rattle.ov_sweep_rows.specs.PhaseCosts.{cost_columns}
+use Rattle.ov_sweep_rows.specs.PhaseShape.{shape_columns}
+use Rattle.ov_sweep_rows.specs.Rows.{phase_name}
 
 -- the columns of the options of a run but the further ones, with their names and what they take; the last is its seed
 abbrev pub option_columns : List (List ℕ × FieldForm)
@@ -14,48 +21,32 @@ option_columns =
     ∷ (codes "pace", form.Pace) ∷ (codes "rounds", form.Count) ∷ (codes "crash", form.Crash)
     ∷ (codes "heal", form.Count) ∷ (codes "broadcasts", form.Count) ∷ (codes "seed", form.Seed) ∷ []
 
--- the columns of what a run came to after a phase, six for each phase
+-- the columns of what a run came to after a phase, by their names behind that of the phase
 abbrev pub phase_columns : List (List ℕ × FieldForm)
 phase_columns =
-    (codes "settle_nodes", form.Number) ∷ (codes "settle_k", form.Number) ∷ (codes "settle_least_degree", form.Number)
-    ∷ (codes "settle_links", form.Number) ∷ (codes "settle_entries", form.Number)
-    ∷ (codes "settle_delivered", form.DecimalsOrNothing) ∷ (codes "crash_nodes", form.Number)
-    ∷ (codes "crash_k", form.Number) ∷ (codes "crash_least_degree", form.Number) ∷ (codes "crash_links", form.Number)
-    ∷ (codes "crash_entries", form.Number) ∷ (codes "crash_delivered", form.DecimalsOrNothing)
-    ∷ (codes "heal_nodes", form.Number) ∷ (codes "heal_k", form.Number) ∷ (codes "heal_least_degree", form.Number)
-    ∷ (codes "heal_links", form.Number) ∷ (codes "heal_entries", form.Number)
-    ∷ (codes "heal_delivered", form.DecimalsOrNothing) ∷ []
+    (codes "nodes", form.Number) ∷ (codes "k", form.Number) ∷ (codes "least_degree", form.Number)
+    ∷ (codes "links", form.Number) ∷ (codes "entries", form.Number) ∷ (codes "delivered", form.DecimalsOrNothing) ∷ []
 
 -- the columns of the further options
 abbrev pub further_columns : List (List ℕ × FieldForm)
 further_columns = (codes "sequential", form.Flag) ∷ (codes "sender", form.Sender) ∷ (codes "detect", form.Flag) ∷ []
 
--- the columns of what the broadcasts of each phase cost, six for each
-abbrev pub cost_columns : List (List ℕ × FieldForm)
-cost_columns =
-    (codes "settle_gossip", form.Number) ∷ (codes "settle_ihave", form.Number) ∷ (codes "settle_graft", form.Number)
-    ∷ (codes "settle_prune", form.Number) ∷ (codes "settle_hops", form.DecimalsOrNothing)
-    ∷ (codes "settle_redundancy", form.DecimalsOrNothing) ∷ (codes "crash_gossip", form.Number)
-    ∷ (codes "crash_ihave", form.Number) ∷ (codes "crash_graft", form.Number) ∷ (codes "crash_prune", form.Number)
-    ∷ (codes "crash_hops", form.DecimalsOrNothing) ∷ (codes "crash_redundancy", form.DecimalsOrNothing)
-    ∷ (codes "heal_gossip", form.Number) ∷ (codes "heal_ihave", form.Number) ∷ (codes "heal_graft", form.Number)
-    ∷ (codes "heal_prune", form.Number) ∷ (codes "heal_hops", form.DecimalsOrNothing)
-    ∷ (codes "heal_redundancy", form.DecimalsOrNothing) ∷ []
+-- a name behind that of its phase, if it is of one
+abbrev pub name_in : Option Phase → List ℕ → List ℕ
+name_in None name = name
+name_in (Some p) name = phase_name p ++ (codes "_" ++ name)
 
--- the columns of the shape of each phase, seven for each
-abbrev pub shape_columns : List (List ℕ × FieldForm)
-shape_columns =
-    (codes "settle_largest", form.Number) ∷ (codes "settle_clustering", form.Decimals)
-    ∷ (codes "settle_path", form.DecimalsOrNothing) ∷ (codes "settle_diameter", form.Number)
-    ∷ (codes "settle_degree_25", form.Number) ∷ (codes "settle_degree_50", form.Number)
-    ∷ (codes "settle_degree_75", form.Number) ∷ (codes "crash_largest", form.Number)
-    ∷ (codes "crash_clustering", form.Decimals) ∷ (codes "crash_path", form.DecimalsOrNothing)
-    ∷ (codes "crash_diameter", form.Number) ∷ (codes "crash_degree_25", form.Number)
-    ∷ (codes "crash_degree_50", form.Number) ∷ (codes "crash_degree_75", form.Number)
-    ∷ (codes "heal_largest", form.Number) ∷ (codes "heal_clustering", form.Decimals)
-    ∷ (codes "heal_path", form.DecimalsOrNothing) ∷ (codes "heal_diameter", form.Number)
-    ∷ (codes "heal_degree_25", form.Number) ∷ (codes "heal_degree_50", form.Number)
-    ∷ (codes "heal_degree_75", form.Number) ∷ []
+-- the name of a column
+abbrev pub column_name : ColumnName → List ℕ
+column_name column = name_in column.phase column.name.now
+
+-- the columns of a group for a phase
+abbrev pub in_phase : Phase → List (List ℕ × FieldForm) → List (List ℕ × FieldForm)
+in_phase p group = map (λ column. (name_in (Some p) column.0, column.1)) group
+
+-- the columns of a group for each phase, one phase after the other
+abbrev pub in_each_phase : List (List ℕ × FieldForm) → List (List ℕ × FieldForm)
+in_each_phase group = in_phase Settle group ++ (in_phase Crash group ++ in_phase Heal group)
 
 -- a list, if that is asked for
 abbrev pub if_asked : {A : Type 0} → Bool → List A → List A
@@ -65,9 +56,10 @@ if_asked asked items = if asked then items else []
 abbrev pub table : RowForm → List (List ℕ × FieldForm)
 table rows_have =
     option_columns
-    ++ (phase_columns
+    ++ (in_each_phase phase_columns
     ++ (if_asked rows_have.further further_columns
-    ++ (if_asked rows_have.costs cost_columns ++ if_asked rows_have.shape shape_columns)))
+    ++ (if_asked rows_have.costs (in_each_phase cost_columns)
+    ++ if_asked rows_have.shape (in_each_phase shape_columns))))
 
 -- their names, of which a header is made
 abbrev pub columns : RowForm → List (List ℕ)

@@ -5,7 +5,8 @@ use Rattle.ov_ids.specs.ParamsState.{AreWithinLimits}
 use Rattle.ov_sweep_rows.specs.declared.row.Row.{Row}
 use Rattle.ov_sweep_rows.specs.declared.row_form.RowForm.{RowForm}
 use Rattle.ov_sweep_rows.specs.Columns.{columns, forms}
-use Rattle.ov_sweep_rows.specs.Cells.{cells, cells_read}
+use Rattle.ov_sweep_rows.specs.Cells.{cells_read}
+use Rattle.ov_sweep_rows.specs.RowCells.{cells}
 
 -- the text, or none
 abbrev pub or_empty : Option (List ℕ) → List ℕ

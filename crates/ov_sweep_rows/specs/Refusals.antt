@@ -15,7 +15,7 @@ use Rattle.ov_sweep_rows.specs.declared.row_fault.FieldForm.TheVariants as form
 use Rattle.ov_sweep_rows.specs.declared.row_fault.RowFault.{RowFault}
 use Rattle.ov_sweep_rows.specs.declared.row_fault.RowFault.TheVariants.{Header, FieldCount, Field, OutOfMemory}
 use Rattle.ov_sweep_rows.specs.Cells.{cells_read, parameter_cells, read_as}
-use Rattle.ov_sweep_rows.specs.Columns.{columns, form_at, forms}
+use Rattle.ov_sweep_rows.specs.Columns.{column_name, columns, form_at, forms}
 use Rattle.ov_sweep_rows.specs.Fields.{SayRow, text_at}
 use Rattle.ov_sweep_rows.specs.Reading.{SayRows, is_no_header}
 
@@ -38,7 +38,7 @@ LacksForm rows_have fields place takes =
 -- The fault of a record of these fields names a column, by its place and its name, and the form that the column takes.
 -- It is the first column whose text lacks its form: the columns before it read theirs.
 pub record IsFieldFault (rows_have : RowForm) (fields : List (List ℕ)) (field : FieldFault) : Type 0 where
-  pub named : slice_get (columns rows_have) field.place ≡ Some field.column.now
+  pub named : slice_get (columns rows_have) field.place ≡ Some (column_name field.column)
   pub taken : form_at rows_have field.place ≡ Some field.takes
   pub lacks : LacksForm rows_have fields field.place field.takes
   pub first : IsSome (cells_read (take field.place (forms rows_have)) (take field.place fields))

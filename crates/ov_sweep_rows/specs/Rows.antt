@@ -1,5 +1,5 @@
--- The phases of a row, and why a text of rows is refused.
-use Rattle.std.specs.Prelude.{ℕ}
+-- The phases of a row and their words, and why a text of rows is refused.
+use Rattle.std.specs.Prelude.{ℕ, List, codes}
 use Rattle.ov_sweep_rows.specs.declared.row.Phase.{Phase}
 use Rattle.ov_sweep_rows.specs.declared.row.Phase.TheVariants.{Settle, Crash, Heal}
 use Rattle.ov_sweep_rows.specs.declared.row_fault.RowFault.{RowFault}
@@ -10,6 +10,12 @@ abbrev pub place_of : Phase → ℕ
 place_of Settle = 0
 place_of Crash = 1
 place_of Heal = 2
+
+-- the word for a phase
+abbrev pub phase_name : Phase → List ℕ
+phase_name Settle = codes "settle"
+phase_name Crash = codes "crash"
+phase_name Heal = codes "heal"
 
 -- the fault's number: that of a line that can't be read, or that of a refused allocation
 abbrev pub number_of : RowFault → ℕ

@@ -10,9 +10,10 @@ use Rattle.ov_sweep_rows.specs.declared.row.Row.{Row}
 use Rattle.ov_sweep_rows.specs.declared.row_fault.RowFault.{RowFault}
 use Rattle.ov_sweep_rows.specs.declared.row_fault.RowFault.TheVariants.{OutOfMemory}
 use Rattle.ov_sweep_rows.specs.declared.row_form.RowForm.{RowForm}
-use Rattle.ov_sweep_rows.specs.Cells.{cell_text, cells}
+use Rattle.ov_sweep_rows.specs.Cells.{cell_text}
 use Rattle.ov_sweep_rows.specs.Columns.{columns}
 use Rattle.ov_sweep_rows.specs.Fields.{SayRow}
+use Rattle.ov_sweep_rows.specs.RowCells.{cells}
 
 -- the header of rows of this form: the names of their columns
 abbrev pub header_line : RowForm → List ℕ

@@ -1,14 +1,24 @@
 ghost use Rattle.std.specs.Prelude.{◌≡◌, ◌++◌, map, OnOk, IfOk};
-ghost use Rattle.ov_sweep_rows.specs.Columns.{if_asked, table};
+ghost use Rattle.ov_sweep_rows.specs.Columns.{if_asked, in_each_phase, in_phase, table};
+ghost use Rattle.ov_sweep_rows.specs.Code.Named.{name_and_form, option_of, part_of_phase};
 
-use crate::{FieldForm, RowForm};
+use crate::phase_costs::COST_COLUMNS;
+use crate::phase_shape::SHAPE_COLUMNS;
+use crate::{ColumnName, FieldForm, Phase, PhaseColumn, RowForm};
 use std::alloc::{AllocError, Global};
 
-/// A column of rows: its name, and what it takes.
-pub(crate) type Column = (&'static str, FieldForm);
+/// A column of rows.
+#[derive(Clone, Copy)]
+pub(crate) struct Column {
+    pub(crate) name: ColumnName,
+    pub(crate) takes: FieldForm,
+}
+
+/// A column of an option: its name, and what it takes.
+pub(crate) type OptionColumn = (&'static str, FieldForm);
 
 /// The columns of the options of a run but the further ones, in the order of their table; the last is its seed.
-pub(crate) const OPTIONS: [Column; 19] = [
+pub(crate) const OPTIONS: [OptionColumn; 19] = [
     ("nodes", FieldForm::Nodes),
     ("active", FieldForm::Number),
     ("passive", FieldForm::Number),
@@ -30,101 +40,133 @@ pub(crate) const OPTIONS: [Column; 19] = [
     ("seed", FieldForm::Seed),
 ];
 
-/// The columns of what a run came to after each phase.
-pub(crate) const PHASES: [Column; 18] = [
-    ("settle_nodes", FieldForm::Number),
-    ("settle_k", FieldForm::Number),
-    ("settle_least_degree", FieldForm::Number),
-    ("settle_links", FieldForm::Number),
-    ("settle_entries", FieldForm::Number),
-    ("settle_delivered", FieldForm::DecimalsOrNothing),
-    ("crash_nodes", FieldForm::Number),
-    ("crash_k", FieldForm::Number),
-    ("crash_least_degree", FieldForm::Number),
-    ("crash_links", FieldForm::Number),
-    ("crash_entries", FieldForm::Number),
-    ("crash_delivered", FieldForm::DecimalsOrNothing),
-    ("heal_nodes", FieldForm::Number),
-    ("heal_k", FieldForm::Number),
-    ("heal_least_degree", FieldForm::Number),
-    ("heal_links", FieldForm::Number),
-    ("heal_entries", FieldForm::Number),
-    ("heal_delivered", FieldForm::DecimalsOrNothing),
-];
-
 /// The columns of the further options.
-pub(crate) const FURTHER: [Column; 3] = [
+pub(crate) const FURTHER: [OptionColumn; 3] = [
     ("sequential", FieldForm::Flag),
     ("sender", FieldForm::Sender),
     ("detect", FieldForm::Flag),
 ];
 
-/// The columns of what the broadcasts of each phase cost.
-pub(crate) const COSTS: [Column; 18] = [
-    ("settle_gossip", FieldForm::Number),
-    ("settle_ihave", FieldForm::Number),
-    ("settle_graft", FieldForm::Number),
-    ("settle_prune", FieldForm::Number),
-    ("settle_hops", FieldForm::DecimalsOrNothing),
-    ("settle_redundancy", FieldForm::DecimalsOrNothing),
-    ("crash_gossip", FieldForm::Number),
-    ("crash_ihave", FieldForm::Number),
-    ("crash_graft", FieldForm::Number),
-    ("crash_prune", FieldForm::Number),
-    ("crash_hops", FieldForm::DecimalsOrNothing),
-    ("crash_redundancy", FieldForm::DecimalsOrNothing),
-    ("heal_gossip", FieldForm::Number),
-    ("heal_ihave", FieldForm::Number),
-    ("heal_graft", FieldForm::Number),
-    ("heal_prune", FieldForm::Number),
-    ("heal_hops", FieldForm::DecimalsOrNothing),
-    ("heal_redundancy", FieldForm::DecimalsOrNothing),
+/// The columns of what a run came to after a phase.
+pub(crate) const PHASE_COLUMNS: [PhaseColumn; 6] = [
+    PhaseColumn {
+        name: "nodes",
+        takes: FieldForm::Number,
+        head: "nodes",
+    },
+    PhaseColumn {
+        name: "k",
+        takes: FieldForm::Number,
+        head: "k",
+    },
+    PhaseColumn {
+        name: "least_degree",
+        takes: FieldForm::Number,
+        head: "least degree",
+    },
+    PhaseColumn {
+        name: "links",
+        takes: FieldForm::Number,
+        head: "links",
+    },
+    PhaseColumn {
+        name: "entries",
+        takes: FieldForm::Number,
+        head: "entries",
+    },
+    DELIVERED,
 ];
 
-/// The columns of the shape of each phase.
-pub(crate) const SHAPES: [Column; 21] = [
-    ("settle_largest", FieldForm::Number),
-    ("settle_clustering", FieldForm::Decimals),
-    ("settle_path", FieldForm::DecimalsOrNothing),
-    ("settle_diameter", FieldForm::Number),
-    ("settle_degree_25", FieldForm::Number),
-    ("settle_degree_50", FieldForm::Number),
-    ("settle_degree_75", FieldForm::Number),
-    ("crash_largest", FieldForm::Number),
-    ("crash_clustering", FieldForm::Decimals),
-    ("crash_path", FieldForm::DecimalsOrNothing),
-    ("crash_diameter", FieldForm::Number),
-    ("crash_degree_25", FieldForm::Number),
-    ("crash_degree_50", FieldForm::Number),
-    ("crash_degree_75", FieldForm::Number),
-    ("heal_largest", FieldForm::Number),
-    ("heal_clustering", FieldForm::Decimals),
-    ("heal_path", FieldForm::DecimalsOrNothing),
-    ("heal_diameter", FieldForm::Number),
-    ("heal_degree_25", FieldForm::Number),
-    ("heal_degree_50", FieldForm::Number),
-    ("heal_degree_75", FieldForm::Number),
-];
+/// The column of the delivered share of a phase.
+pub(crate) const DELIVERED: PhaseColumn = PhaseColumn {
+    name: "delivered",
+    takes: FieldForm::DecimalsOrNothing,
+    head: "delivered",
+};
 
 /// The columns of rows of this form, in their order.
 pub(crate) fn columns_of(alloc: Global, form: RowForm) -> Result<Vec<Column>, AllocError>
-    ensures { IfOk result (λ columns. map (λ column. (column.0.now, column.1)) columns.items ≡ table form) }
+    ensures { IfOk result (λ columns. map name_and_form columns.items ≡ table form) }
 {
-    let mut columns: Vec<Column> = Vec::new(alloc);
-    columns.extend_from_slice(&OPTIONS)?;
-    columns.extend_from_slice(&PHASES)?;
-    push_asked(&mut columns, form.further, &FURTHER)?;
-    push_asked(&mut columns, form.costs, &COSTS)?;
-    push_asked(&mut columns, form.shape, &SHAPES)?;
+    let mut columns = Vec::new(alloc);
+    push_columns(&mut columns, form)?;
     Ok(columns)
 }
 
-/// Adds columns, if they are asked for.
-fn push_asked(columns: &mut Vec<Column>, asked: bool, more: &[Column]) -> Result<(), AllocError>
-    ensures { OnOk result (columns.new.items ≡ columns.old.items ++ if_asked asked more.now) }
+/// Adds the columns of rows of this form.
+fn push_columns(columns: &mut Vec<Column>, form: RowForm) -> Result<(), AllocError>
+    ensures { OnOk result (map name_and_form columns.new.items ≡ map name_and_form columns.old.items ++ table form) }
+{
+    push_options(columns, true, &OPTIONS)?;
+    push_phases(columns, true, &PHASE_COLUMNS)?;
+    push_options(columns, form.further, &FURTHER)?;
+    push_phases(columns, form.costs, &COST_COLUMNS)?;
+    push_phases(columns, form.shape, &SHAPE_COLUMNS)
+}
+
+/// The columns of the options and the further options of a run.
+pub(crate) fn columns_of_options(alloc: Global) -> Result<Vec<Column>, AllocError> {
+    let mut columns = Vec::new(alloc);
+    push_options(&mut columns, true, &OPTIONS)?;
+    push_options(&mut columns, true, &FURTHER)?;
+    Ok(columns)
+}
+
+/// Adds the columns of options, if they are asked for.
+fn push_options(
+    columns: &mut Vec<Column>,
+    asked: bool,
+    options: &[OptionColumn],
+) -> Result<(), AllocError>
+    ensures { OnOk result (map name_and_form columns.new.items
+        ≡ map name_and_form columns.old.items ++ if_asked asked (map option_of options.now)) }
 {
     if !asked {
         return Ok(());
     }
-    Ok(columns.extend_from_slice(more)?)
+    for (name, takes) in options {
+        columns.push(Column {
+            name: ColumnName { phase: None, name },
+            takes: *takes,
+        })?;
+    }
+    Ok(())
+}
+
+/// Adds the columns of a group for each phase, if they are asked for.
+fn push_phases(
+    columns: &mut Vec<Column>,
+    asked: bool,
+    group: &[PhaseColumn],
+) -> Result<(), AllocError>
+    ensures { OnOk result (map name_and_form columns.new.items
+        ≡ map name_and_form columns.old.items ++ if_asked asked (in_each_phase (map part_of_phase group.now))) }
+{
+    if !asked {
+        return Ok(());
+    }
+    push_phase(columns, Phase::Settle, group)?;
+    push_phase(columns, Phase::Crash, group)?;
+    push_phase(columns, Phase::Heal, group)
+}
+
+/// Adds the columns of a group for a phase.
+fn push_phase(
+    columns: &mut Vec<Column>,
+    phase: Phase,
+    group: &[PhaseColumn],
+) -> Result<(), AllocError>
+    ensures { OnOk result (map name_and_form columns.new.items
+        ≡ map name_and_form columns.old.items ++ in_phase phase (map part_of_phase group.now)) }
+{
+    for part in group {
+        columns.push(Column {
+            name: ColumnName {
+                phase: Some(phase),
+                name: part.name,
+            },
+            takes: part.takes,
+        })?;
+    }
+    Ok(())
 }

@@ -1,10 +1,22 @@
 ghost use Rattle.std.specs.Prelude.{◌≡◌};
-ghost use Rattle.ov_sweep_rows.specs.Cells.{cell_at, measured_cells};
+ghost use Rattle.ov_sweep_rows.specs.Cells.{cell_at};
+ghost use Rattle.ov_sweep_rows.specs.RowCells.{measured_cells};
 
 use crate::cell::Cell;
 use crate::cells_to_row::cell_at;
-use crate::row_cells::{cost_cells, shape_cells, share_cell};
-use crate::{PhaseRow, Row};
+use crate::columns::DELIVERED;
+use crate::phase_costs::{COST_COLUMNS, COSTS_MEANING, cost_cells};
+use crate::phase_shape::{SHAPE_COLUMNS, SHAPE_MEANING, shape_cells};
+use crate::row_cells::share_cell;
+use crate::{PhaseColumn, PhaseRow, Row};
+
+/// The column of the delivered share alone.
+const SHARE_COLUMNS: [PhaseColumn; 1] = [DELIVERED];
+
+/// What it means, for people.
+const DELIVERED_MEANING: &str = "\
+delivered: how often a node delivered a broadcast of the phase, over broadcasts times live nodes.
+";
 
 /// What is told of a phase by means.
 #[derive(Clone, Copy)]
@@ -18,6 +30,27 @@ pub enum Measured {
 }
 
 impl Measured {
+    /// All that is told by means, in the order of their columns.
+    pub const ALL: [Measured; 3] = [Measured::Delivered, Measured::Costs, Measured::Shape];
+
+    /// The columns that a phase has for it, in their order.
+    pub fn columns(self) -> &'static [PhaseColumn] {
+        match self {
+            Measured::Delivered => &SHARE_COLUMNS,
+            Measured::Costs => &COST_COLUMNS,
+            Measured::Shape => &SHAPE_COLUMNS,
+        }
+    }
+
+    /// What these columns mean, for people.
+    pub fn meaning(self) -> &'static str {
+        match self {
+            Measured::Delivered => DELIVERED_MEANING,
+            Measured::Costs => COSTS_MEANING,
+            Measured::Shape => SHAPE_MEANING,
+        }
+    }
+
     /// The cell at a place among those that a phase has of it, in the order of their columns, counted from 0; nothing
     /// behind the last.
     pub fn cell(self, phase: &PhaseRow, place: usize) -> Cell

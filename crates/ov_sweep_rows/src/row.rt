@@ -1,5 +1,5 @@
 ghost use Rattle.std.specs.Prelude.{◌≡◌, ◌<◌, ◌↔◌, IsTrue, Some, slice_get};
-ghost use Rattle.ov_sweep_rows.specs.Cells.{phase_name};
+ghost use Rattle.ov_sweep_rows.specs.Rows.{phase_name};
 ghost use Rattle.ov_sweep_rows.specs.Writing.{asks_further, has_costs, has_shape};
 
 use crate::{DeliveredShare, PhaseCosts, PhaseShape};

@@ -5,12 +5,11 @@ ghost use Rattle.ov_ids.specs.ParamsState.{AreWithinLimits};
 ghost use Rattle.ov_sweep_rows.specs.Cells.{cell_text, crash_cell, decimals_cell, flag_cell};
 ghost use Rattle.ov_sweep_rows.specs.Cells.{number_cell, read_as, share_cell};
 ghost use Rattle.ov_sweep_rows.specs.Cells as cells_of;
-ghost use Rattle.ov_sweep_rows.specs.Code.Written.{AreReadBack, cost_forms, further_forms, phase_forms};
-ghost use Rattle.ov_sweep_rows.specs.Code.Written.{setting_forms, shape_forms};
+ghost use Rattle.ov_sweep_rows.specs.Code.Written.{AreReadBack, further_forms, phase_forms, setting_forms};
 ghost use Rattle.ov_sweep_rows.specs.declared.row_fault.FieldForm.TheVariants as form;
 
 use crate::cell::Cell;
-use crate::{DeliveredShare, FourDecimals, MessageRow, PhaseCosts, PhaseRow, PhaseShape};
+use crate::{DeliveredShare, FourDecimals, MessageRow, PhaseRow};
 use ov_grow_options::{Crash, GrowOptions, Pace};
 use ov_ids::NodeId;
 
@@ -85,43 +84,6 @@ pub(crate) fn phase_cells(phase: &PhaseRow) -> [Cell; 6]
     ]
 }
 
-/// The cells of what the broadcasts of a phase cost, in the order of their columns; empty if that is not known.
-pub(crate) fn cost_cells(costs: Option<PhaseCosts>) -> [Cell; 6]
-    ensures cells { result ≡ cells_of.cost_cells costs }
-    ensures back { IfSome costs (λ c. AreReadBack cost_forms result) }
-{
-    match costs {
-        None => [Cell::Empty; 6],
-        Some(costs) => [
-            number(costs.gossip),
-            number(costs.ihave),
-            number(costs.graft),
-            number(costs.prune),
-            decimals_cell(costs.hops),
-            decimals_cell(costs.redundancy),
-        ],
-    }
-}
-
-/// The cells of a shape, in the order of their columns; empty if it is not known.
-pub(crate) fn shape_cells(shape: Option<PhaseShape>) -> [Cell; 7]
-    ensures cells { result ≡ cells_of.shape_cells shape }
-    ensures back { IfSome shape (λ s. AreReadBack shape_forms result) }
-{
-    match shape {
-        None => [Cell::Empty; 7],
-        Some(shape) => [
-            number(shape.largest),
-            decimals(shape.clustering),
-            decimals_cell(shape.path),
-            number(shape.diameter),
-            number(shape.degree_25),
-            number(shape.degree_50),
-            number(shape.degree_75),
-        ],
-    }
-}
-
 /// The cells of a broadcast behind those of its run, in the order of their columns.
 pub(crate) fn message_cells(message: &MessageRow) -> [Cell; 10] {
     [
@@ -138,7 +100,8 @@ pub(crate) fn message_cells(message: &MessageRow) -> [Cell; 10] {
     ]
 }
 
-fn number(value: u32) -> Cell
+/// The cell of a number.
+pub(crate) fn number(value: u32) -> Cell
     ensures cell { result ≡ number_cell (Some value) }
     ensures back { read_as form.Number (cell_text result) ≡ Some result }
 {
@@ -205,7 +168,8 @@ pub(crate) fn share_cell(share: Option<DeliveredShare>) -> Cell
     }
 }
 
-fn decimals_cell(number: Option<FourDecimals>) -> Cell
+/// The cell of a number with four decimal digits; empty without one.
+pub(crate) fn decimals_cell(number: Option<FourDecimals>) -> Cell
     ensures cell { result ≡ decimals_cell number }
     ensures back { read_as form.DecimalsOrNothing (cell_text result) ≡ Some result }
 {
@@ -215,7 +179,8 @@ fn decimals_cell(number: Option<FourDecimals>) -> Cell
     }
 }
 
-fn decimals(number: FourDecimals) -> Cell
+/// The cell of a number with four decimal digits.
+pub(crate) fn decimals(number: FourDecimals) -> Cell
     ensures cell { result ≡ decimals_cell (Some number) }
     ensures back { read_as form.Decimals (cell_text result) ≡ Some result }
     ensures present { read_as form.DecimalsOrNothing (cell_text result) ≡ Some result }

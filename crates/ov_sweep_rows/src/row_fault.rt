@@ -1,6 +1,7 @@
 ghost use Rattle.std.specs.Prelude.{◌≡◌};
 ghost use Rattle.ov_sweep_rows.specs.Rows.{number_of};
 
+use crate::ColumnName;
 use csv::{Error as CsvError, ErrorKind};
 use std::alloc::{AllocError, AllocFailed};
 use std::fmt::{Display, Formatter, Result, Write};
@@ -43,7 +44,7 @@ pub struct FieldFault {
     /// The place of the column, counted from 0.
     pub place: usize,
     /// Its name.
-    pub column: &'static str,
+    pub column: ColumnName,
     /// What it takes.
     pub takes: FieldForm,
 }

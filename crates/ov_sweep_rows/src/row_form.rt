@@ -1,7 +1,6 @@
 ghost use Rattle.std.specs.Prelude.{◌≡◌};
 ghost use Rattle.std.specs.List.{list_all, list_any};
 ghost use Rattle.ov_sweep_rows.specs.Writing.{asks_further, form_of_rows, form_with, has_costs, has_shape};
-ghost use Rattle.ov_sweep_rows.specs.Code.Written.{costs_from, shapes_from};
 
 use crate::{Measures, Row};
 
@@ -83,23 +82,6 @@ impl RowForm {
             shape: !rows.is_empty() && all_shaped(rows),
         };
         RowForm::with(measures, any_further(rows))
-    }
-
-    /// The place of the first column for costs, if there are such.
-    pub(crate) fn costs_from(self) -> usize
-        ensures { result ≡ costs_from self }
-    {
-        if self.further { 40 } else { 37 }
-    }
-
-    /// The place of the first column for shapes, if there are such.
-    pub(crate) fn shapes_from(self) -> usize
-        ensures { result ≡ shapes_from self }
-    {
-        if self.costs {
-            return self.costs_from() + 18;
-        }
-        self.costs_from()
     }
 }
 

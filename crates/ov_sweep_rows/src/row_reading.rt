@@ -1,12 +1,14 @@
-ghost use Rattle.std.specs.Prelude.{◌≡◌, ◌<◌, ◌↔◌, ◌++◌, ◌∷◌, [], IfErr, IfOk, IsTrue, OnOk};
+ghost use Rattle.std.specs.Prelude.{ℕ, ◌≡◌, ◌<◌, ◌↔◌, ◌++◌, ◌∷◌, [], List, IfErr, IfOk, IsTrue, OnOk};
 ghost use Rattle.std.specs.Prelude.{Some, length, map};
-ghost use Rattle.csv.specs.Records.{field_at, fields_of};
+ghost use Rattle.csv.specs.Records.{fields_of};
 ghost use Rattle.ov_sweep_rows.specs.Cells.{cells_read};
 ghost use Rattle.ov_sweep_rows.specs.Columns.{columns, table};
 ghost use Rattle.ov_sweep_rows.specs.Fields.{SayRow, text_at};
 ghost use Rattle.ov_sweep_rows.specs.Reading.{AreRowsOf};
 ghost use Rattle.ov_sweep_rows.specs.Refusals.{IsRowRefusal};
 ghost use Rattle.ov_sweep_rows.specs.Writing.{IsReadBack, IsRefusedForMemory};
+ghost use Rattle.ov_sweep_rows.specs.Code.Named.{name_and_form};
+ghost use Rattle.ov_sweep_rows.specs.Code.Standing.{IsUnread};
 ghost use Rattle.ov_sweep_rows.specs.Code.Taking.{IsAt, IsLackOf, IsLastParameter, IsNoHeader, IsRowFault};
 ghost use Rattle.ov_sweep_rows.specs.Code.Taking.{IsTakeFault, WasTaken};
 ghost use Rattle.ov_sweep_rows.specs.declared.row_fault.RowFault.TheVariants.{OutOfMemory};
@@ -14,8 +16,9 @@ ghost use Rattle.ov_sweep_rows.specs.declared.row_fault.RowFault.TheVariants.{Ou
 use crate::cell::Cell;
 use crate::cells_to_row::row_with;
 use crate::columns::{Column, columns_of};
-use crate::{FieldFault, FieldForm, Row, RowFault, RowForm};
-use csv::{ByteRecord, ReaderBuilder};
+use crate::row_writing::names_of;
+use crate::{ColumnName, FieldFault, FieldForm, Row, RowFault, RowForm};
+use csv::{ByteRecord, ByteRecordsIntoIter, ReaderBuilder};
 use std::alloc::Global;
 
 /// Reads the rows of a text: a header, and one row of its form a line, as `header_text` and `row_text` write them. The
@@ -41,41 +44,68 @@ fn rows_in(alloc: Global, text: &[u8]) -> Result<Vec<Row>, RowFault>
     ensures rows { IfOk result (λ rows. AreRowsOf text.now rows.items) }
     ensures fault { IfErr result (IsRowRefusal text.now) }
 {
-    let mut records = ReaderBuilder::new()
+    let mut records = records_of(alloc, text);
+    let mut rows = Vec::new(alloc);
+    take_records(alloc, &mut rows, &mut records)?;
+    Ok(rows)
+}
+
+/// The records of a text, the first of which is one like the others.
+fn records_of(alloc: Global, text: &[u8]) -> ByteRecordsIntoIter<&[u8]>
+    ensures { IsUnread text.now result.rdr result.left }
+{
+    ReaderBuilder::new()
         .has_headers(false)
         .from_reader(alloc, text)
-        .into_byte_records();
+        .into_byte_records()
+}
+
+/// Adds the rows that the records of a text say, none of which was read.
+fn take_records(
+    alloc: Global,
+    rows: &mut Vec<Row>,
+    records: &mut ByteRecordsIntoIter<&[u8]>,
+) -> Result<(), RowFault>
+    requires begun { (text : List ℕ) × IsUnread text records.old.rdr records.old.left }
+    requires none { rows.old.items ≡ [] }
+    ensures rows { OnOk result ((text : List ℕ) → IsUnread text records.old.rdr records.old.left
+        → AreRowsOf text rows.new.items) }
+    ensures fault { IfErr result (λ fault. (text : List ℕ) → IsUnread text records.old.rdr records.old.left
+        → IsRowRefusal text fault) }
+{
     let Some(first) = records.next() else {
         return Err(RowFault::Header);
     };
     let header = header_of(alloc, &first?)?;
-    let mut rows = Vec::new(alloc);
     for record in records {
-        take_record(alloc, &mut rows, &header, &record?)?;
+        take_record(alloc, rows, &header, &record?)?;
     }
-    Ok(rows)
+    Ok(())
 }
 
-/// A header: the form of its rows, and their columns.
+/// A header: the form of its rows, their columns, and the names of these.
 #[derive(Drop)]
 struct Header {
     form: RowForm,
     columns: Vec<Column>,
+    names: ByteRecord,
 }
 
 /// The header that a record is. `Header`: it is that of no form.
 fn header_of(alloc: Global, fields: &ByteRecord) -> Result<Header, RowFault>
     ensures header { IfOk result (λ header. fields_of fields.now ≡ columns header.form) }
-    ensures columns { IfOk result
-        (λ header. map (λ column. (column.0.now, column.1)) header.columns.items ≡ table header.form) }
+    ensures columns { IfOk result (λ header. map name_and_form header.columns.items ≡ table header.form) }
+    ensures names { IfOk result (λ header. fields_of header.names ≡ columns header.form) }
     ensures fault { IfErr result (IsNoHeader (fields_of fields.now)) }
 {
     for form in &RowForm::ALL {
         let columns = columns_of(alloc, *form)?;
-        if are_named(fields, &columns) {
+        let names = names_of(alloc, &columns)?;
+        if are_same(fields, &names) {
             return Ok(Header {
                 form: *form,
                 columns,
+                names,
             });
         }
     }
@@ -89,12 +119,13 @@ fn take_record(
     header: &Header,
     fields: &ByteRecord,
 ) -> Result<(), RowFault>
-    requires columns { map (λ column. (column.0.now, column.1)) header.now.columns.items ≡ table header.now.form }
+    requires columns { map name_and_form header.now.columns.items ≡ table header.now.form }
+    requires names { fields_of header.now.names ≡ columns header.now.form }
     requires whole { length (fields_of fields.now) ≡ length (columns header.now.form) }
     ensures taken { OnOk result (WasTaken header.now.form (fields_of fields.now) rows.old.items rows.new.items) }
     ensures fault { IfErr result (IsTakeFault header.now.form (fields_of fields.now)) }
 {
-    if are_named(fields, &header.columns) {
+    if are_same(fields, &header.names) {
         return Ok(());
     }
     match row_of(alloc, header, fields) {
@@ -112,34 +143,24 @@ fn push_row(rows: &mut Vec<Row>, row: Row) -> Result<(), RowFault>
     Ok(())
 }
 
-/// Whether the fields of a record are the names of these columns.
-fn are_named(fields: &ByteRecord, columns: &[Column]) -> bool
-    ensures { IsTrue result ↔ (fields_of fields.now ≡ map (λ column. column.0.now) columns.now) }
+/// Whether two records have the same fields.
+fn are_same(one: &ByteRecord, other: &ByteRecord) -> bool
+    ensures { IsTrue result ↔ (fields_of one.now ≡ fields_of other.now) }
 {
-    if fields.len() != columns.len() {
+    if one.len() != other.len() {
         return false;
     }
-    for (place, (name, _)) in columns.iter().enumerate() {
-        if !is_named(fields, place, name) {
+    for place in 0..one.len() {
+        if text_at(one, place) != text_at(other, place) {
             return false;
         }
     }
     true
 }
 
-/// Whether the field at this place is this name.
-fn is_named(fields: &ByteRecord, place: usize, name: &str) -> bool
-    ensures { IsTrue result ↔ (field_at (fields_of fields.now) place ≡ Some name.now) }
-{
-    match fields.get(place) {
-        Some(field) => field == name.as_bytes(),
-        None => false,
-    }
-}
-
 /// The row that a record under this header says.
 fn row_of(alloc: Global, header: &Header, fields: &ByteRecord) -> Result<Row, RowFault>
-    requires columns { map (λ column. (column.0.now, column.1)) header.now.columns.items ≡ table header.now.form }
+    requires columns { map name_and_form header.now.columns.items ≡ table header.now.form }
     requires whole { length (fields_of fields.now) ≡ length (columns header.now.form) }
     ensures row { IfOk result (SayRow header.now.form (fields_of fields.now)) }
     ensures fault { IfErr result (IsRowFault header.now.form (fields_of fields.now)) }
@@ -155,14 +176,12 @@ fn row_of(alloc: Global, header: &Header, fields: &ByteRecord) -> Result<Row, Ro
 fn read_cells(alloc: Global, columns: &[Column], fields: &ByteRecord) -> Result<Vec<Cell>, RowFault>
     requires { length (fields_of fields.now) ≡ length columns.now }
     ensures cells { IfOk result
-        (λ cells. cells_read (map (λ column. column.1) columns.now) (fields_of fields.now) ≡ Some cells.items) }
-    ensures fault { IfErr result
-        (IsLackOf (map (λ column. (column.0.now, column.1)) columns.now) (fields_of fields.now)) }
+        (λ cells. cells_read (map (λ column. column.takes) columns.now) (fields_of fields.now) ≡ Some cells.items) }
+    ensures fault { IfErr result (IsLackOf (map name_and_form columns.now) (fields_of fields.now)) }
 {
     let mut cells = Vec::new(alloc);
     for (place, column) in columns.iter().enumerate() {
-        let (_, takes) = *column;
-        match takes.read(text_at(fields, place)) {
+        match column.takes.read(text_at(fields, place)) {
             Some(cell) => cells.push(cell)?,
             None => return Err(fault_at(fields, place, *column)),
         }
@@ -184,20 +203,30 @@ fn text_at(fields: &ByteRecord, place: usize) -> &[u8]
 fn params_fault(fields: &ByteRecord) -> RowFault
     ensures { IsLastParameter result }
 {
-    fault_at(fields, 7, ("ttl", FieldForm::Params))
+    let ttl = ColumnName {
+        phase: None,
+        name: "ttl",
+    };
+    fault_at(
+        fields,
+        7,
+        Column {
+            name: ttl,
+            takes: FieldForm::Params,
+        },
+    )
 }
 
 /// That the field at this place is not what its column takes.
 fn fault_at(fields: &ByteRecord, place: usize, column: Column) -> RowFault
-    ensures { IsAt place (column.entry.0.now, column.entry.1) result }
+    ensures { IsAt place (name_and_form column) result }
 {
-    let (name, takes) = column;
     RowFault::Field {
         line: fields.position().map_or(0, |at| at.line),
         field: FieldFault {
             place,
-            column: name,
-            takes,
+            column: column.name,
+            takes: column.takes,
         },
     }
 }

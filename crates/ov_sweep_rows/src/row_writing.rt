@@ -1,17 +1,18 @@
-ghost use Rattle.std.specs.Prelude.{◌≡◌, ◌++◌, IfOk, OnOk, map};
+ghost use Rattle.std.specs.Prelude.{◌≡◌, ◌++◌, [], IfOk, OnOk, map};
 ghost use Rattle.csv.specs.Records.{fields_of};
 ghost use Rattle.csv.specs.Writing.{default_writer, row_text};
 ghost use Rattle.ov_ids.specs.ParamsState.{AreWithinLimits};
-ghost use Rattle.ov_sweep_rows.specs.Cells.{cell_text, cells};
-ghost use Rattle.ov_sweep_rows.specs.Columns.{forms, if_asked};
+ghost use Rattle.ov_sweep_rows.specs.Cells.{cell_text};
+ghost use Rattle.ov_sweep_rows.specs.Columns.{column_name, forms, if_asked};
+ghost use Rattle.ov_sweep_rows.specs.RowCells.{cells};
 ghost use Rattle.ov_sweep_rows.specs.Writing.{HasColumns, IsLineOf, header_line, row_in_form, row_line};
 ghost use Rattle.ov_sweep_rows.specs.Code.Written.{AreReadBack};
 
 use crate::cell::Cell;
-use crate::columns::{FURTHER, OPTIONS, columns_of};
-use crate::row_cells::{
-    cost_cells, further_cells, message_cells, phase_cells, seed_cell, setting_cells, shape_cells,
-};
+use crate::columns::{Column, columns_of, columns_of_options};
+use crate::phase_costs::cost_cells;
+use crate::phase_shape::shape_cells;
+use crate::row_cells::{further_cells, message_cells, phase_cells, seed_cell, setting_cells};
 use crate::{MessageRow, Phase, Row, RowForm};
 use csv::{ByteRecord, WriterBuilder};
 use ov_ids::OutOfMemory;
@@ -24,11 +25,21 @@ pub fn header_text(alloc: Global, form: RowForm) -> Result<Vec<u8>, OutOfMemory>
     ensures { IfOk result (λ text. text.items ≡ header_line form) }
 {
     let columns = columns_of(alloc, form)?;
-    let mut fields = ByteRecord::new(alloc);
-    for (name, _) in &columns {
-        fields.push_field(name.as_bytes())?;
+    let names = names_of(alloc, &columns)?;
+    text_of(alloc, &names)
+}
+
+/// A record of the names of these columns.
+pub(crate) fn names_of(alloc: Global, columns: &[Column]) -> Result<ByteRecord, AllocError>
+    ensures { IfOk result (λ names. fields_of names ≡ map (λ column. column_name column.name) columns.now) }
+{
+    let mut names = ByteRecord::new(alloc);
+    for column in columns {
+        let name = column.name;
+        let text = format!(in alloc; "{name}")?;
+        names.push_field(text.as_bytes())?;
     }
-    text_of(alloc, &fields)
+    Ok(names)
 }
 
 /// A row of this form: its cells in the order of the columns, with one comma between two, and a line feed. Behind their
@@ -47,31 +58,40 @@ fn cells_of(alloc: Global, form: RowForm, row: &Row) -> Result<Vec<Cell>, AllocE
     ensures back { IfOk result (λ made. HasColumns form row.now → AreReadBack (forms form) made.items) }
     ensures within { IfOk result (λ made. AreWithinLimits row.now.options.params) }
 {
+    let mut cells = Vec::new(alloc);
+    push_cells(&mut cells, form, row)?;
+    Ok(cells)
+}
+
+/// Adds the cells of a row of this form.
+fn push_cells(made: &mut Vec<Cell>, form: RowForm, row: &Row) -> Result<(), AllocError>
+    ensures cells { OnOk result (made.old.items ≡ [] → made.new.items ≡ cells form row.now) }
+    ensures back { OnOk result (HasColumns form row.now → AreReadBack (forms form) (cells form row.now)) }
+    ensures within { OnOk result (AreWithinLimits row.now.options.params) }
+{
     let settle = row.after(Phase::Settle);
     let crash = row.after(Phase::Crash);
     let heal = row.after(Phase::Heal);
-    let mut cells = Vec::new(alloc);
-    cells.extend_from_slice(&setting_cells(&row.options))?;
-    cells.push(seed_cell(row.options.seed))?;
-    cells.extend_from_slice(&phase_cells(settle))?;
-    cells.extend_from_slice(&phase_cells(crash))?;
-    cells.extend_from_slice(&phase_cells(heal))?;
-    push_asked(&mut cells, form.further, &further_cells(&row.options))?;
+    made.extend_from_slice(&setting_cells(&row.options))?;
+    made.push(seed_cell(row.options.seed))?;
+    made.extend_from_slice(&phase_cells(settle))?;
+    made.extend_from_slice(&phase_cells(crash))?;
+    made.extend_from_slice(&phase_cells(heal))?;
+    push_asked(made, form.further, &further_cells(&row.options))?;
     push_thrice(
-        &mut cells,
+        made,
         form.costs,
         &cost_cells(settle.costs),
         &cost_cells(crash.costs),
         &cost_cells(heal.costs),
     )?;
     push_thrice(
-        &mut cells,
+        made,
         form.shape,
         &shape_cells(settle.shape),
         &shape_cells(crash.shape),
         &shape_cells(heal.shape),
-    )?;
-    Ok(cells)
+    )
 }
 
 /// Adds cells, if they are asked for.
@@ -121,26 +141,29 @@ const MESSAGE_COLUMNS: [&str; 10] = [
 /// The header of the rows of broadcasts: the names of the columns of the options and the further options of their run,
 /// and of their own, with one comma between two, and a line feed. OutOfMemory (99) if an allocation is refused.
 pub fn message_header_text(alloc: Global) -> Result<Vec<u8>, OutOfMemory> {
-    let mut fields = ByteRecord::new(alloc);
-    for (name, _) in OPTIONS.iter().chain(&FURTHER) {
-        fields.push_field(name.as_bytes())?;
-    }
+    let columns = columns_of_options(alloc)?;
+    let mut names = names_of(alloc, &columns)?;
     for name in &MESSAGE_COLUMNS {
-        fields.push_field(name.as_bytes())?;
+        names.push_field(name.as_bytes())?;
     }
-    text_of(alloc, &fields)
+    text_of(alloc, &names)
 }
 
 /// The row of a broadcast: its cells in the order of the columns, with one comma between two, and a line feed.
 /// OutOfMemory (99) if an allocation is refused.
 pub fn message_row_text(alloc: Global, message: &MessageRow) -> Result<Vec<u8>, OutOfMemory> {
-    let options = &message.options;
     let mut cells = Vec::new(alloc);
+    push_message(&mut cells, message)?;
+    text_of_cells(alloc, &cells)
+}
+
+/// Adds the cells of a broadcast.
+fn push_message(cells: &mut Vec<Cell>, message: &MessageRow) -> Result<(), AllocError> {
+    let options = &message.options;
     cells.extend_from_slice(&setting_cells(options))?;
     cells.push(seed_cell(options.seed))?;
     cells.extend_from_slice(&further_cells(options))?;
-    cells.extend_from_slice(&message_cells(message))?;
-    text_of_cells(alloc, &cells)
+    Ok(cells.extend_from_slice(&message_cells(message))?)
 }
 
 /// The record of cells, with its end.

@@ -5,7 +5,7 @@ use Rattle.std.specs.Global.{Global}
 use Rattle.ov_ids.specs.declared.out_of_memory.OutOfMemory.{OutOfMemory}
 use Rattle.ov_grow_options.specs.declared.options.GrowOptions.{GrowOptions}
 use Rattle.ov_grow.specs.declared.fault.GrowFault.{GrowFault}
-use Rattle.ov_sweep_rows.specs.declared.costs_and_shape.Measures.{Measures}
+use Rattle.ov_sweep_rows.specs.declared.measures.Measures.{Measures}
 use Rattle.ov_sweep_rows.specs.declared.row.Row.{Row}
 use Rattle.ov_sweep.specs.Sweeps.{IsOutcomeAt}
 

@@ -1,5 +1,5 @@
 -- How rows are taken from records.
-use Rattle.std.specs.Prelude.{◌≡◌, ◌≢◌, ◌≤◌, ◌⊎◌, ℕ, suc, ◌+◌, List, [], ◌∷◌, ◌++◌, ⊤}
+use Rattle.std.specs.Prelude.{◌≡◌, ◌≢◌, ◌≤◌, ◌⊎◌, ℕ, suc, List, [], ◌∷◌, ◌++◌, ⊤}
 use Rattle.std.specs.Prelude.{Some, None, IsSome, codes, map, slice_get, take}
 use Rattle.csv.specs.declared.error.ErrorKind.{ErrorKind}
 use Rattle.csv.specs.declared.error.ErrorKind.TheVariants as kind
@@ -13,7 +13,7 @@ use Rattle.ov_sweep_rows.specs.declared.row_form.RowForm.{RowForm}
 use Rattle.ov_sweep_rows.specs.declared.row_fault.RowFault.{RowFault}
 use Rattle.ov_sweep_rows.specs.declared.row_fault.RowFault.TheVariants.{Header, FieldCount, Field, OutOfMemory}
 use Rattle.ov_sweep_rows.specs.Cells.{cell_at, cells_read, most_long, most_short, read_as}
-use Rattle.ov_sweep_rows.specs.Columns.{columns}
+use Rattle.ov_sweep_rows.specs.Columns.{column_name, columns}
 use Rattle.ov_sweep_rows.specs.Fields.{SayRow, text_at}
 use Rattle.ov_sweep_rows.specs.Refusals.{IsFieldFault, IsNoRow}
 
@@ -107,21 +107,21 @@ Takes form.DecimalsOrNothing c = IsDecimalsOrNothing c
 Takes form.Flag c = IsBetween 0 1 c
 Takes form.Sender c = IsBetweenOrNothing 1 most_nodes c
 
--- columns of these forms may read the cells from a place on; the first of these forms is the one at this place of them
-abbrev pub TakeFrom : List Cell → ℕ → ℕ → List FieldForm → Type 0
-TakeFrom cells first k [] = ⊤
-TakeFrom cells first k (takes ∷ more) = Takes takes (cell_at cells (first + k)) × TakeFrom cells first (suc k) more
+-- columns of these forms may read the cells; the first of these forms is the one at this place of them
+abbrev pub TakeFrom : List Cell → ℕ → List FieldForm → Type 0
+TakeFrom cells k [] = ⊤
+TakeFrom cells k (takes ∷ more) = Takes takes (cell_at cells k) × TakeFrom cells (suc k) more
 
--- the cells from a place on are these
-abbrev pub EqualFrom : List Cell → ℕ → ℕ → List Cell → Type 0
-EqualFrom cells first k [] = ⊤
-EqualFrom cells first k (one ∷ more) = (one ≡ cell_at cells (first + k)) × EqualFrom cells first (suc k) more
+-- the cells are these, from the one at this place on
+abbrev pub EqualFrom : List Cell → ℕ → List Cell → Type 0
+EqualFrom cells k [] = ⊤
+EqualFrom cells k (one ∷ more) = (one ≡ cell_at cells k) × EqualFrom cells (suc k) more
 
 -- the fault of a record of these fields names the first of these columns whose text it does not read, or an allocation
 -- was refused
 abbrev pub IsLackOf : List (List ℕ × FieldForm) → List (List ℕ) → RowFault → Type 0
 IsLackOf columns fields (Field line field) =
-    (slice_get columns field.place ≡ Some (field.column.now, field.takes))
+    (slice_get columns field.place ≡ Some (column_name field.column, field.takes))
     × (read_as field.takes (text_at fields field.place) ≡ None)
     × IsSome (cells_read (take field.place (map (λ column. column.1) columns)) (take field.place fields))
 IsLackOf columns fields Header = ⊥
@@ -131,7 +131,7 @@ IsLackOf columns fields OutOfMemory = ⊤
 -- a fault names a column at a place, with what it takes
 abbrev pub IsAt : ℕ → List ℕ × FieldForm → RowFault → Type 0
 IsAt place column (Field line field) =
-    (field.place ≡ place) × (field.column.now ≡ column.0) × (field.takes ≡ column.1)
+    (field.place ≡ place) × (column_name field.column ≡ column.0) × (field.takes ≡ column.1)
 IsAt place column Header = ⊥
 IsAt place column (FieldCount line number needed) = ⊥
 IsAt place column OutOfMemory = ⊥

@@ -2,7 +2,7 @@
 use Rattle.std.proofs.Common.{sym, subst}
 use Rattle.std.specs.Global.{Global}
 use Rattle.std.specs.Prelude.{Vec}
-use Rattle.ov_sweep_rows.specs.declared.costs_and_shape.Measures.{Measures}
+use Rattle.ov_sweep_rows.specs.declared.measures.Measures.{Measures}
 use Rattle.ov_sweep_rows.specs.declared.row.Row.{Row}
 use Rattle.ov_grow_commands.specs.KeptRows.{AreGrown, asked_measures}
 use Rattle.ov_grow_commands.proofs.KeptRows.{kept_grown}

@@ -1,7 +1,7 @@
 -- The runs of the shares so far were done.
 use Rattle.std.proofs.Common.{◌≡◌, List, ◌++◌}
 use Rattle.ov_grow_options.specs.declared.options.GrowOptions.{GrowOptions}
-use Rattle.ov_sweep_rows.specs.declared.costs_and_shape.Measures.{Measures}
+use Rattle.ov_sweep_rows.specs.declared.measures.Measures.{Measures}
 use Rattle.ov_sweep.specs.Code.Shares.{AreDone, AreShares}
 use Rattle.ov_sweep.proofs.overlay_batch_growing.gathered.Given as goal
 

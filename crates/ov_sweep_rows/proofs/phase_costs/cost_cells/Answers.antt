@@ -1,6 +1,6 @@
 use Rattle.ov_sweep_rows.proofs.Gathering.{anyway}
 use Rattle.ov_sweep_rows.proofs.ReadBack.{read_all, read_more}
-use Rattle.ov_sweep_rows.proofs.row_cells.cost_cells.Goals as goal
+use Rattle.ov_sweep_rows.proofs.phase_costs.cost_cells.Goals as goal
 
 pub returns-in-Some-clause-back : goal.returns-in-Some-clause-back
 returns-in-Some-clause-back c =

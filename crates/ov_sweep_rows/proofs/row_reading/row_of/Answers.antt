@@ -1,11 +1,12 @@
-use Rattle.std.proofs.Common.{◌≡◌, ◌∙◌, ℕ, List, length, take, drop, map, subst, sym, ap}
+use Rattle.std.proofs.Common.{◌≡◌, ◌∙◌, ℕ, List, take, drop, map, subst, sym, ap}
 use Rattle.csv.specs.Records.{fields_of}
 use Rattle.ov_sweep_rows.specs.Columns.{forms}
 use Rattle.ov_sweep_rows.specs.declared.row_fault.FieldForm.{FieldForm}
-use Rattle.ov_sweep_rows.specs.Code.Taking.{IsLackOf, IsRowFault, TakeFrom}
+use Rattle.ov_sweep_rows.specs.Code.Groups.{Fits}
+use Rattle.ov_sweep_rows.specs.Code.Taking.{IsLackOf, IsRowFault}
 use Rattle.ov_sweep_rows.specs.declared.cell.Cell.{Cell}
 use Rattle.ov_sweep_rows.proofs.CellByCell.{read_length}
-use Rattle.ov_sweep_rows.proofs.Named.{row_of}
+use Rattle.ov_sweep_rows.specs.Code.Named.{name_and_form}
 use Rattle.ov_sweep_rows.proofs.Refusing.{fault_tells}
 use Rattle.ov_sweep_rows.proofs.Taking.{beyond, by_header, lacking, said_row}
 use Rattle.ov_sweep_rows.proofs.Took.{all_took}
@@ -19,25 +20,19 @@ returns-in_err-cells-clause-fault c =
     (λ fault same. rw same
     (lacking f fields c.in_err-cells.field-0.0
     (subst (λ (rows : List (List ℕ × FieldForm)). IsLackOf rows fields c.in_err-cells.field-0.0)
-    (ap (map row_of) c.deref.ensures.value ∙ c.requires.columns) c.in_err-cells.ensures.fault)))
+    (ap (map name_and_form) c.deref.ensures.value ∙ c.requires.columns) c.in_err-cells.ensures.fault)))
     c.from_residual.ensures.1
 
-pub row_with-requires-clause-long : goal.row_with-requires-clause-long
-row_with-requires-clause-long c =
+pub row_with-requires : goal.row_with-requires
+row_with-requires c =
     let f = c.args.header.now.form in
     let fields = fields_of c.args.fields.now in
     let read = by_header f fields _ _ c.in_ok-cells.cells.items c.deref.ensures.value c.requires.columns
     c.in_ok-cells.ensures.cells in
-    ap length c.deref-2.ensures.value ∙ read_length (forms f) fields c.in_ok-cells.cells.items read
-
-pub row_with-requires-clause-taken : goal.row_with-requires-clause-taken
-row_with-requires-clause-taken c =
-    let f = c.args.header.now.form in
-    let fields = fields_of c.args.fields.now in
-    let read = by_header f fields _ _ c.in_ok-cells.cells.items c.deref.ensures.value c.requires.columns
-    c.in_ok-cells.ensures.cells in
-    subst (λ (cs : List Cell). TakeFrom cs 0 0 (forms f)) (sym c.deref-2.ensures.value)
-    (all_took (forms f) fields c.in_ok-cells.cells.items read)
+    subst (λ (cs : List Cell). Fits cs (forms f)) (sym c.deref-2.ensures.value) (record {
+      long = read_length (forms f) fields c.in_ok-cells.cells.items read;
+      taken = all_took (forms f) fields c.in_ok-cells.cells.items read;
+    })
 
 pub returns-in-Some-clause-row : goal.returns-in-Some-clause-row
 returns-in-Some-clause-row c =

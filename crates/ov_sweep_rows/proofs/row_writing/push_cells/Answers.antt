@@ -8,10 +8,13 @@ use Rattle.ov_sweep_rows.specs.Columns.{forms, if_asked}
 use Rattle.ov_sweep_rows.specs.Code.Written.{AreReadBack, cost_forms, further_forms, phase_forms, setting_forms}
 use Rattle.ov_sweep_rows.specs.Code.Written.{shape_forms}
 use Rattle.ov_sweep_rows.proofs.Gathering.{all_back, appended_thrice, each_phase, gathered, known, options_back}
-use Rattle.ov_sweep_rows.proofs.row_writing.cells_of.Goals as goal
+use Rattle.ov_sweep_rows.proofs.Taking.{on_ok}
+use Rattle.ov_sweep_rows.proofs.row_writing.push_cells.Goals as goal
 
 pub returns-clause-cells : goal.returns-clause-cells
 returns-clause-cells c =
+    on_ok c.push_thrice-2.result _ _
+    (λ pushed empty.
     let f = c.args.form in
     let row = c.args.row.now in
     let a = c.after-settle.result.now in
@@ -22,7 +25,7 @@ returns-clause-cells c =
     let g2 = c.extend_from_slice-3.new.self.items in
     let g3 = c.extend_from_slice-4.new.self.items in
     let start = c.in_ok-extend_from_slice.ensures.items
-    ∙ ap₂ (λ (x : List Cell) (y : List Cell). x ++ y) c.new-cells.ensures.items c.setting_cells.ensures.cells in
+    ∙ ap₂ (λ (x : List Cell) (y : List Cell). x ++ y) empty c.setting_cells.ensures.cells in
     let seeded = c.in_ok-push.ensures.items
     ∙ ap₂ (λ (x : List Cell) (one : Cell). x ++ (one ∷ [])) start c.seed_cell.ensures.cell in
     let first = c.in_ok-extend_from_slice-2.ensures.items
@@ -39,14 +42,17 @@ returns-clause-cells c =
     (ap₂ (λ (x : List Cell) (y : List Cell). x ++ y) c.shape_cells-2.ensures.cells c.shape_cells-3.ensures.cells) in
     let costs = c.in_ok-push_thrice.ensures
     ∙ ap₂ (λ (x : List Cell) (y : List Cell). x ++ if_asked f.costs y) further priced in
-    let shapes = c.in_ok-push_thrice-2.ensures
+    let shapes = pushed
     ∙ ap₂ (λ (x : List Cell) (y : List Cell). x ++ if_asked f.shape y) costs shaped in
     gathered f row a b d g3 c.push_thrice-2.new.cells.items c.after-settle.ensures c.after-crash.ensures
     c.after-heal.ensures
-    (appended_thrice options g1 g2 g3 (phase_cells a) (phase_cells b) (phase_cells d) first second third) shapes
+    (appended_thrice options g1 g2 g3 (phase_cells a) (phase_cells b) (phase_cells d) first second third) shapes)
+    c.push_thrice-2.ensures
 
 pub returns-clause-back : goal.returns-clause-back
-returns-clause-back c = λ has.
+returns-clause-back c =
+    on_ok c.push_thrice-2.result _ _
+    (λ pushed has.
     let f = c.args.form in
     let row = c.args.row.now in
     let a = c.after-settle.result.now in
@@ -58,8 +64,7 @@ returns-clause-back c = λ has.
     let heal = subst (AreReadBack phase_forms) c.phase_cells-3.ensures.cells c.phase_cells-3.ensures.back in
     let further = subst (AreReadBack further_forms) c.further_cells.ensures.cells
     (c.further_cells.ensures.back has.sent) in
-    subst (AreReadBack (forms f)) (sym (returns-clause-cells c))
-    (all_back f row a b d c.after-settle.ensures c.after-crash.ensures c.after-heal.ensures
+    all_back f row a b d c.after-settle.ensures c.after-crash.ensures c.after-heal.ensures
     (options_back row.options c.seed_cell.result c.seed_cell.ensures.cell c.seed_cell.ensures.back settings) settle
     crash heal (λ t. further)
     (λ t. (
@@ -84,3 +89,4 @@ returns-clause-back c = λ has.
           (known d.shape _ (each_phase (λ (x : PhaseRow). IsSome x.shape) row.phases 2 d
           (has.shaped t) c.after-heal.ensures) c.shape_cells-3.ensures.back),
     )))
+    c.push_thrice-2.ensures
