@@ -22,7 +22,7 @@ from fractions import Fraction
 from compare import add_counts, drawn, first_difference, found_of_all, refusals, run, seeds, status_of, words_of
 from grow import Growing
 from rows import asks_further, further_header, further_row, header, message_rows, row_of, swept_header, swept_row
-from shapes import clustering, coefficient, largest, paths, quartiles
+from shapes import articulations, clustering, coefficient, largest, paths, quartiles
 from world import Refusal
 
 # The further columns of a sweep: whether they tell what broadcasts cost, and the shape of the overlay.
@@ -57,8 +57,8 @@ def by_simulate(simulate, growing, words, scenario):
 
 
 def by_networkx(neighbours):
-    """The largest component, the clustering coefficient, the mean path, the diameter and the quartiles of degrees that
-    networkx finds."""
+    """The largest component, the clustering coefficient, the mean path, the diameter, the quartiles of degrees and the
+    articulation points that networkx finds."""
     import networkx
 
     graph = networkx.Graph(neighbours)
@@ -72,13 +72,15 @@ def by_networkx(neighbours):
     path = Fraction(steps, pairs) if pairs else None
     degrees = sorted(degree for _, degree in graph.degree)
     quarters = [degrees[math.ceil(part * len(degrees) / 4) - 1] for part in (1, 2, 3)]
-    return sorted(component), total / len(graph), path, networkx.diameter(part), quarters
+    points = sorted(networkx.articulation_points(part))
+    return sorted(component), total / len(graph), path, networkx.diameter(part), quarters, points
 
 
 def shape_difference(neighbours):
     """How the shape differs from that which networkx finds, in words."""
     component = largest(neighbours)
-    here = (component, clustering(neighbours), *paths(neighbours, component), quartiles(neighbours))
+    points = articulations(neighbours, component)
+    here = (component, clustering(neighbours), *paths(neighbours, component), quartiles(neighbours), points)
     there = by_networkx(neighbours)
     return None if here == there else f"{here} and {there}"
 

@@ -14,7 +14,7 @@ inline std::string decimal(std::optional<uint64_t> parts) {
 constexpr const char* PHASES[] = {"settle", "crash", "heal"};
 constexpr const char* COST_COLUMNS[] = {"gossip", "ihave", "graft", "prune", "hops", "redundancy"};
 constexpr const char* SHAPE_COLUMNS[] = {"largest",   "clustering", "path",     "diameter",
-                                         "degree_25", "degree_50",  "degree_75"};
+                                         "degree_25", "degree_50",  "degree_75", "articulations"};
 
 template <class Columns>
 void print_names(const Columns& columns) {
@@ -42,8 +42,9 @@ inline void print_costs(const Phase& phase) {
 
 inline void print_shape(const Phase& phase) {
     Shape shape(phase.graph);
-    printf(",%zu,%s,%s,%zu,%zu,%zu,%zu", shape.largest, decimal(shape.clustering).c_str(), decimal(shape.path).c_str(),
-           shape.diameter, shape.quartiles[0], shape.quartiles[1], shape.quartiles[2]);
+    printf(",%zu,%s,%s,%zu,%zu,%zu,%zu,%zu", shape.largest, decimal(shape.clustering).c_str(),
+           decimal(shape.path).c_str(), shape.diameter, shape.quartiles[0], shape.quartiles[1], shape.quartiles[2],
+           shape.articulations);
 }
 
 /// What rows have behind those of `overlay sweep`.

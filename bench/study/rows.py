@@ -4,7 +4,7 @@ docs/GROWING.md ("Rows")."""
 from dataclasses import dataclass, field
 from fractions import Fraction
 
-from shapes import clustering, largest, paths, quartiles
+from shapes import articulations, clustering, largest, paths, quartiles
 
 OPTIONS = (
     "nodes",
@@ -31,7 +31,7 @@ PHASES = ("settle", "crash", "heal")
 FIGURES = ("nodes", "k", "least_degree", "links", "entries", "delivered")
 FURTHER_OPTIONS = ("sequential", "sender", "detect")
 COSTS = ("gossip", "ihave", "graft", "prune", "hops", "redundancy")
-SHAPES = ("largest", "clustering", "path", "diameter", "degree_25", "degree_50", "degree_75")
+SHAPES = ("largest", "clustering", "path", "diameter", "degree_25", "degree_50", "degree_75", "articulations")
 MESSAGES = ("phase", "number", "origin", "live", "delivered", "hops", "gossip", "ihave", "graft", "prune")
 # Shares and means have four decimal digits.
 SHARES = 10000
@@ -104,7 +104,8 @@ class Phase:
         neighbours = self.graph.neighbours
         component = largest(neighbours)
         path, diameter = paths(neighbours, component)
-        return [len(component), decimal(clustering(neighbours)), decimal(path), diameter, *quartiles(neighbours)]
+        points = len(articulations(neighbours, component))
+        return [len(component), decimal(clustering(neighbours)), decimal(path), diameter, *quartiles(neighbours), points]
 
 
 def header():

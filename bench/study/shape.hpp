@@ -6,6 +6,7 @@
 class Shape {
   public:
     size_t largest = 0, diameter = 0;
+    size_t articulations = 0;      // of the largest component
     uint64_t clustering = 0;       // in parts
     std::optional<uint64_t> path;  // in parts, if two nodes are in the largest component
     std::array<size_t, 3> quartiles;
@@ -20,6 +21,7 @@ class Shape {
         for (size_t first = 0; first < largest; first += EACH) all_steps += steps_from(first);
         if (largest > 1) path = all_steps * PARTS / (largest * (largest - 1));
         find_quartiles();
+        count_articulations();
     }
 
   private:
@@ -81,6 +83,37 @@ class Shape {
         for (auto& row : graph.neighbours) degrees.push_back(row.size());
         std::sort(degrees.begin(), degrees.end());
         for (size_t part = 1; part <= 3; part++) quartiles[part - 1] = degrees[(part * degrees.size() + 3) / 4 - 1];
+    }
+
+    /// The nodes of the largest component whose crash splits it: by depth-first search, those from a child of which
+    /// nothing before them is reached, and the first one if it has two children (Tarjan, SIAM J. Comput. 1, 1972).
+    void count_articulations() {
+        constexpr uint32_t NEVER = ~uint32_t{0};
+        std::vector<uint32_t> entered(graph.size(), NEVER), lowest(graph.size()), parent(graph.size(), NEVER);
+        std::vector<size_t> next(graph.size());
+        std::vector<bool> splits(graph.size());
+        uint32_t time = 0, children_of_first = 0, at = members.front();
+        entered[at] = lowest[at] = time++;
+        while (at != NEVER) {
+            if (next[at] < graph.neighbours[at].size()) {
+                uint32_t other = graph.neighbours[at][next[at]++];
+                if (entered[other] == NEVER) {
+                    parent[other] = at;
+                    entered[other] = lowest[other] = time++;
+                    at = other;
+                } else {
+                    lowest[at] = std::min(lowest[at], entered[other]);
+                }
+                continue;
+            }
+            uint32_t above = parent[at];
+            if (above == members.front()) children_of_first++;
+            else if (above != NEVER && lowest[at] >= entered[above]) splits[above] = true;
+            if (above != NEVER) lowest[above] = std::min(lowest[above], lowest[at]);
+            at = above;
+        }
+        splits[members.front()] = children_of_first > 1;
+        articulations = std::count(splits.begin(), splits.end(), true);
     }
 
     const Graph& graph;

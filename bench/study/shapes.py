@@ -56,3 +56,13 @@ def quartiles(neighbours):
     """The degrees at a quarter, at half and at three quarters of all."""
     degrees = sorted(map(len, neighbours.values()))
     return [degrees[-(-part * len(degrees) // 4) - 1] for part in (1, 2, 3)]
+
+
+def articulations(neighbours, component):
+    """The nodes of a component after whose crash, alone, two of its other nodes are no longer joined."""
+    found = []
+    for node in component:
+        left = {one: [other for other in neighbours[one] if other != node] for one in component if one != node}
+        if left and len(steps_from(left, min(left))) < len(left):
+            found.append(node)
+    return found

@@ -48,8 +48,8 @@ A row has the options, and for each P of settle, crash and heal: P_nodes, how ma
 0 if it is split; P_least_degree, the fewest links of a node; P_links; P_entries, the moment of a line `certificate`;
 P_delivered, which share of nodes its broadcasts reached. Behind them stand sequential, sender and detect, if one of
 these, --costs or --shape is given; by --costs P_gossip, P_ihave, P_graft, P_prune, P_hops and P_redundancy; by --shape
-P_largest, P_clustering, P_path, P_diameter, P_degree_25, P_degree_50 and P_degree_75. docs/FORMATS.md, \"Rows of a
-sweep\", says what each column is, and what a row of --messages has.
+P_largest, P_clustering, P_path, P_diameter, P_degree_25, P_degree_50, P_degree_75 and P_articulations. docs/FORMATS.md,
+\"Rows of a sweep\", says what each column is, and what a row of --messages has.
 A lost JOIN is never sent again, so with --loss-join some nodes may never come in.
 A row can be run again by `overlay grow --row FILE:N | overlay run`.";
 

@@ -9,6 +9,7 @@ use Rattle.std.proofs.lemmas.Grind.{same_number_lists}
 use Rattle.std.proofs.lemmas.List.Sorted.{sum_by-IsPermutation}
 use Rattle.std.proofs.lemmas.List.Sums.{sum_by-cons}
 use Rattle.ov_ids.proofs.Members.{same_ascending}
+use Rattle.ov_articulations.specs.Articulations.{AreArticulations, HasArticulations}
 use Rattle.ov_graph.specs.Links.{LinkGraph, AreNeighbours}
 use Rattle.ov_graph.specs.Paths.{node_at}
 use Rattle.ov_graph.specs.Clustering.{HaveCommon, IsClustering, IsCoefficient, share_of_pairs}
@@ -48,6 +49,16 @@ one_largest g xs ys a b =
 one_count : (g : LinkGraph) (n m : ℕ) → HasLargest g n → HasLargest g m → n ≡ m
 one_count g n m (xs, is, count) (ys, also, many) =
     sym count ∙ (ap (λ (zs : List ℕ). length zs) (one_largest g xs ys is also) ∙ many)
+
+-- ---- articulation points
+
+one_number_of_articulations : (g : LinkGraph) (n m : ℕ) → HasArticulations g n → HasArticulations g m → n ≡ m
+one_number_of_articulations g n m (xs, ps, is, are, count) (ys, qs, also, be, many) =
+    let same : ys ≡ xs = sym (one_largest g xs ys is also) in
+    let points = subst (λ (zs : List ℕ). AreArticulations g zs qs) same be in
+    let one : ps ≡ qs = same_ascending ps qs are.ascend points.ascend
+    (λ x h. (points.each x).1 ((are.each x).0 h)) (λ x h. (are.each x).1 ((points.each x).0 h)) in
+    sym count ∙ (ap (λ (zs : List ℕ). length zs) one ∙ many)
 
 -- ---- distances
 
@@ -214,4 +225,5 @@ one_shape g a b is also = λ i. record {
   degree_25 = (one_quartile g 1 a.degree_25 b.degree_25 is.degree_25 also.degree_25) i;
   degree_50 = (one_quartile g 2 a.degree_50 b.degree_50 is.degree_50 also.degree_50) i;
   degree_75 = (one_quartile g 3 a.degree_75 b.degree_75 is.degree_75 also.degree_75) i;
+  articulations = (one_number_of_articulations g a.articulations b.articulations is.articulations also.articulations) i;
 }

@@ -14,6 +14,7 @@ use Rattle.ov_sweep.specs.PhaseCosts.{phase_costs}
 use Rattle.ov_grow.specs.declared.message_cost.MessageCost.{MessageCost}
 use Rattle.ov_grow.specs.declared.phase_moment_and_deliveries.PhaseEnd.{PhaseEnd}
 use Rattle.ov_grow.specs.Replay.{Replays}
+use Rattle.ov_articulations.specs.Articulations.{HasArticulations}
 use Rattle.ov_graph.specs.Clustering.{IsClustering}
 use Rattle.ov_graph.specs.Components.{HasLargest}
 use Rattle.ov_graph.specs.Degrees.{IsQuartile}
@@ -64,6 +65,7 @@ pub record IsShapeOf (g : LinkGraph) (shape : PhaseShape) : Type 0 where
   pub degree_25 : IsQuartile g 1 shape.degree_25
   pub degree_50 : IsQuartile g 2 shape.degree_50
   pub degree_75 : IsQuartile g 3 shape.degree_75
+  pub articulations : HasArticulations g shape.articulations
 
 -- what the broadcasts of the phase cost at whose end growing stands here
 abbrev pub ArePhaseCosts : Growth → PhaseCosts → Type 0

@@ -2,12 +2,15 @@ ghost use Rattle.std.specs.Prelude.{◌≡◌, IfOk, option_map};
 ghost use Rattle.ov_graph.specs.Links.{HasNode};
 ghost use Rattle.ov_sweep.specs.Rows.{IsShapeOf};
 
+use ov_articulations::articulation_points;
 use ov_graph::{Graph, shape_of};
 use ov_ids::OutOfMemory;
 use ov_sweep_rows::{FourDecimals, PhaseShape};
+use std::alloc::Global;
 
-/// The shape of a graph, which must have a node. OutOfMemory (99) is returned if a number is past 32 bits.
-pub(crate) fn phase_shape(graph: &Graph) -> Result<PhaseShape, OutOfMemory>
+/// The shape of a graph, which must have a node. OutOfMemory (99) is returned if a number is past 32 bits, or if an
+/// allocation is refused.
+pub(crate) fn phase_shape(alloc: Global, graph: &Graph) -> Result<PhaseShape, OutOfMemory>
     requires { HasNode graph.now }
     ensures { IfOk result (IsShapeOf graph.now) }
 {
@@ -22,6 +25,7 @@ pub(crate) fn phase_shape(graph: &Graph) -> Result<PhaseShape, OutOfMemory>
         degree_25: as_number(shape.degree_25)?,
         degree_50: as_number(shape.degree_50)?,
         degree_75: as_number(shape.degree_75)?,
+        articulations: as_number(articulation_points(alloc, graph)?)?,
     })
 }
 

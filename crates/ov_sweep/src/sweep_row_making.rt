@@ -28,11 +28,12 @@ pub fn row_of(alloc: Global, options: &GrowOptions, measures: Measures) -> Resul
     ensures refused { IfErr result (IsRunRefusal measures options.now) }
 {
     let logged = grow_logged(alloc, options, measures.costs)?;
-    Ok(row_told(options, measures, &logged)?)
+    Ok(row_told(alloc, options, measures, &logged)?)
 }
 
 /// The row of an overlay that was grown with these options.
 fn row_told(
+    alloc: Global,
     options: &GrowOptions,
     measures: Measures,
     logged: &LoggedGrowth,
@@ -48,6 +49,7 @@ fn row_told(
     let core = &grown.core;
     let broadcasts = options.broadcasts.get();
     let settle = row_after(
+        alloc,
         core,
         grown.settled,
         broadcasts,
@@ -55,13 +57,21 @@ fn row_told(
         &logged.settle_costs,
     )?;
     let crash = row_after(
+        alloc,
         core,
         grown.crashed,
         broadcasts,
         measures,
         &logged.crash_costs,
     )?;
-    let heal = row_after(core, grown.healed, broadcasts, measures, &logged.heal_costs)?;
+    let heal = row_after(
+        alloc,
+        core,
+        grown.healed,
+        broadcasts,
+        measures,
+        &logged.heal_costs,
+    )?;
     Ok(Row {
         options: *options,
         phases: [settle, crash, heal],
@@ -70,6 +80,7 @@ fn row_told(
 
 /// What a row says of a phase, at whose end a report was filed and its broadcasts had cost this.
 fn row_after(
+    alloc: Global,
     core: &Core,
     phase: PhaseEnd,
     broadcasts: u32,
@@ -83,7 +94,7 @@ fn row_after(
     match core.report(phase.moment) {
         Some(report) => {
             let costs = costs_asked(measures.costs, costs)?;
-            let shape = shape_asked(measures.shape, report)?;
+            let shape = shape_asked(alloc, measures.shape, report)?;
             Ok(phase_row(report, phase, broadcasts, costs, shape))
         }
         None => unreachable!(),
@@ -101,12 +112,16 @@ fn costs_asked(asked: bool, costs: &[MessageCost]) -> Result<Option<PhaseCosts>,
 }
 
 /// The shape of a report's graph, if it is asked for. The graph must have a node.
-fn shape_asked(asked: bool, report: &Report) -> Result<Option<PhaseShape>, OutOfMemory>
+fn shape_asked(
+    alloc: Global,
+    asked: bool,
+    report: &Report,
+) -> Result<Option<PhaseShape>, OutOfMemory>
     requires { HasNode report.now.graph }
     ensures { IfOk result (IsAsked asked (IsShapeOf report.now.graph)) }
 {
     if !asked {
         return Ok(None);
     }
-    Ok(Some(phase_shape(report.checked().graph())?))
+    Ok(Some(phase_shape(alloc, report.checked().graph())?))
 }

@@ -120,6 +120,7 @@ one_shape (Some m) (Some n) e =
       degree_25 = ap (number_at 4) e i;
       degree_50 = ap (number_at 5) e i;
       degree_75 = ap (number_at 6) e i;
+      articulations = ap (number_at 7) e i;
     })
 
 one_phase : (a b : PhaseRow) → phase_cells a ≡ phase_cells b → a.costs ≡ b.costs → a.shape ≡ b.shape → a ≡ b

@@ -26,10 +26,12 @@ pub struct PhaseShape {
     pub degree_50: u32,
     /// The one that three quarters of them do not exceed.
     pub degree_75: u32,
+    /// How many articulation points the largest component has: nodes whose single crash splits it.
+    pub articulations: u32,
 }
 
 /// The columns of the shape of a phase.
-pub(crate) const SHAPE_COLUMNS: [PhaseColumn; 7] = [
+pub(crate) const SHAPE_COLUMNS: [PhaseColumn; 8] = [
     PhaseColumn {
         name: "largest",
         takes: FieldForm::Number,
@@ -65,6 +67,11 @@ pub(crate) const SHAPE_COLUMNS: [PhaseColumn; 7] = [
         takes: FieldForm::Number,
         head: "degree 75 %",
     },
+    PhaseColumn {
+        name: "articulations",
+        takes: FieldForm::Number,
+        head: "articulations",
+    },
 ];
 
 /// What they mean, for people.
@@ -72,6 +79,7 @@ pub(crate) const SHAPE_MEANING: &str = "\
 largest: nodes of the largest component; path, diameter: the mean and the longest shortest path in it.
 clustering: the share of pairs of a node's neighbours that are linked, the mean over all nodes.
 degree 25 %: a quarter of the nodes have so many links at most.
+articulations: nodes whose single crash splits the largest component.
 ";
 
 impl PhaseShape {
@@ -87,17 +95,18 @@ impl PhaseShape {
             degree_25: cells_to_row::number(cell_at(cells, 4)),
             degree_50: cells_to_row::number(cell_at(cells, 5)),
             degree_75: cells_to_row::number(cell_at(cells, 6)),
+            articulations: cells_to_row::number(cell_at(cells, 7)),
         }
     }
 }
 
 /// The cells of a shape, in the order of their columns; empty if it is not known.
-pub(crate) fn shape_cells(shape: Option<PhaseShape>) -> [Cell; 7]
+pub(crate) fn shape_cells(shape: Option<PhaseShape>) -> [Cell; 8]
     ensures cells { result ≡ shape_cells shape }
     ensures back { IfSome shape (λ s. AreReadBack shape_forms result) }
 {
     match shape {
-        None => [Cell::Empty; 7],
+        None => [Cell::Empty; 8],
         Some(shape) => [
             number(shape.largest),
             decimals(shape.clustering),
@@ -106,6 +115,7 @@ pub(crate) fn shape_cells(shape: Option<PhaseShape>) -> [Cell; 7]
             number(shape.degree_25),
             number(shape.degree_50),
             number(shape.degree_75),
+            number(shape.articulations),
         ],
     }
 }

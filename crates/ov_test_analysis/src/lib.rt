@@ -2,6 +2,8 @@
 #![tactic(auto)]
 
 #[cfg(test)]
+mod articulations;
+#[cfg(test)]
 mod crew;
 #[cfg(test)]
 mod drawn;

@@ -14,14 +14,17 @@ const HEADERS: [&str; 3] = [
      crash_gossip,crash_ihave,crash_graft,crash_prune,crash_hops,crash_redundancy,\
      heal_gossip,heal_ihave,heal_graft,heal_prune,heal_hops,heal_redundancy",
     ",settle_largest,settle_clustering,settle_path,settle_diameter,settle_degree_25,settle_degree_50,settle_degree_75,\
+     settle_articulations,\
      crash_largest,crash_clustering,crash_path,crash_diameter,crash_degree_25,crash_degree_50,crash_degree_75,\
-     heal_largest,heal_clustering,heal_path,heal_diameter,heal_degree_25,heal_degree_50,heal_degree_75",
+     crash_articulations,\
+     heal_largest,heal_clustering,heal_path,heal_diameter,heal_degree_25,heal_degree_50,heal_degree_75,\
+     heal_articulations",
 ];
 
 const FIELDS: [&str; 3] = [
     ",1,17,0",
     ",1,2,3,4,5.0006,0.0007,8,9,10,11,,,12,13,14,4294967295,0.0000,1844674407370955.1615",
-    ",58,0.0625,,0,1,2,3,4,0.0000,1.0001,5,6,7,8,9,1.0000,2.5000,10,11,12,4294967295",
+    ",58,0.0625,,0,1,2,3,13,4,0.0000,1.0001,5,6,7,8,14,9,1.0000,2.5000,10,11,12,4294967295,15",
 ];
 
 /// Whether rows with the further columns have the costs, and the shapes.
@@ -70,6 +73,7 @@ fn shapes() -> [PhaseShape; 3] {
             degree_25: 1,
             degree_50: 2,
             degree_75: 3,
+            articulations: 13,
         },
         PhaseShape {
             largest: 4,
@@ -79,6 +83,7 @@ fn shapes() -> [PhaseShape; 3] {
             degree_25: 6,
             degree_50: 7,
             degree_75: 8,
+            articulations: 14,
         },
         PhaseShape {
             largest: 9,
@@ -88,6 +93,7 @@ fn shapes() -> [PhaseShape; 3] {
             degree_25: 11,
             degree_50: 12,
             degree_75: u32::MAX,
+            articulations: 15,
         },
     ]
 }

@@ -1,4 +1,5 @@
 use Rattle.std.proofs.Common.{ℕ, Option, sym, subst}
+use Rattle.ov_articulations.specs.Articulations.{HasArticulations}
 use Rattle.ov_graph.specs.Clustering.{IsClustering}
 use Rattle.ov_graph.specs.Components.{HasLargest}
 use Rattle.ov_graph.specs.Degrees.{IsQuartile}
@@ -17,4 +18,6 @@ returns c =
       degree_25 = subst (λ (n : ℕ). IsQuartile g 1 n) (sym c.in_ok-as_number-3.ensures) is.degree_25;
       degree_50 = subst (λ (n : ℕ). IsQuartile g 2 n) (sym c.in_ok-as_number-4.ensures) is.degree_50;
       degree_75 = subst (λ (n : ℕ). IsQuartile g 3 n) (sym c.in_ok-as_number-5.ensures) is.degree_75;
+      articulations = subst (λ (n : ℕ). HasArticulations g n) (sym c.in_ok-as_number-6.ensures)
+          c.in_ok-articulation_points.ensures;
     }

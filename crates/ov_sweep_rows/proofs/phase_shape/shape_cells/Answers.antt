@@ -11,4 +11,5 @@ returns-in-Some-clause-back c =
     (read_more _ _ _ _ _ _ c.number-in-Some.ensures.back
     (read_more _ _ _ _ _ _ c.number-in-Some-2.ensures.back
     (read_more _ _ _ _ _ _ c.number-in-Some-3.ensures.back
-    (read_more _ _ _ _ _ _ c.number-in-Some-4.ensures.back read_all)))))))
+    (read_more _ _ _ _ _ _ c.number-in-Some-4.ensures.back
+    (read_more _ _ _ _ _ _ c.number-in-Some-5.ensures.back read_all))))))))
