@@ -57,15 +57,9 @@ pub(crate) fn further_cells(options: &GrowOptions) -> [Cell; 3]
 /// The cells of all options of a setting: those of its columns, and then those of the further options.
 pub fn option_cells(options: &GrowOptions) -> [Cell; 21] {
     let mut cells = [Cell::Empty; 21];
-    for (place, cell) in setting_cells(options)
-        .iter()
-        .chain(&further_cells(options))
-        .enumerate()
-    {
-        if let Some(free) = cells.get_mut(place) {
-            *free = *cell;
-        }
-    }
+    let (settings, further) = cells.split_at_mut(18);
+    settings.copy_from_slice(&setting_cells(options));
+    further.copy_from_slice(&further_cells(options));
     cells
 }
 

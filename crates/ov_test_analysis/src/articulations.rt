@@ -62,6 +62,9 @@ fn count(alloc: Global, nodes: u32, links: &[(u32, u32)]) -> Option<usize> {
 #[test]
 fn articulation_points_are_counted(rt: HostRuntime) {
     for (name, nodes, links, expected) in &GRAPHS {
-        assert!(rt; count(rt.alloc(), *nodes, links) == Some(*expected), "{name}");
+        assert!(rt;
+            count(rt.alloc(), *nodes, links) == Some(*expected),
+            "{name}"
+        );
     }
 }

@@ -1,10 +1,10 @@
-use Rattle.std.proofs.Common.{◌∙◌, ◌++◌, ◌∷◌, [], List, ap, ap₂, subst, sym}
+use Rattle.std.proofs.Common.{◌∙◌, ◌++◌, ◌∷◌, [], List, ap, ap₂, subst}
 use Rattle.std.specs.Prelude.{IsSome}
 use Rattle.ov_sweep_rows.specs.declared.cell.Cell.{Cell}
 use Rattle.ov_sweep_rows.specs.declared.cell.Cell.TheVariants as cell
 use Rattle.ov_sweep_rows.specs.declared.row.PhaseRow.{PhaseRow}
 use Rattle.ov_sweep_rows.specs.Cells.{phase_cells, setting_cells}
-use Rattle.ov_sweep_rows.specs.Columns.{forms, if_asked}
+use Rattle.ov_sweep_rows.specs.Columns.{if_asked}
 use Rattle.ov_sweep_rows.specs.Code.Written.{AreReadBack, cost_forms, further_forms, phase_forms, setting_forms}
 use Rattle.ov_sweep_rows.specs.Code.Written.{shape_forms}
 use Rattle.ov_sweep_rows.proofs.Gathering.{all_back, appended_thrice, each_phase, gathered, known, options_back}
