@@ -4,7 +4,7 @@ use crate::plot_panel::{Panel, push_panel};
 use ov_ids::OutOfMemory;
 use ov_sweep_rows::Phase;
 use ov_sweep_summary::{
-    SETTING_NAMES, SettingRuns, differing, phase_name, run_counts, swept_command,
+    SettingName, SettingRuns, differing, phase_name, push_swept_command, run_counts, setting_name,
 };
 use std::alloc::{AllocError, Global};
 use std::fmt::Write;
@@ -18,26 +18,47 @@ const TITLE: &str = "How few crashes split the overlay, run by run";
 /// a bar from the least run to the most. It is 1,200 pixels wide, has no scripts and no fonts of its own, and is light,
 /// or dark where the reader prefers it. OutOfMemory (99) if an allocation is refused.
 pub fn svg_text(alloc: Global, settings: &[SettingRuns<'_>]) -> Result<String, OutOfMemory> {
+    let mut text = String::new(alloc);
+    push_svg(alloc, &mut text, settings)?;
+    Ok(text)
+}
+
+/// Appends the picture.
+fn push_svg(
+    alloc: Global,
+    text: &mut String,
+    settings: &[SettingRuns<'_>],
+) -> Result<(), AllocError> {
     let differing = differing(alloc, settings)?;
     let layout = layout_of(alloc, settings, differing.len())?;
-    let mut text = String::new(alloc);
     push_head(
-        &mut text,
+        text,
         &layout,
         settings.len().div_ceil(layout.columns.max(1)),
     )?;
-    push_heading(alloc, &mut text, settings, &differing)?;
+    push_heading(alloc, text, settings, &differing)?;
+    push_panels(alloc, text, &layout, settings, &differing)?;
+    text.push_str("</g>\n</svg>\n")
+}
+
+/// Appends all panels.
+fn push_panels(
+    alloc: Global,
+    text: &mut String,
+    layout: &Layout,
+    settings: &[SettingRuns<'_>],
+    differing: &[usize],
+) -> Result<(), AllocError> {
     text.push_str("<g class=\"dots\">\n")?;
     for (place, columns) in settings.chunks(layout.columns.max(1)).enumerate() {
         let panel = Panel {
-            layout: &layout,
+            layout,
             top: HEADING + number(place) * layout.panel(),
         };
-        push_panel(alloc, &mut text, panel, columns, &differing)?;
-        push_columns_name(&mut text, panel, &differing)?;
+        push_panel(alloc, text, panel, columns, differing)?;
+        push_columns_name(text, panel, differing)?;
     }
-    text.push_str("</g>\n</svg>\n")?;
-    Ok(text)
+    Ok(())
 }
 
 /// Appends what stands before everything that is drawn of so many panels.
@@ -59,13 +80,13 @@ fn push_heading(
     settings: &[SettingRuns<'_>],
     differing: &[usize],
 ) -> Result<(), AllocError> {
-    let command = swept_command(alloc, settings, differing)?;
     let (fewest, most) = run_counts(settings);
     write!(
         text,
-        "<text class=\"heading\" x=\"20\" y=\"34\">{TITLE}</text>\n\
-         <text x=\"20\" y=\"58\">{command}</text>\n"
+        "<text class=\"heading\" x=\"20\" y=\"34\">{TITLE}</text>\n<text x=\"20\" y=\"58\">"
     )?;
+    push_swept_command(alloc, text, settings, differing)?;
+    text.push_str("</text>\n")?;
     push_legend(text)?;
     text.push_str("<text x=\"390\" y=\"84.5\">one dot is one run, ")?;
     if fewest == most {
@@ -104,20 +125,24 @@ fn push_columns_name(
 ) -> Result<(), AllocError> {
     let y = panel.top + panel.layout.panel() - 22.0;
     write!(text, "<text x=\"{LEFT}\" y=\"{y:.1}\">")?;
-    if differing.is_empty() {
-        text.push_str("all runs have one setting")?;
+    text.push_str(if differing.is_empty() {
+        "all runs have one setting"
     } else {
-        text.push_str("settings: ")?;
-    }
+        "settings: "
+    })?;
     for (place, option) in differing.iter().enumerate() {
         text.push_str(if place == 0 { "" } else { ", " })?;
-        if let Some(option) = SETTING_NAMES.get(*option) {
-            let (name, unit) = (option.name, option.unit);
-            text.push_str(name)?;
-            if !unit.is_empty() {
-                write!(text, " ({unit})")?;
-            }
-        }
+        push_option_name(text, *option)?;
     }
     text.push_str("</text>\n")
+}
+
+/// Appends the name of an option, with its unit if it has one.
+fn push_option_name(text: &mut String, option: usize) -> Result<(), AllocError> {
+    let SettingName { name, unit, .. } = setting_name(option);
+    text.push_str(name)?;
+    if unit.is_empty() {
+        return Ok(());
+    }
+    write!(text, " ({unit})")
 }

@@ -20,6 +20,11 @@ const DRAWN: [Measure; STRIPS] = [
     (Measured::Costs, 3, "prune"),
 ];
 
+/// The measure of a strip, counted from 0; the last one behind the last.
+fn drawn(place: usize) -> Measure {
+    DRAWN[place.min(STRIPS - 1)]
+}
+
 /// What stands above the strips.
 const CAPTION: &str = "\
 broadcasts: a dot is the mean of all runs, with a bar from the least run to the most";
@@ -57,10 +62,8 @@ pub(crate) fn axis_ends(settings: &[SettingRuns<'_>]) -> Option<[f64; STRIPS]> {
         return None;
     }
     let mut ends = [1.0; STRIPS];
-    for (place, measure) in DRAWN.iter().enumerate() {
-        if let Some(free) = ends.get_mut(place) {
-            *free = axis_end(settings, *measure);
-        }
+    for (place, end) in ends.iter_mut().enumerate() {
+        *end = axis_end(settings, drawn(place));
     }
     Some(ends)
 }
@@ -108,12 +111,12 @@ pub(crate) fn push_strips(
     };
     let y = panel.strip_top(0) - 10.0;
     write!(text, "<text x=\"{LEFT}\" y=\"{y:.1}\">{CAPTION}</text>\n")?;
-    for (place, (measure, most)) in DRAWN.iter().zip(&ends).enumerate() {
+    for (place, most) in ends.iter().enumerate() {
         let strip = Strip {
             top: panel.strip_top(place),
             most: *most,
         };
-        push_strip(text, panel, strip, *measure, settings)?;
+        push_strip(text, panel, strip, drawn(place), settings)?;
     }
     Ok(())
 }

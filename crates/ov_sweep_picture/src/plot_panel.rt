@@ -3,8 +3,8 @@ use crate::plot_dots::push_dots;
 use crate::plot_means::push_strips;
 use crate::plot_shares::push_share;
 use crate::strip_axis_and_mark::{Strip, push_strip_axis, push_tick};
-use ov_sweep_rows::{Phase, cell_at};
-use ov_sweep_summary::{SETTING_NAMES, SettingRuns, ascending_ks, shown_cell, split_runs};
+use ov_sweep_rows::{Phase, Row, cell_at};
+use ov_sweep_summary::{SettingRuns, ShownCell, ascending_ks, setting_name, split_runs};
 use std::alloc::{AllocError, Global};
 use std::fmt::Write;
 
@@ -87,7 +87,7 @@ pub(crate) fn push_panel(
     }
     push_strips(text, panel, settings)?;
     for (line, option) in differing.iter().enumerate() {
-        push_labels(alloc, text, panel, line, *option, settings)?;
+        push_labels(text, panel, line, *option, settings)?;
     }
     Ok(())
 }
@@ -153,8 +153,7 @@ fn push_column(
         "<path class=\"line\" d=\"M{end:.1} {top:.1}V{foot:.1}\"/>\n"
     )?;
     for (phase, x) in panel.rooms(middle) {
-        let ks = ascending_ks(alloc, &setting.runs, phase)?;
-        push_dots(text, panel.layout, phase, &ks, x, panel.zero())?;
+        push_runs(alloc, text, panel, &setting.runs, phase, x)?;
         push_share(
             text,
             panel.shares(),
@@ -166,9 +165,21 @@ fn push_column(
     Ok(())
 }
 
+/// Appends the dots of runs after a phase.
+fn push_runs(
+    alloc: Global,
+    text: &mut String,
+    panel: Panel<'_>,
+    runs: &[&Row],
+    phase: Phase,
+    x: f64,
+) -> Result<(), AllocError> {
+    let ks = ascending_ks(alloc, runs, phase)?;
+    push_dots(text, panel.layout, phase, &ks, x, panel.zero())
+}
+
 /// Appends what the settings of a panel have in one of the options in which they differ, on this line below the axis.
 fn push_labels(
-    alloc: Global,
     text: &mut String,
     panel: Panel<'_>,
     line: usize,
@@ -176,12 +187,10 @@ fn push_labels(
     settings: &[SettingRuns<'_>],
 ) -> Result<(), AllocError> {
     let y = panel.foot() + 18.0 + number(line) * LABEL;
-    if let Some(option) = SETTING_NAMES.get(option) {
-        push_name(text, y, option.name)?;
-    }
+    push_name(text, y, setting_name(option).name)?;
     for (place, setting) in settings.iter().enumerate() {
         let x = panel.middle(place);
-        let cell = shown_cell(alloc, cell_at(&setting.cells, option))?;
+        let cell = ShownCell(cell_at(&setting.cells, option));
         write!(
             text,
             "<text class=\"middle\" x=\"{x:.1}\" y=\"{y:.1}\">{cell}</text>\n"

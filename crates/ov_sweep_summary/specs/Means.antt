@@ -7,7 +7,8 @@ use Rattle.ov_sweep_rows.specs.declared.four_decimals.FourDecimals.{FourDecimals
 use Rattle.ov_sweep_rows.specs.declared.measured.Measured.{Measured}
 use Rattle.ov_sweep_rows.specs.declared.row.Phase.{Phase}
 use Rattle.ov_sweep_rows.specs.declared.row.Row.{Row}
-use Rattle.ov_sweep_rows.specs.Cells.{cell_at, fitting, measured_cells}
+use Rattle.ov_sweep_rows.specs.Cells.{cell_at, fitting}
+use Rattle.ov_sweep_rows.specs.RowCells.{measured_cells}
 use Rattle.ov_sweep_rows.specs.Rows.{place_of}
 
 -- the number of a cell, in parts of 10,000, if 64 bits count them

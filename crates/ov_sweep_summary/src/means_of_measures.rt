@@ -2,7 +2,6 @@ ghost use Rattle.std.specs.Prelude.{◌≡◌, ◌≤◌, ◌*◌, map};
 ghost use Rattle.ov_sweep_summary.specs.Means.{mean_after, mean_of, most_parts, parts_after, parts_of};
 
 use crate::SettingRuns;
-use crate::measure::{MEASURES, Measure};
 use ov_sweep_rows::{Cell, FourDecimals, Measured, Phase, Row};
 use std::alloc::{AllocError, Global};
 
@@ -16,18 +15,18 @@ pub fn is_known(settings: &[SettingRuns<'_>], measured: Measured) -> bool {
     false
 }
 
-/// The measures that a run of these settings has, in the order in which they are told.
+/// What a run of these settings has, in the order in which it is told.
 pub(crate) fn known_measures(
     alloc: Global,
     settings: &[SettingRuns<'_>],
-) -> Result<Vec<Measure>, AllocError> {
-    let mut measures = Vec::new(alloc);
-    for measure in &MEASURES {
-        if is_known(settings, measure.0) {
-            measures.push(*measure)?;
+) -> Result<Vec<Measured>, AllocError> {
+    let mut known = Vec::new(alloc);
+    for measured in Measured::ALL {
+        if is_known(settings, measured) {
+            known.push(measured)?;
         }
     }
-    Ok(measures)
+    Ok(known)
 }
 
 /// The number of a cell, in parts of 10,000, if 64 bits count them.

@@ -1,8 +1,8 @@
-use indexmap::IndexSet;
+use crate::seen_texts::SeenTexts;
 use ov_grow_options::GrowOptions;
 use ov_ids::OutOfMemory;
 use ov_sweep_rows::Row;
-use std::alloc::Global;
+use std::alloc::{AllocError, Global};
 use std::fmt::Write;
 
 /// Rows with the options and the seed of an earlier one: each counts as a run more.
@@ -17,16 +17,20 @@ pub struct RepeatedRuns {
 /// The rows whose options, the seed among them, are those of an earlier row. None: there is no such row. OutOfMemory
 /// (99) if an allocation is refused.
 pub fn repeated_runs(alloc: Global, rows: &[Row]) -> Result<Option<RepeatedRuns>, OutOfMemory> {
-    let mut seen = IndexSet::new(alloc);
+    let mut seen = SeenTexts::new(alloc);
     let mut found: Option<RepeatedRuns> = None;
     for row in rows {
-        let first = row.options;
-        let (_, is_new) = seen.insert_full(format!(in alloc; "{first}")?)?;
-        if !is_new {
-            found = Some(one_more(found, first));
+        if !is_new(alloc, &mut seen, &row.options)? {
+            found = Some(one_more(found, row.options));
         }
     }
     Ok(found)
+}
+
+/// Whether these options were not seen yet.
+fn is_new(alloc: Global, seen: &mut SeenTexts, options: &GrowOptions) -> Result<bool, AllocError> {
+    let (_, is_new) = seen.place(format!(in alloc; "{options}")?)?;
+    Ok(is_new)
 }
 
 /// With one repeated row more.

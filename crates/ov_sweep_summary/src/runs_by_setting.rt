@@ -1,5 +1,6 @@
-use crate::setting_names::{SETTING_NAMES, SettingName};
-use indexmap::IndexSet;
+use crate::ShownCell;
+use crate::seen_texts::SeenTexts;
+use crate::setting_names::{OPTIONS, setting_name};
 use ov_grow_options::GrowOptions;
 use ov_ids::OutOfMemory;
 use ov_sweep_rows::{Cell, Row, cell_at, option_cells};
@@ -13,7 +14,7 @@ const LINE: usize = 160;
 #[derive(Drop)]
 pub struct SettingRuns<'a> {
     /// What each column of a setting says.
-    pub cells: [Cell; 21],
+    pub cells: [Cell; OPTIONS],
     /// The runs.
     pub runs: Vec<&'a Row>,
 }
@@ -21,22 +22,33 @@ pub struct SettingRuns<'a> {
 /// The settings of rows, in the order of their first appearance, each with its rows in their order. OutOfMemory (99) if
 /// an allocation is refused.
 pub fn settings_of(alloc: Global, rows: &[Row]) -> Result<Vec<SettingRuns<'_>>, OutOfMemory> {
-    let mut keys = IndexSet::new(alloc);
+    let mut keys = SeenTexts::new(alloc);
     let mut settings: Vec<SettingRuns<'_>> = Vec::new(alloc);
     for row in rows {
-        let cells = option_cells(&row.options);
-        let (place, is_new) = keys.insert_full(key_of(alloc, &cells)?)?;
-        if is_new {
-            settings.push(SettingRuns {
-                cells,
-                runs: Vec::new(alloc),
-            })?;
-        }
-        if let Some(setting) = settings.get_mut(place) {
-            setting.runs.push(row)?;
-        }
+        push_run(alloc, &mut keys, &mut settings, row)?;
     }
     Ok(settings)
+}
+
+/// Adds a run to those of its setting.
+fn push_run<'a>(
+    alloc: Global,
+    keys: &mut SeenTexts,
+    settings: &mut Vec<SettingRuns<'a>>,
+    row: &'a Row,
+) -> Result<(), AllocError> {
+    let cells = option_cells(&row.options);
+    let (place, is_new) = keys.place(key_of(alloc, &cells)?)?;
+    if is_new {
+        settings.push(SettingRuns {
+            cells,
+            runs: Vec::new(alloc),
+        })?;
+    }
+    match settings.get_mut(place) {
+        Some(setting) => Ok(setting.runs.push(row)?),
+        None => Ok(()),
+    }
 }
 
 /// A text that says a setting.
@@ -51,7 +63,7 @@ fn key_of(alloc: Global, cells: &[Cell]) -> Result<String, AllocError> {
 /// The places of the options in which settings differ.
 pub fn differing(alloc: Global, settings: &[SettingRuns<'_>]) -> Result<Vec<usize>, AllocError> {
     let mut places = Vec::new(alloc);
-    for place in 0..SETTING_NAMES.len() {
+    for place in 0..OPTIONS {
         if differ_at(settings, place) {
             places.push(place)?;
         }
@@ -73,85 +85,129 @@ fn differ_at(settings: &[SettingRuns<'_>], place: usize) -> bool {
     false
 }
 
-/// What people read in a cell of a setting: `none` where nothing is given.
-pub fn shown_cell(alloc: Global, cell: Cell) -> Result<String, AllocError> {
-    match cell {
-        Cell::Empty => String::from_str(alloc, "none"),
-        cell => format!(in alloc; "{cell}"),
-    }
-}
-
-/// The command of the sweep, with the options that all settings have, as far as they are not at their defaults.
-pub(crate) fn common_command(
-    alloc: Global,
+/// Appends the command of the sweep, with the options that all settings have, as far as they are not at their defaults.
+pub(crate) fn push_command(
+    text: &mut String,
     settings: &[SettingRuns<'_>],
     differing: &[usize],
-) -> Result<String, AllocError> {
-    let mut text = String::from_str(alloc, "overlay sweep")?;
+) -> Result<(), AllocError> {
+    text.push_str("overlay sweep")?;
     let Some(first) = settings.first() else {
-        return Ok(text);
+        return Ok(());
     };
     let usual = option_cells(&GrowOptions::default());
-    for (place, SettingName { name, takes, .. }) in SETTING_NAMES.iter().enumerate() {
-        let cell = cell_at(&first.cells, place);
-        if differing.contains(&place) || cell == cell_at(&usual, place) {
-            continue;
-        }
-        write!(text, " --{name}")?;
-        if *takes {
-            write!(text, " {cell}")?;
+    for (place, cell) in first.cells.iter().enumerate() {
+        if !differing.contains(&place) && *cell != cell_at(&usual, place) {
+            push_option(text, place, *cell)?;
         }
     }
-    Ok(text)
+    Ok(())
 }
 
-/// The command of the sweep with the values of the options in which settings differ too, in the order in which they
-/// come. The text is that of `common_command` if it would not fit a line, or if one of these options takes no value:
-/// then no sweep has all settings.
-pub fn swept_command(
+/// Appends the option at a place to a command, with its value if it takes one.
+fn push_option(text: &mut String, place: usize, cell: Cell) -> Result<(), AllocError> {
+    let option = setting_name(place);
+    let name = option.name;
+    if option.takes {
+        return write!(text, " --{name} {cell}");
+    }
+    write!(text, " --{name}")
+}
+
+/// Appends the command of the sweep with the values of the options in which settings differ too, in the order in which
+/// they come. Without these values if they would not fit a line, or if one of these options takes no value: then no
+/// sweep has all settings.
+pub fn push_swept_command(
     alloc: Global,
+    text: &mut String,
     settings: &[SettingRuns<'_>],
     differing: &[usize],
-) -> Result<String, AllocError> {
-    let common = common_command(alloc, settings, differing)?;
-    let mut text = common.clone()?;
-    for place in differing {
-        let Some(
-            SettingName {
-                name,
-                takes: true,
-                ..
-            },
-        ) = SETTING_NAMES.get(*place)
-        else {
-            return Ok(common);
-        };
-        let values = values_at(alloc, settings, *place)?;
-        write!(text, " --{name} {values}")?;
+) -> Result<(), AllocError> {
+    let before = text.len();
+    push_command(text, settings, differing)?;
+    if !take_values(differing) {
+        return Ok(());
     }
-    if text.len() > LINE {
-        return Ok(common);
-    }
-    Ok(text)
+    let room = LINE.saturating_sub(text.len().saturating_sub(before));
+    push_swept(alloc, text, settings, differing, room)
 }
 
-/// The values that settings have in the option at a place, with commas between them.
+/// Appends the options in which settings differ, with their values, if these fit into so many bytes.
+fn push_swept(
+    alloc: Global,
+    text: &mut String,
+    settings: &[SettingRuns<'_>],
+    differing: &[usize],
+    room: usize,
+) -> Result<(), AllocError> {
+    let mut values = String::new(alloc);
+    push_values(alloc, &mut values, settings, differing)?;
+    if values.len() > room {
+        return Ok(());
+    }
+    text.push_str(values.as_str())
+}
+
+/// Whether each of these options takes a value.
+fn take_values(differing: &[usize]) -> bool {
+    for place in differing {
+        if !setting_name(*place).takes {
+            return false;
+        }
+    }
+    true
+}
+
+/// Appends these options with their values.
+fn push_values(
+    alloc: Global,
+    text: &mut String,
+    settings: &[SettingRuns<'_>],
+    differing: &[usize],
+) -> Result<(), AllocError> {
+    for place in differing {
+        let name = setting_name(*place).name;
+        write!(text, " --{name} ")?;
+        push_values_at(alloc, text, settings, *place)?;
+    }
+    Ok(())
+}
+
+/// Appends the values that settings have in the option at a place.
+fn push_values_at(
+    alloc: Global,
+    text: &mut String,
+    settings: &[SettingRuns<'_>],
+    place: usize,
+) -> Result<(), AllocError> {
+    let values = values_at(alloc, settings, place)?;
+    push_joined(text, &values)
+}
+
+/// Appends values, with commas between them.
+fn push_joined(text: &mut String, values: &[Cell]) -> Result<(), AllocError> {
+    for (place, value) in values.iter().enumerate() {
+        let comma = if place == 0 { "" } else { "," };
+        let shown = ShownCell(*value);
+        write!(text, "{comma}{shown}")?;
+    }
+    Ok(())
+}
+
+/// The values that settings have in the option at a place, in the order of their first appearance.
 fn values_at(
     alloc: Global,
     settings: &[SettingRuns<'_>],
     place: usize,
-) -> Result<String, AllocError> {
-    let mut cells = IndexSet::new(alloc);
-    let mut text = String::new(alloc);
+) -> Result<Vec<Cell>, AllocError> {
+    let mut values = Vec::new(alloc);
     for setting in settings {
-        let shown = shown_cell(alloc, cell_at(&setting.cells, place))?;
-        let (_, is_new) = cells.insert_full(shown.clone()?)?;
-        if is_new {
-            let comma = if text.is_empty() { "" } else { "," };
-            write!(text, "{comma}{shown}")?;
+        let value = cell_at(&setting.cells, place);
+        if !values.contains(&value) {
+            values.push(value)?;
         }
     }
-    Ok(text)
+    Ok(values)
 }
 
 /// The fewest and the most runs of a setting.

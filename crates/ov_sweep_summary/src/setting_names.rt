@@ -7,8 +7,23 @@ pub struct SettingName {
     pub takes: bool,
 }
 
+/// How many options a setting has.
+pub(crate) const OPTIONS: usize = 21;
+
+/// The option of a setting at a place among its columns; one without a name behind the last.
+pub fn setting_name(place: usize) -> SettingName {
+    match SETTING_NAMES.get(place) {
+        Some(option) => *option,
+        None => SettingName {
+            name: "",
+            unit: "",
+            takes: false,
+        },
+    }
+}
+
 /// The options of a setting, in the order of their columns.
-pub const SETTING_NAMES: [SettingName; 21] = [
+const SETTING_NAMES: [SettingName; OPTIONS] = [
     SettingName {
         name: "nodes",
         unit: "",

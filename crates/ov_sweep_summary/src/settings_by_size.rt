@@ -1,5 +1,4 @@
 use crate::SettingRuns;
-use crate::setting_names::SETTING_NAMES;
 use ov_grow_options::Order;
 use ov_ids::Refill;
 use ov_sweep_rows::{Cell, cell_at};
@@ -7,6 +6,9 @@ use std::alloc::{AllocError, Global};
 
 /// The place of the active size among the options of a setting. By it settings are ordered first.
 const ACTIVE: usize = 1;
+
+/// The numbers by which a setting is ordered: the active size, and then that of each option.
+type Size = [u64; 22];
 
 /// The places of settings in the order of their sizes: by the active size, then by the other options in the order of
 /// their columns. Numbers ascend; what is not given comes before any number, `cut` after all.
@@ -16,24 +18,30 @@ pub(crate) fn places_by_size(
 ) -> Result<Vec<usize>, AllocError> {
     let mut sizes = Vec::new(alloc);
     for (place, setting) in settings.iter().enumerate() {
-        sizes.push((size_of(alloc, &setting.cells)?, place))?;
+        sizes.push((size_of(&setting.cells), place))?;
     }
     sizes.sort()?;
+    places_of(alloc, &sizes)
+}
+
+/// The places beside these sizes.
+fn places_of(alloc: Global, sizes: &[(Size, usize)]) -> Result<Vec<usize>, AllocError> {
     let mut places = Vec::new(alloc);
-    for (_, place) in &sizes {
+    for (_, place) in sizes {
         places.push(*place)?;
     }
     Ok(places)
 }
 
 /// The numbers by which a setting is ordered.
-fn size_of(alloc: Global, cells: &[Cell]) -> Result<Vec<u64>, AllocError> {
-    let mut size = Vec::new(alloc);
-    size.push(rank_of(cell_at(cells, ACTIVE)))?;
-    for place in 0..SETTING_NAMES.len() {
-        size.push(rank_of(cell_at(cells, place)))?;
+fn size_of(cells: &[Cell]) -> Size {
+    let mut size = [rank_of(cell_at(cells, ACTIVE)); 22];
+    for (place, cell) in cells.iter().enumerate() {
+        if let Some(free) = size.get_mut(place.saturating_add(1)) {
+            *free = rank_of(*cell);
+        }
     }
-    Ok(size)
+    size
 }
 
 /// The place of a value among those of its option.

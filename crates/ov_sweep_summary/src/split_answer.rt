@@ -1,9 +1,12 @@
+ghost use Rattle.std.specs.Prelude.{◌<◌, IfSome, length};
+
 use crate::phase_summary::{count, split_runs};
-use crate::runs_by_setting::{differing, run_counts, shown_cell};
+use crate::runs_by_setting::{differing, run_counts};
+use crate::setting_names::{OPTIONS, setting_name};
 use crate::settings_by_size::places_by_size;
-use crate::summary_text_writing::{heads, name_at, option_texts, phase_name, push_split};
+use crate::summary_text_writing::{phase_name, put_heads, put_options, put_split};
 use crate::text_table::push_table;
-use crate::{SettingRuns, SplitRuns, Verdict, first_below};
+use crate::{SettingRuns, ShownCell, SplitRuns, Verdict, first_below};
 use ov_grow_options::Share;
 use ov_ids::OutOfMemory;
 use ov_sweep_rows::{Cell, Phase, cell_at};
@@ -30,18 +33,30 @@ pub fn split_answer_text(
     settings: &[SettingRuns<'_>],
     question: &SplitQuestion,
 ) -> Result<String, OutOfMemory> {
+    let mut text = String::new(alloc);
+    push_all_answers(alloc, &mut text, settings, question)?;
+    Ok(text)
+}
+
+/// Appends the answer.
+fn push_all_answers(
+    alloc: Global,
+    text: &mut String,
+    settings: &[SettingRuns<'_>],
+    question: &SplitQuestion,
+) -> Result<(), AllocError> {
     let differing = differing(alloc, settings)?;
     let order = places_by_size(alloc, settings)?;
     let percent = question.bound.get();
     let phase = phase_name(question.phase);
-    let mut text = format!(in alloc;
+    write!(
+        text,
         "Split after {phase} in less than {percent} of 100 runs, by the 95 % interval? The smallest setting first:\n\n"
     )?;
-    push_answers(alloc, &mut text, settings, &order, &differing, question)?;
-    push_answer(alloc, &mut text, settings, &order, &differing, question)?;
+    push_answers(alloc, text, settings, &order, &differing, question)?;
+    push_answer(alloc, text, settings, &order, &differing, question)?;
     let (fewest, _) = run_counts(settings);
-    push_few_runs(&mut text, count(fewest), question.bound)?;
-    Ok(text)
+    push_few_runs(text, count(fewest), question.bound)
 }
 
 /// The line that says that so many runs of a setting are too few to be below a bound, even if none of them is split,
@@ -80,65 +95,56 @@ fn push_answers(
     differing: &[usize],
     question: &SplitQuestion,
 ) -> Result<(), AllocError> {
-    let mut lines = Vec::new(alloc);
-    lines.push(answer_heads(alloc, differing, question.bound)?)?;
-    for place in order {
-        if let Some(setting) = settings.get(*place) {
-            lines.push(line_of(alloc, setting, differing, question)?)?;
-        }
-    }
-    push_table(alloc, text, &lines)
+    let mut lines = String::new(alloc);
+    put_answers(&mut lines, settings, order, differing, question)?;
+    push_table(alloc, text, lines.as_str())
 }
 
-/// The heads of the columns.
-fn answer_heads(
-    alloc: Global,
-    differing: &[usize],
-    bound: Share,
-) -> Result<Vec<String>, AllocError> {
-    let mut line = heads(alloc, differing, &SPLIT_HEADS)?;
-    let percent = bound.get();
-    line.push(format!(in alloc; "below {percent} %")?)?;
-    Ok(line)
-}
-
-/// The line of a setting.
-fn line_of(
-    alloc: Global,
-    setting: &SettingRuns<'_>,
+/// Adds the lines of the table.
+fn put_answers(
+    lines: &mut String,
+    settings: &[SettingRuns<'_>],
+    order: &[usize],
     differing: &[usize],
     question: &SplitQuestion,
-) -> Result<Vec<String>, AllocError> {
-    let mut line = option_texts(alloc, &setting.cells, differing)?;
-    let counted = split_runs(&setting.runs, question.phase);
-    push_split(alloc, &mut line, counted)?;
-    line.push(said_of(alloc, counted, question.bound)?)?;
-    Ok(line)
+) -> Result<(), AllocError> {
+    let percent = question.bound.get();
+    put_heads(lines, differing, &SPLIT_HEADS)?;
+    write!(lines, "below {percent} %\n")?;
+    for place in order {
+        if let Some(setting) = settings.get(*place) {
+            let counted = split_runs(&setting.runs, question.phase);
+            put_options(lines, &setting.cells, differing)?;
+            put_split(lines, counted)?;
+            push_said(lines, counted, question.bound)?;
+            lines.push('\n')?;
+        }
+    }
+    Ok(())
 }
 
-/// Whether runs are below a bound, or how many more would tell.
-fn said_of(alloc: Global, runs: SplitRuns, bound: Share) -> Result<String, AllocError> {
+/// Appends whether runs are below a bound, or how many more would tell.
+fn push_said(text: &mut String, runs: SplitRuns, bound: Share) -> Result<(), AllocError> {
     match runs.verdict(bound) {
-        Verdict::Below => String::from_str(alloc, "yes"),
-        Verdict::Above => String::from_str(alloc, "no"),
+        Verdict::Below => text.push_str("yes"),
+        Verdict::Above => text.push_str("no"),
         Verdict::Open => {
-            let more = more_text(alloc, runs, bound)?;
-            format!(in alloc; "open: {more}")
+            text.push_str("open: ")?;
+            push_more(text, runs, bound)
         }
     }
 }
 
-/// How many runs more would tell: without a split, and at the share of today, if there is a split.
-fn more_text(alloc: Global, runs: SplitRuns, bound: Share) -> Result<String, AllocError> {
-    let mut text = String::new(alloc);
+/// Appends how many runs more would tell: without a split, and at the share of today, if there is a split.
+fn push_more(text: &mut String, runs: SplitRuns, bound: Share) -> Result<(), AllocError> {
     if let Some(needed) = runs.runs_without_a_split(bound) {
         let more = needed.saturating_sub(runs.runs);
         write!(text, "yes after {more} more without a split")?;
     }
     if runs.split > 0 {
-        push_at_this_share(&mut text, runs, bound)?;
+        push_at_this_share(text, runs, bound)?;
     }
-    Ok(text)
+    Ok(())
 }
 
 /// Appends what more runs would tell at the share of today, and how many.
@@ -160,22 +166,34 @@ fn push_answer(
     differing: &[usize],
     question: &SplitQuestion,
 ) -> Result<(), AllocError> {
-    let bound = question.bound;
-    let percent = bound.get();
     let runs = runs_in_order(alloc, settings, order, question.phase)?;
-    if let Some(place) = first_below(&runs, bound) {
-        let name = name_of(alloc, &cells_of(settings, order, place), differing)?;
-        return write!(text, "\nThe smallest setting below {percent} %: {name}\n");
+    let percent = question.bound.get();
+    if let Some(place) = first_below(&runs, question.bound) {
+        write!(text, "\nThe smallest setting below {percent} %: ")?;
+        push_name(text, &cells_of(settings, order, place), differing)?;
+        return text.push('\n');
     }
     write!(text, "\nNo setting is below {percent} %")?;
-    for (place, runs) in runs.iter().enumerate() {
+    let Some(place) = first_open(&runs, question.bound) else {
+        return text.push_str(", and none is open\n");
+    };
+    text.push_str(" yet. The smallest that is open: ")?;
+    push_name(text, &cells_of(settings, order, place), differing)?;
+    text.push_str(" (")?;
+    push_more(text, runs[place], question.bound)?;
+    text.push_str(")\n")
+}
+
+/// Of settings in an order, the place of the first of which more runs may tell.
+fn first_open(settings: &[SplitRuns], bound: Share) -> Option<usize>
+    ensures { IfSome result (λ place. place < length settings.now) }
+{
+    for (place, runs) in settings.iter().enumerate() {
         if runs.verdict(bound) == Verdict::Open {
-            let name = name_of(alloc, &cells_of(settings, order, place), differing)?;
-            let more = more_text(alloc, *runs, bound)?;
-            return write!(text, " yet. The smallest that is open: {name} ({more})\n");
+            return Some(place);
         }
     }
-    text.push_str(", and none is open\n")
+    None
 }
 
 /// The runs of each setting, in this order.
@@ -195,25 +213,24 @@ fn runs_in_order(
 }
 
 /// The cells of the setting at a place in this order.
-fn cells_of(settings: &[SettingRuns<'_>], order: &[usize], place: usize) -> [Cell; 21] {
+fn cells_of(settings: &[SettingRuns<'_>], order: &[usize], place: usize) -> [Cell; OPTIONS] {
     let at = order.get(place).copied().unwrap_or(0);
     match settings.get(at) {
         Some(setting) => setting.cells,
-        None => [Cell::Empty; 21],
+        None => [Cell::Empty; OPTIONS],
     }
 }
 
-/// A setting of these cells by the options in which settings differ.
-fn name_of(alloc: Global, cells: &[Cell], differing: &[usize]) -> Result<String, AllocError> {
-    let mut text = String::new(alloc);
-    for place in differing {
-        let name = name_at(*place);
-        let cell = shown_cell(alloc, cell_at(cells, *place))?;
-        let comma = if text.is_empty() { "" } else { ", " };
-        write!(text, "{comma}{name} {cell}")?;
+/// Appends a setting of these cells by the options in which settings differ.
+fn push_name(text: &mut String, cells: &[Cell], differing: &[usize]) -> Result<(), AllocError> {
+    if differing.is_empty() {
+        return text.push_str("this one");
     }
-    if text.is_empty() {
-        text.push_str("this one")?;
+    for (number, place) in differing.iter().enumerate() {
+        let name = setting_name(*place).name;
+        let shown = ShownCell(cell_at(cells, *place));
+        let comma = if number == 0 { "" } else { ", " };
+        write!(text, "{comma}{name} {shown}")?;
     }
-    Ok(text)
+    Ok(())
 }

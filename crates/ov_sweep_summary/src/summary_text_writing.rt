@@ -1,14 +1,13 @@
-use crate::means_of_measures::{is_known, known_measures, mean_after};
-use crate::measure::{MEANINGS, Measure};
+use crate::means_of_measures::{known_measures, mean_after};
 use crate::phase_summary::{PhaseSummary, count, phase_summary};
-use crate::runs_by_setting::{common_command, differing, run_counts, shown_cell};
-use crate::setting_names::SETTING_NAMES;
+use crate::runs_by_setting::{differing, push_command, run_counts};
+use crate::setting_names::setting_name;
 use crate::split_answer::push_few_runs;
-use crate::text_table::push_table;
-use crate::{SettingRuns, SplitRuns, Survival};
+use crate::text_table::{end_line, push_table};
+use crate::{SettingRuns, ShownCell, SplitRuns, Survival};
 use ov_grow_options::Share;
 use ov_ids::OutOfMemory;
-use ov_sweep_rows::{Cell, Phase, cell_at};
+use ov_sweep_rows::{Cell, Measured, Phase, Row, cell_at};
 use std::alloc::{AllocError, Global};
 use std::fmt::Write;
 
@@ -49,29 +48,48 @@ Means of all runs that have the number, rounded down; none if no run has it.
 /// If rows have delivered shares, costs or shapes, their means follow, in a table for each phase.
 /// OutOfMemory (99) if an allocation is refused.
 pub fn summary_text(alloc: Global, settings: &[SettingRuns<'_>]) -> Result<String, OutOfMemory> {
-    let differing = differing(alloc, settings)?;
-    let mut text = heading(alloc, settings, &differing)?;
-    for phase in Phase::ALL {
-        push_phase(alloc, &mut text, settings, &differing, phase)?;
-    }
-    text.push_str(MEANING)?;
-    let measures = known_measures(alloc, settings)?;
-    if !measures.is_empty() {
-        for phase in Phase::ALL {
-            push_means(alloc, &mut text, settings, &differing, &measures, phase)?;
-        }
-        push_meaning(&mut text, settings)?;
-    }
+    let mut text = String::new(alloc);
+    push_summary(alloc, &mut text, settings)?;
     Ok(text)
 }
 
-/// Appends what the means are that are known.
-fn push_meaning(text: &mut String, settings: &[SettingRuns<'_>]) -> Result<(), AllocError> {
+/// Appends the summary.
+fn push_summary(
+    alloc: Global,
+    text: &mut String,
+    settings: &[SettingRuns<'_>],
+) -> Result<(), AllocError> {
+    let differing = differing(alloc, settings)?;
+    push_heading(text, settings, &differing)?;
+    for phase in Phase::ALL {
+        push_phase(alloc, text, settings, &differing, phase)?;
+    }
+    text.push_str(MEANING)?;
+    push_all_means(alloc, text, settings, &differing)
+}
+
+/// Appends the tables of means, if a run has something of which they are.
+fn push_all_means(
+    alloc: Global,
+    text: &mut String,
+    settings: &[SettingRuns<'_>],
+    differing: &[usize],
+) -> Result<(), AllocError> {
+    let known = known_measures(alloc, settings)?;
+    if known.is_empty() {
+        return Ok(());
+    }
+    for phase in Phase::ALL {
+        push_means(alloc, text, settings, differing, &known, phase)?;
+    }
+    push_meaning(text, &known)
+}
+
+/// Appends what the means are.
+fn push_meaning(text: &mut String, known: &[Measured]) -> Result<(), AllocError> {
     text.push_str(MEANS)?;
-    for (measured, meaning) in &MEANINGS {
-        if is_known(settings, *measured) {
-            text.push_str(meaning)?;
-        }
+    for measured in known {
+        text.push_str(measured.meaning())?;
     }
     Ok(())
 }
@@ -82,71 +100,75 @@ fn push_means(
     text: &mut String,
     settings: &[SettingRuns<'_>],
     differing: &[usize],
-    measures: &[Measure],
+    known: &[Measured],
     phase: Phase,
 ) -> Result<(), AllocError> {
     let name = phase_name(phase);
     write!(text, "\nMeans after {name}\n")?;
-    let mut lines = Vec::new(alloc);
-    lines.push(mean_heads(alloc, differing, measures)?)?;
-    for setting in settings {
-        lines.push(mean_line(alloc, setting, differing, measures, phase)?)?;
-    }
-    push_table(alloc, text, &lines)
+    let mut lines = String::new(alloc);
+    put_means(&mut lines, settings, differing, known, phase)?;
+    push_table(alloc, text, lines.as_str())
 }
 
-/// The heads of a table of means.
-fn mean_heads(
-    alloc: Global,
-    differing: &[usize],
-    measures: &[Measure],
-) -> Result<Vec<String>, AllocError> {
-    let mut line = option_heads(alloc, differing)?;
-    for (_, _, head) in measures {
-        line.push(String::from_str(alloc, head)?)?;
-    }
-    Ok(line)
-}
-
-/// The means of a setting, with four decimal digits; `none` if no run has the number.
-fn mean_line(
-    alloc: Global,
-    setting: &SettingRuns<'_>,
-    differing: &[usize],
-    measures: &[Measure],
-    phase: Phase,
-) -> Result<Vec<String>, AllocError> {
-    let mut line = option_texts(alloc, &setting.cells, differing)?;
-    for (measured, place, _) in measures {
-        match mean_after(&setting.runs, phase, *measured, *place) {
-            None => line.push(String::from_str(alloc, "none")?)?,
-            Some(mean) => line.push(format!(in alloc; "{mean}")?)?,
-        }
-    }
-    Ok(line)
-}
-
-/// The first lines: what was swept, and how many runs there are.
-fn heading(
-    alloc: Global,
+/// Adds the lines of a table of means.
+fn put_means(
+    lines: &mut String,
     settings: &[SettingRuns<'_>],
     differing: &[usize],
-) -> Result<String, AllocError> {
-    let mut text = common_command(alloc, settings, differing)?;
+    known: &[Measured],
+    phase: Phase,
+) -> Result<(), AllocError> {
+    put_option_heads(lines, differing)?;
+    for measured in known {
+        for column in measured.columns() {
+            put(lines, column.head)?;
+        }
+    }
+    end_line(lines)?;
+    for setting in settings {
+        put_options(lines, &setting.cells, differing)?;
+        for measured in known {
+            put_means_of(lines, &setting.runs, *measured, phase)?;
+        }
+        end_line(lines)?;
+    }
+    Ok(())
+}
+
+/// Adds the means of runs, with four decimal digits; `none` if no run has the number.
+fn put_means_of(
+    lines: &mut String,
+    runs: &[&Row],
+    measured: Measured,
+    phase: Phase,
+) -> Result<(), AllocError> {
+    for place in 0..measured.columns().len() {
+        match mean_after(runs, phase, measured, place) {
+            None => put(lines, "none")?,
+            Some(mean) => write!(lines, "{mean}\t")?,
+        }
+    }
+    Ok(())
+}
+
+/// Appends the first lines: what was swept, and how many runs there are.
+fn push_heading(
+    text: &mut String,
+    settings: &[SettingRuns<'_>],
+    differing: &[usize],
+) -> Result<(), AllocError> {
+    push_command(text, settings, differing)?;
     let number = settings.len();
     let (fewest, most) = run_counts(settings);
-    if fewest == most {
-        write!(text, "\nsettings: {number}; runs of each: {most}\n")?;
-    } else {
-        write!(
-            text,
-            "\nsettings: {number}; runs of each: {fewest} to {most}\n"
-        )?;
+    write!(text, "\nsettings: {number}; runs of each: ")?;
+    if fewest != most {
+        write!(text, "{fewest} to ")?;
     }
-    if let Some(bound) = Share::new(USUAL_BOUND) {
-        push_few_runs(&mut text, count(fewest), bound)?;
+    write!(text, "{most}\n")?;
+    match Share::new(USUAL_BOUND) {
+        Some(bound) => push_few_runs(text, count(fewest), bound),
+        None => Ok(()),
     }
-    Ok(text)
 }
 
 /// Appends the table of a phase.
@@ -159,12 +181,13 @@ fn push_phase(
 ) -> Result<(), AllocError> {
     let name = phase_name(phase);
     write!(text, "\nAfter {name}\n")?;
-    let mut lines = Vec::new(alloc);
-    lines.push(heads(alloc, differing, &HEADS)?)?;
+    let mut lines = String::new(alloc);
+    put_heads(&mut lines, differing, &HEADS)?;
+    end_line(&mut lines)?;
     for setting in settings {
-        lines.push(line_of(alloc, setting, differing, phase)?)?;
+        put_line(alloc, &mut lines, setting, differing, phase)?;
     }
-    push_table(alloc, text, &lines)
+    push_table(alloc, text, lines.as_str())
 }
 
 /// What ends with a phase.
@@ -176,101 +199,88 @@ pub fn phase_name(phase: Phase) -> &'static str {
     }
 }
 
-/// The heads of the columns of the options in which settings differ, and these behind them.
-pub(crate) fn heads(
-    alloc: Global,
+/// Adds a text of a line.
+pub(crate) fn put(lines: &mut String, text: &str) -> Result<(), AllocError> {
+    lines.push_str(text)?;
+    lines.push('\t')
+}
+
+/// Adds the heads of the columns of the options in which settings differ, and these behind them.
+pub(crate) fn put_heads(
+    lines: &mut String,
     differing: &[usize],
     more: &[&'static str],
-) -> Result<Vec<String>, AllocError> {
-    let mut line = option_heads(alloc, differing)?;
+) -> Result<(), AllocError> {
+    put_option_heads(lines, differing)?;
     for head in more {
-        line.push(String::from_str(alloc, head)?)?;
+        put(lines, head)?;
     }
-    Ok(line)
+    Ok(())
 }
 
-/// The names of the options in which settings differ.
-fn option_heads(alloc: Global, differing: &[usize]) -> Result<Vec<String>, AllocError> {
-    let mut line = Vec::new(alloc);
+/// Adds the names of the options in which settings differ.
+fn put_option_heads(lines: &mut String, differing: &[usize]) -> Result<(), AllocError> {
     for place in differing {
-        line.push(String::from_str(alloc, name_at(*place))?)?;
+        put(lines, setting_name(*place).name)?;
     }
-    Ok(line)
+    Ok(())
 }
 
-/// The name of the option at a place.
-pub(crate) fn name_at(place: usize) -> &'static str {
-    match SETTING_NAMES.get(place) {
-        Some(option) => option.name,
-        None => "",
-    }
-}
-
-/// What a setting of these cells has for them.
-pub(crate) fn option_texts(
-    alloc: Global,
+/// Adds what a setting of these cells has for the options in which settings differ.
+pub(crate) fn put_options(
+    lines: &mut String,
     cells: &[Cell],
     differing: &[usize],
-) -> Result<Vec<String>, AllocError> {
-    let mut line = Vec::new(alloc);
+) -> Result<(), AllocError> {
     for place in differing {
-        line.push(shown_cell(alloc, cell_at(cells, *place))?)?;
+        let shown = ShownCell(cell_at(cells, *place));
+        write!(lines, "{shown}\t")?;
     }
-    Ok(line)
+    Ok(())
 }
 
-/// The line of a setting.
-fn line_of(
+/// Adds the line of a setting.
+fn put_line(
     alloc: Global,
+    lines: &mut String,
     setting: &SettingRuns<'_>,
     differing: &[usize],
     phase: Phase,
-) -> Result<Vec<String>, AllocError> {
-    let mut line = option_texts(alloc, &setting.cells, differing)?;
+) -> Result<(), AllocError> {
     let summary = phase_summary(alloc, &setting.runs, phase)?;
-    push_split(alloc, &mut line, summary.counted)?;
-    push_rest(alloc, &mut line, &summary)?;
-    Ok(line)
+    put_options(lines, &setting.cells, differing)?;
+    put_split(lines, summary.counted)?;
+    put_rest(lines, &summary)?;
+    end_line(lines)
 }
 
-/// Appends how many runs there are, and how many of them are split.
-pub(crate) fn push_split(
-    alloc: Global,
-    line: &mut Vec<String>,
-    counted: SplitRuns,
-) -> Result<(), AllocError> {
+/// Adds how many runs there are, and how many of them are split.
+pub(crate) fn put_split(lines: &mut String, counted: SplitRuns) -> Result<(), AllocError> {
     let SplitRuns { split, runs } = counted;
-    line.push(format!(in alloc; "{runs}")?)?;
-    line.push(format!(in alloc; "{split}")?)?;
     let share = counted.percent();
-    line.push(format!(in alloc; "{share:.1} %")?)?;
     let interval = counted.interval();
     let low = interval.low * 100.0;
     let high = interval.high * 100.0;
-    line.push(format!(in alloc; "{low:.1} to {high:.1} %")?)?;
-    Ok(())
+    write!(
+        lines,
+        "{runs}\t{split}\t{share:.1} %\t{low:.1} to {high:.1} %\t"
+    )
 }
 
-/// Appends the quartiles of k, the least degrees, and what an overlay with the median survives.
-fn push_rest(
-    alloc: Global,
-    line: &mut Vec<String>,
-    summary: &PhaseSummary,
-) -> Result<(), AllocError> {
-    for k in summary.quartiles {
-        line.push(format!(in alloc; "{k}")?)?;
-    }
+/// Adds the quartiles of k, the least degrees, and what an overlay with the median survives.
+fn put_rest(lines: &mut String, summary: &PhaseSummary) -> Result<(), AllocError> {
     let PhaseSummary {
+        counted,
+        quartiles: [first, median, third],
         least_degree,
         mean_least_degree,
-        ..
     } = *summary;
-    line.push(format!(in alloc; "{least_degree}")?)?;
-    line.push(format!(in alloc; "{mean_least_degree:.2}")?)?;
     let survival = Survival {
-        k: summary.quartiles[1],
-        is_split: summary.counted.split > 0,
+        k: median,
+        is_split: counted.split > 0,
     };
-    line.push(format!(in alloc; "{survival}")?)?;
-    Ok(())
+    write!(
+        lines,
+        "{first}\t{median}\t{third}\t{least_degree}\t{mean_least_degree:.2}\t{survival}\t"
+    )
 }
