@@ -7,7 +7,7 @@ use Rattle.ov_grow.specs.declared.growing_with_broadcast_log.LoggedGrowth.{Logge
 
 -- an overlay was grown, and at the end of each phase these were the costs of its broadcasts
 pub record IsLoggedGrowth (logged : Bool) (o : GrowOptions) (g : LoggedGrowth) : Type 0 where
-  pub grows : GrowsFrom (begins logged o) o g.grown.text.items g.grown.core.world g.grown.settled g.grown.crashed
+  pub grows : GrowsFrom (begins logged o) o g.grown.script.text g.grown.core.world g.grown.settled g.grown.crashed
       g.grown.healed
   pub settle : AreCosts grows.t g.settle_costs.items
   pub crash : AreCosts grows.v g.crash_costs.items

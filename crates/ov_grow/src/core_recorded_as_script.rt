@@ -10,9 +10,9 @@ ghost use Rattle.ov_snap.specs.Run.{Happened};
 ghost use Rattle.ov_snap.specs.declared.refused_core_call.CoreFault.TheVariants.{OutOfMemory as out_of_memory};
 ghost use Rattle.ov_run_meaning.specs.Subjects.{AnalysisJudged, WasAnalysed};
 ghost use Rattle.ov_script.specs.Acts.{act_line, event_of};
-ghost use Rattle.ov_script.specs.Scripts.{line_room, opening, scenario_of};
+ghost use Rattle.ov_script.specs.Scripts.{opening, scenario_of};
 ghost use Rattle.ov_script.specs.WrittenLines.{analysis_line, comment_line, ended};
-ghost use Rattle.ov_grow.specs.Recordings.{HasOneLineMore, all_of};
+ghost use Rattle.ov_grow.specs.Recordings.{HasOneLineMore, all_of, without_room};
 ghost use Rattle.ov_grow.specs.Replay.{Replays};
 
 use crate::report_making::report_of;
@@ -23,18 +23,19 @@ use ov_snap::{Core, CoreFault};
 use std::alloc::Global;
 use std::marker::Model;
 
-/// A core, and the script that makes it: each event and each analysis that is accepted is written as a line. So the
-/// text replays the core at any time. Contracts see it as a `RecordingState`. Chosen here.
+/// A core, and the script that makes it: each event and each analysis that is accepted is a line of it. So its text,
+/// which is written when it is asked for, replays the core at any time. Contracts see it as a `RecordingState`. Chosen
+/// here.
 pub struct Recording {
     alloc: Global,
     script: Script,
     core: Core,
 }
 
-/// The text of a recording, and its core.
+/// The script of a recording, and its core.
 #[derive(Drop)]
 pub struct Recorded {
-    pub text: Vec<u8>,
+    pub script: Script,
     pub core: Core,
 }
 
@@ -93,21 +94,21 @@ impl Recording {
         &self.core
     }
 
-    /// Writes a comment that says this, on one line: a line feed and a carriage return in it become spaces. Nothing
-    /// else changes. OutOfMemory (99) if an allocation is refused; all is the same then.
+    /// Adds a comment that says this, on one line: a line feed and a carriage return in it become spaces. Nothing else
+    /// changes. OutOfMemory (99) if an allocation is refused; all is the same then.
     pub fn comment(&mut self, said: &str) -> Result<(), OutOfMemory>
         ensures said { OnOk result (self.new ≡ record self.old {
           script = record self.old.script { text = self.old.script.text ++ ended (comment_line said.now) };
         }) }
         ensures err { OnErr result (self.new ≡ self.old) }
     {
-        self.script.comment(said)
+        self.script.comment(self.alloc, said)
     }
 
-    /// Takes the event of an act, with the next random words of the script, and writes the line of the act. The event's
+    /// Takes the event of an act, with the next random words of the script, and adds the line of the act. The event's
     /// entry is the last of the journal then. It is refused for the first applicable refusal of the world (10 to 20,
     /// see `NetFault`), or it is out of memory (99) if none applies. What is refused changes nothing, and no line is
-    /// written.
+    /// added.
     pub fn act(&mut self, act: Act) -> Result<(), NetFault>
         ensures happened { OnOk result
             ((e : Entry) × Happened self.old.core (event_of act) self.old.script.next e self.new.core) }
@@ -124,10 +125,10 @@ impl Recording {
         Ok(())
     }
 
-    /// Analyses all nodes of a moment by one worker, files the report, and writes the line of the analysis. It is
-    /// refused if no snapshot was taken at this moment (50), then if nobody lived (30), and then if a report of all its
+    /// Analyses all nodes of a moment by one worker, files the report, and adds the line of the analysis. It is refused
+    /// if no snapshot was taken at this moment (50), then if nobody lived (30), and then if a report of all its
     /// nodes is filed (52); if none applies, it may be out of memory (99). What is refused changes nothing, and no line
-    /// is written.
+    /// is added.
     pub fn analyse(&mut self, moment: u32) -> Result<(), CoreFault>
         ensures analysed { OnOk result
             ((r : ReportState) × WasAnalysed self.old.core (all_of moment) r self.new.core) }
@@ -144,39 +145,37 @@ impl Recording {
         Ok(())
     }
 
-    /// The text so far. It says a scenario with the parameters, the seed and the lines to run of the script, and
-    /// replays the core.
-    pub fn text(&self) -> &[u8]
-        ensures value { result.now ≡ self.now.script.text }
-        ensures says { IsScenario result.now (scenario_of self.now.script) }
-        ensures replays { Replays result.now self.now.core }
+    /// The script so far. Its text says a scenario with its parameters, its seed and its lines to run, and replays the
+    /// core.
+    pub fn script(&self) -> &Script
+        ensures value { without_room result.now ≡ self.now.script }
+        ensures says { IsScenario self.now.script.text (scenario_of self.now.script) }
+        ensures replays { Replays self.now.script.text self.now.core }
     {
-        self.script.text()
+        let _seed = self.script.seed();
+        &self.script
     }
 
-    /// The text, which says the same scenario and replays the core, and the core.
+    /// The script, whose text says the same scenario and replays the core, and the core.
     pub fn finish(self) -> Recorded
-        ensures text { result.text.items ≡ self.script.text }
+        ensures script { without_room result.script ≡ self.script }
         ensures core { result.core ≡ self.core }
-        ensures says { IsScenario result.text.items (scenario_of self.script) }
-        ensures replays { Replays result.text.items result.core }
+        ensures replays { Replays result.script.text result.core }
     {
         let Recording {
             alloc: _,
             script,
             core,
         } = self;
-        Recorded {
-            text: script.into_text(),
-            core,
-        }
+        let _seed = script.seed();
+        Recorded { script, core }
     }
 }
 
 /// Makes room in a script for one line more. Where memory is lacking, the answer is the first applicable refusal of an
 /// event, or out of memory (99) if none applies. Nothing but the room changes.
 fn make_room(script: &mut Script, core: &Core, event: &Event) -> Result<(), NetFault>
-    ensures room { OnOk result (line_room ≤ script.new.room) }
+    ensures room { OnOk result (1 ≤ script.new.room) }
     ensures same { script.new ≡ record script.old { room = script.new.room } }
     ensures refused { IfErr result (IsRefusal core.now.world.net (length core.now.world.journal) event.now) }
 {

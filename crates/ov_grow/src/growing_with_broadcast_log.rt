@@ -59,7 +59,7 @@ pub fn grow_logged(
     logged: bool,
 ) -> Result<LoggedGrowth, GrowFault>
     ensures grows { IfOk result (IsLoggedGrowth logged options.now) }
-    ensures replays { IfOk result (λ g. Replays g.grown.text.items g.grown.core) }
+    ensures replays { IfOk result (λ g. Replays g.grown.script.text g.grown.core) }
     ensures settled { IfOk result (λ g. (r : ReportState) × HasReportOfAll g.grown.core g.grown.settled.moment r) }
     ensures crashed { IfOk result (λ g. (r : ReportState) × HasReportOfAll g.grown.core g.grown.crashed.moment r) }
     ensures healed { IfOk result (λ g. (r : ReportState) × HasReportOfAll g.grown.core g.grown.healed.moment r) }
@@ -73,9 +73,9 @@ pub fn grow_logged(
     let crash_costs = growing.message_costs()?;
     let healed = growing.heal(options)?;
     let heal_costs = growing.message_costs()?;
-    let Recorded { text, core } = growing.finish();
+    let Recorded { script, core } = growing.finish();
     let grown = Grown {
-        text,
+        script,
         core,
         settled,
         crashed,

@@ -94,7 +94,7 @@ impl Growing {
         self.world().born(node) && !self.is_live(node)
     }
 
-    /// Does an act, and writes its line. A fault means that the world refuses the act, or that memory ran out.
+    /// Does an act, and adds its line. A fault means that the world refuses the act, or that memory ran out.
     pub(crate) fn act(&mut self, act: Act) -> Result<(), GrowFault>
         ensures goes { OnOk result (Goes (λ s u. Does s act u) self.old self.new) }
         ensures refused { IfErr result (IsNoWay (λ s u. Does s act u) self.old) }
@@ -105,7 +105,7 @@ impl Growing {
         self.recording.act(act)?;
         self.log
             .tell(self.alloc, &act, made, before, &self.recording)?;
-        let _text = self.recording.text();
+        let _script = self.recording.script();
         Ok(())
     }
 
@@ -134,7 +134,7 @@ impl Growing {
         }
     }
 
-    /// Writes a comment. OutOfMemory (99) is returned if an allocation was refused.
+    /// Adds a comment. OutOfMemory (99) is returned if an allocation was refused.
     pub(crate) fn comment(&mut self, said: &str) -> Result<(), GrowFault>
         ensures goes { OnOk result (Goes (λ s u. Writes s (comment_line said.now) u) self.old self.new) }
         ensures refused { IfErr result (λ fault. fault ≡ out_of_memory) }
@@ -145,9 +145,9 @@ impl Growing {
 
     /// The scenario of what happened, and the core that it makes.
     pub(crate) fn finish(self) -> Recorded
-        ensures text { result.text.items ≡ self.recording.script.text }
+        ensures text { result.script.text ≡ self.recording.script.text }
         ensures core { result.core ≡ self.recording.core }
-        ensures replays { Replays result.text.items result.core }
+        ensures replays { Replays result.script.text result.core }
     {
         let Growing {
             alloc: _,

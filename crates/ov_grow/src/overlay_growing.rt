@@ -8,13 +8,14 @@ use crate::fault::GrowFault;
 use crate::growing_with_broadcast_log::grow_logged;
 use crate::phase_moment_and_deliveries::PhaseEnd;
 use ov_grow_options::GrowOptions;
+use ov_script::Script;
 use ov_snap::Core;
 use std::alloc::Global;
 
 /// A grown overlay.
 pub struct Grown {
-    /// The scenario that makes it.
-    pub text: Vec<u8>,
+    /// The scenario that makes it, whose text is written when it is asked for.
+    pub script: Script,
     /// The core that the scenario makes.
     pub core: Core,
     /// How the phase ended in which the overlay settled.
@@ -29,7 +30,7 @@ impl Drop for Grown {
     /// Drops the parts. It is written by hand since a call is proved faster than the same drops at each exit.
     fn drop(self) {
         let Grown {
-            text: _,
+            script: _,
             core: _,
             settled: _,
             crashed: _,
@@ -38,7 +39,7 @@ impl Drop for Grown {
     }
 }
 
-/// Grows an overlay with these options: nodes join, the overlay settles, nodes crash, and the overlay heals. The text
+/// Grows an overlay with these options: nodes join, the overlay settles, nodes crash, and the overlay heals. The script
 /// is a scenario that begins with the options' parameters and seed, and the core is the one that it makes, each line
 /// accepted. For the moment at the end of each phase a report of all nodes is filed. How an overlay is grown is chosen
 /// here.
@@ -48,8 +49,8 @@ impl Drop for Grown {
 /// with these options, by whatever scenario.
 pub fn grow(alloc: Global, options: &GrowOptions) -> Result<Grown, GrowFault>
     ensures grows { IfOk result
-        (λ g. Grows options.now g.text.items g.core.world g.settled g.crashed g.healed) }
-    ensures replays { IfOk result (λ g. Replays g.text.items g.core) }
+        (λ g. Grows options.now g.script.text g.core.world g.settled g.crashed g.healed) }
+    ensures replays { IfOk result (λ g. Replays g.script.text g.core) }
     ensures settled { IfOk result (λ g. (r : ReportState) × HasReportOfAll g.core g.settled.moment r) }
     ensures crashed { IfOk result (λ g. (r : ReportState) × HasReportOfAll g.core g.crashed.moment r) }
     ensures healed { IfOk result (λ g. (r : ReportState) × HasReportOfAll g.core g.healed.moment r) }

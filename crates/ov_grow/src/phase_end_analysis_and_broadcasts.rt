@@ -65,7 +65,7 @@ impl Growing {
         self.recording.act(Act::Snapshot)?;
         self.log
             .tell(self.alloc, &Act::Snapshot, None, before, &self.recording)?;
-        let _text = self.recording.text();
+        let _script = self.recording.script();
         Ok(())
     }
 

@@ -62,9 +62,12 @@ fn print_scenario<W: Write>(
                 grown.crashed.moment,
                 grown.healed.moment,
             ];
-            match sink.write_all(&grown.text) {
-                Ok(()) => Ok(moments),
-                Err(_) => Err(told(rt, GrowCommandFault::Write)),
+            match grown.script.text(rt.alloc()) {
+                Ok(text) => match sink.write_all(&text) {
+                    Ok(()) => Ok(moments),
+                    Err(_) => Err(told(rt, GrowCommandFault::Write)),
+                },
+                Err(OutOfMemory) => Err(not_grown(rt, GrowFault::OutOfMemory)),
             }
         }
         Err(fault) => Err(not_grown(rt, fault)),

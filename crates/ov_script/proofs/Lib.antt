@@ -6,3 +6,4 @@ pub mod TellingLines
 mod KeepingText
 mod Opening
 mod Appending
+mod KeepingLines

@@ -1,4 +1,4 @@
--- A script: a scenario that is written line by line. It begins with a comment and with settings, and each line that is
+-- A script: a scenario that is made line by line. It begins with a comment and with settings, and each line that is
 -- added is an act, an analysis or a comment.
 use Rattle.std.specs.Prelude.{ℕ, List, ◌++◌}
 use Rattle.ov_ids.specs.ParamsState.{ParamsState}
@@ -8,7 +8,7 @@ use Rattle.ov_scenario.specs.declared.scenario.Scenario.{Scenario}
 use Rattle.ov_script.specs.WrittenLines.{comment_line, ended, params_line, rule_text, seed_line}
 
 -- a script: the parameters of all nodes, the seed, the text so far, the lines to run that it asks for, the random words
--- that the scenario gives to its next event, and how many more bytes the text has memory for
+-- that the scenario gives to its next event, and for how many lines more there is memory
 pub record ScriptState : Type 0 where
   pub params : ParamsState
   pub seed : ℕ
@@ -23,10 +23,6 @@ unfoldable pub opening : List ℕ → ParamsState → ℕ → List ℕ
 opening heading params seed =
     ended (comment_line heading)
     ++ (ended (params_line params) ++ (ended (seed_line seed) ++ rule_text params.refill))
-
--- how many bytes of room are enough for one line more, of any act or analysis: chosen here
-abbrev pub line_room : ℕ
-line_room = 80
 
 -- the scenario that the text of a script says; it has no blocks, so one driver is enough
 abbrev pub scenario_of : ScriptState → Scenario

@@ -1,16 +1,78 @@
 //! The lines of a script, each appended to a text that has room for it.
-ghost use Rattle.std.specs.Prelude.{◌≡◌, ◌≤◌, ◌+◌, ◌∷◌, ◌++◌, length, decimal, vec_len, vec_capacity};
+ghost use Rattle.std.specs.Prelude.{◌≡◌, ◌<◌, ◌≤◌, ◌+◌, ◌∷◌, ◌++◌, length, decimal, vec_len};
+ghost use Rattle.ov_ids.specs.Limits.{number_limit};
+ghost use Rattle.std.specs.Prelude.{IfOk, OnOk, vec_capacity};
 ghost use Rattle.ov_ids.specs.ParamsState.{AreWithinLimits};
 ghost use Rattle.ov_script.specs.Acts.{act_line};
-ghost use Rattle.ov_script.specs.Scripts.{line_room};
+ghost use Rattle.ov_script.specs.Scripts.{opening};
 ghost use Rattle.ov_script.specs.WrittenLines.{comment_line, ended, line_of, numerals, params_line, rule_text};
 ghost use Rattle.ov_script.specs.WrittenLines as spec;
-ghost use Rattle.ov_script.specs.Code.Writing.{IsShort, number_room, params_room, room_of, rule_room};
+ghost use Rattle.ov_script.specs.Code.Kept.{line_kept, written};
+ghost use Rattle.ov_script.specs.Code.Writing.{IsShort, line_room, number_room, params_room, room_of, rule_room};
 ghost use Rattle.ov_script.specs.declared.recordable_event.Act.TheVariants as act;
 
+use crate::line_to_write::KeptLine;
 use crate::recordable_event::Act;
 use itoa::Buffer;
-use ov_ids::{NodeId, Params, Refill};
+use ov_ids::{NodeId, OutOfMemory, Params, Refill};
+use std::alloc::Global;
+
+/// How many bytes of room are enough for the line of any act or analysis. (Chosen here.)
+const LINE_ROOM: usize = 80;
+
+/// How many bytes a script begins with at most, besides what its heading says.
+const OPENING_ROOM: usize = 220;
+
+/// The text with which a script begins: the heading as a comment, the parameters, the seed, and the rule at DISCONNECT
+/// unless it is the profile's. OutOfMemory (99) is returned if an allocation was refused.
+pub(crate) fn opening_text(
+    alloc: Global,
+    heading: &[u8],
+    params: Params,
+    seed: u64,
+) -> Result<Vec<u8>, OutOfMemory>
+    ensures { IfOk result (λ text. text.items ≡ opening heading.now params seed) }
+{
+    let mut text = Vec::with_capacity(alloc, heading.len() + OPENING_ROOM)?;
+    write_comment(&mut text, heading);
+    write_params(&mut text, params);
+    write_line(&mut text, b"seed", &[seed]);
+    write_refill(&mut text, params.refill());
+    Ok(text)
+}
+
+/// Appends these lines, each with its line feed. OutOfMemory (99) is returned if an allocation was refused.
+#[tactic(auto, unfolding(crate::specs::Code::Kept::written))]
+pub(crate) fn write_lines(text: &mut Vec<u8>, lines: &[KeptLine]) -> Result<(), OutOfMemory>
+    ensures { OnOk result (text.new.items ≡ text.old.items ++ written lines.now) }
+{
+    for line in lines {
+        write_kept(text, line)?;
+    }
+    Ok(())
+}
+
+/// Appends the line that is kept, with its line feed. OutOfMemory (99) is returned if an allocation was refused.
+#[tactic(auto, unfolding(crate::specs::WrittenLines::analysis_line))]
+fn write_kept(text: &mut Vec<u8>, line: &KeptLine) -> Result<(), OutOfMemory>
+    ensures { OnOk result (text.new.items ≡ text.old.items ++ ended (line_kept line.now)) }
+{
+    match line {
+        KeptLine::Act(act) => {
+            text.reserve(LINE_ROOM)?;
+            write_act(text, act);
+        }
+        KeptLine::Analysis(moment) => {
+            text.reserve(LINE_ROOM)?;
+            write_line(text, b"analyse", &[*moment as u64]);
+        }
+        KeptLine::Comment(said) => {
+            text.reserve(said.as_slice().len() + 3)?;
+            write_comment(text, said.as_slice());
+        }
+    }
+    Ok(())
+}
 
 /// Appends these bytes.
 fn append(text: &mut Vec<u8>, bytes: &[u8])
@@ -51,7 +113,7 @@ fn write_words(text: &mut Vec<u8>, name: &[u8], numbers: &[u64])
 }
 
 /// Appends a line of a name and these numbers.
-pub(crate) fn write_line(text: &mut Vec<u8>, name: &[u8], numbers: &[u64])
+fn write_line(text: &mut Vec<u8>, name: &[u8], numbers: &[u64])
     requires room { vec_len text.old + (room_of name.now numbers.now + 1) ≤ vec_capacity text.old }
     ensures items { text.new.items ≡ text.old.items ++ ended (line_of name.now (numerals numbers.now)) }
     ensures len { vec_len text.new ≤ vec_len text.old + (room_of name.now numbers.now + 1) }
@@ -63,7 +125,7 @@ pub(crate) fn write_line(text: &mut Vec<u8>, name: &[u8], numbers: &[u64])
 
 /// Appends the line of these parameters.
 #[tactic(auto, unfolding(crate::specs::WrittenLines::params_line))]
-pub(crate) fn write_params(text: &mut Vec<u8>, params: Params)
+fn write_params(text: &mut Vec<u8>, params: Params)
     requires room { vec_len text.old + params_room ≤ vec_capacity text.old }
     ensures items { text.new.items ≡ text.old.items ++ ended (params_line params) }
     ensures limits { AreWithinLimits params }
@@ -84,7 +146,7 @@ pub(crate) fn write_params(text: &mut Vec<u8>, params: Params)
 
 /// Appends the line of this rule at DISCONNECT, or nothing if it is the profile's rule.
 #[tactic(auto, unfolding(crate::specs::WrittenLines::rule_text))]
-pub(crate) fn write_refill(text: &mut Vec<u8>, rule: Refill)
+fn write_refill(text: &mut Vec<u8>, rule: Refill)
     requires room { vec_len text.old + rule_room ≤ vec_capacity text.old }
     ensures items { text.new.items ≡ text.old.items ++ rule_text rule }
 {
@@ -100,7 +162,6 @@ pub(crate) fn write_refill(text: &mut Vec<u8>, rule: Refill)
 fn write_boot(text: &mut Vec<u8>, node: NodeId, contact: Option<NodeId>)
     requires room { vec_len text.old + line_room ≤ vec_capacity text.old }
     ensures items { text.new.items ≡ text.old.items ++ ended (act_line (act.Boot node contact)) }
-    ensures short { IsShort (act.Boot node contact) }
 {
     match contact {
         None => write_line(text, b"boot", &[node.0 as u64]),
@@ -111,12 +172,56 @@ fn write_boot(text: &mut Vec<u8>, node: NodeId, contact: Option<NodeId>)
     }
 }
 
+/// Each number of an act is below 2^32. Nothing is done.
+pub(crate) fn short_numbers(act: &Act)
+    ensures { IsShort act.now }
+{
+    match act {
+        Act::Boot(node, contact) => short_birth(*node, *contact),
+        Act::Deliver(place) => short_number(*place),
+        Act::Lose(place) => short_number(*place),
+        Act::Repeat(place) => short_number(*place),
+        Act::Crash(node) => short_number(node.0),
+        Act::CrashReport(node, crashed) => {
+            short_number(node.0);
+            short_number(crashed.0);
+        }
+        Act::Shuffle(node) => short_number(node.0),
+        Act::Broadcast(node) => short_number(node.0),
+        Act::Timer(node, id) => {
+            short_number(node.0);
+            short_number(id.origin.0);
+            short_number(id.seq);
+        }
+        Act::Snapshot => (),
+    }
+}
+
+/// The same of a birth.
+fn short_birth(node: NodeId, contact: Option<NodeId>)
+    ensures { IsShort (act.Boot node contact) }
+{
+    match contact {
+        None => short_number(node.0),
+        Some(contact) => {
+            short_number(node.0);
+            short_number(contact.0);
+        }
+    }
+}
+
+/// The same of a number.
+fn short_number(number: u32)
+    ensures { number < number_limit }
+{
+    let _ = number;
+}
+
 /// Appends the line of an act.
 #[tactic(auto, unfolding(crate::specs::Acts::act_line))]
-pub(crate) fn write_act(text: &mut Vec<u8>, act: &Act)
+fn write_act(text: &mut Vec<u8>, act: &Act)
     requires room { vec_len text.old + line_room ≤ vec_capacity text.old }
     ensures items { text.new.items ≡ text.old.items ++ ended (act_line act.now) }
-    ensures short { IsShort act.now }
 {
     match act {
         Act::Boot(node, contact) => write_boot(text, *node, *contact),
@@ -139,7 +244,7 @@ pub(crate) fn write_act(text: &mut Vec<u8>, act: &Act)
 
 /// Appends a comment that says this, on one line.
 #[tactic(auto, unfolding(crate::specs::WrittenLines::comment_line))]
-pub(crate) fn write_comment(text: &mut Vec<u8>, said: &[u8])
+fn write_comment(text: &mut Vec<u8>, said: &[u8])
     requires room { vec_len text.old + (length said.now + 3) ≤ vec_capacity text.old }
     ensures items { text.new.items ≡ text.old.items ++ ended (comment_line said.now) }
     ensures len { vec_len text.new ≡ vec_len text.old + (length said.now + 3) }

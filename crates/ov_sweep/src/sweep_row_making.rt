@@ -38,7 +38,7 @@ fn row_told(
     logged: &LoggedGrowth,
 ) -> Result<Row, OutOfMemory>
     requires grows { IsLoggedGrowth measures.costs options.now logged.now }
-    requires replays { Replays logged.now.grown.text.items logged.now.grown.core }
+    requires replays { Replays logged.now.grown.script.text logged.now.grown.core }
     requires settled { (r : ReportState) × HasReportOfAll logged.now.grown.core logged.now.grown.settled.moment r }
     requires crashed { (r : ReportState) × HasReportOfAll logged.now.grown.core logged.now.grown.crashed.moment r }
     requires healed { (r : ReportState) × HasReportOfAll logged.now.grown.core logged.now.grown.healed.moment r }

@@ -1,4 +1,4 @@
--- What a script keeps of its text.
+-- What a script keeps, and what is kept of its text.
 use Rattle.std.specs.Prelude.{◌≡◌, ◌⊎◌, ℕ, List, [], ◌∷◌, ◌++◌, map, Option, Some}
 use Rattle.rand_core.specs.Stream.{Stream}
 use Rattle.ov_ids.specs.ParamsState.{ParamsState}
@@ -12,6 +12,26 @@ use Rattle.ov_scenario.specs.Code.RunnableLines.{later_words, outputs, to_run}
 use Rattle.ov_scenario.specs.declared.scenario.Line.{Line}
 use Rattle.ov_scenario.specs.declared.statement.Statement.{Statement}
 use Rattle.ov_scenario.specs.declared.statement.Statement.TheVariants as says
+use Rattle.ov_script.specs.Acts.{act_line}
+use Rattle.ov_script.specs.Scripts.{opening}
+use Rattle.ov_script.specs.WrittenLines.{analysis_line, comment_line, ended}
+use Rattle.ov_script.specs.declared.line_to_write.KeptLine.{KeptLine}
+use Rattle.ov_script.specs.declared.line_to_write.KeptLine.TheVariants as keeps
+
+-- the line that is kept
+abbrev pub line_kept : KeptLine → List ℕ
+line_kept (keeps.Act act) = act_line act
+line_kept (keeps.Analysis moment) = analysis_line moment
+line_kept (keeps.Comment said) = comment_line said
+
+-- these lines, each with its line feed
+unfoldable pub written : List KeptLine → List ℕ
+written [] = []
+written (line ∷ more) = ended (line_kept line) ++ written more
+
+-- the text of a script with this heading, these parameters and this seed, which keeps these lines
+unfoldable pub text_of : List ℕ → ParamsState → ℕ → List KeptLine → List ℕ
+text_of heading params seed lines = opening heading params seed ++ written lines
 
 -- the lines to run that a text with this seed asks for
 unfoldable pub lines_of : ℕ → List ℕ → List Line

@@ -8,6 +8,10 @@ use Rattle.ov_script.specs.declared.recordable_event.Act.TheVariants as act
 abbrev pub number_room : ℕ
 number_room = 21
 
+-- how many bytes of room are enough for the line of any act or analysis, with its line feed: chosen here
+abbrev pub line_room : ℕ
+line_room = 80
+
 -- how many bytes a name takes, and this many numbers after it, at most
 abbrev pub room_of : List ℕ → List ℕ → ℕ
 room_of name numbers = length name + number_room * length numbers

@@ -101,8 +101,8 @@ returns-clause-grows c = record {
     settle = c.in_ok-settled.ensures.goes.way;
     crash = c.in_ok-crashed.ensures.goes.way;
     heal = c.in_ok-healed.ensures.goes.way;
-    text_is = c.finish-text.ensures.text;
-    world_is = ap (λ x. x.world) c.finish-text.ensures.core;
+    text_is = c.finish-script.ensures.text;
+    world_is = ap (λ x. x.world) c.finish-script.ensures.core;
   };
   settle = c.in_ok-settle_costs.ensures;
   crash = c.in_ok-crash_costs.ensures;
@@ -111,14 +111,14 @@ returns-clause-grows c = record {
 
 pub returns-clause-settled : goal.returns-clause-settled
 returns-clause-settled c =
-    reported c.heal.new.self.recording.core _ c.in_ok-settled.settled.moment c.finish-text.ensures.core
+    reported c.heal.new.self.recording.core _ c.in_ok-settled.settled.moment c.finish-script.ensures.core
     (answered_kept c.crash.new.self.recording.core c.heal.new.self.recording.core _ c.in_ok-healed.ensures.goes.kept
     (answered_kept c.settle.new.self.recording.core c.crash.new.self.recording.core _ c.in_ok-crashed.ensures.goes.kept
     c.in_ok-settled.ensures.answered))
 
 pub returns-clause-crashed : goal.returns-clause-crashed
 returns-clause-crashed c =
-    reported c.heal.new.self.recording.core _ c.in_ok-crashed.crashed.moment c.finish-text.ensures.core
+    reported c.heal.new.self.recording.core _ c.in_ok-crashed.crashed.moment c.finish-script.ensures.core
     (answered_kept c.crash.new.self.recording.core c.heal.new.self.recording.core _ c.in_ok-healed.ensures.goes.kept
     c.in_ok-crashed.ensures.answered)
 

@@ -9,12 +9,12 @@ use Rattle.ov_grow.proofs.overlay_growing.grow.Goals as goal
 
 pub returns-clause-grows : goal.returns-clause-grows
 returns-clause-grows c =
-    subst (λ (g : Grown). Grows c.args.options.now g.text.items g.core.world g.settled g.crashed g.healed)
+    subst (λ (g : Grown). Grows c.args.options.now g.script.text g.core.world g.settled g.crashed g.healed)
     (sym c.into_grown.ensures) c.in_ok-logged.ensures.grows.grows
 
 pub returns-clause-replays : goal.returns-clause-replays
 returns-clause-replays c =
-    subst (λ (g : Grown). Replays g.text.items g.core) (sym c.into_grown.ensures) c.in_ok-logged.ensures.replays
+    subst (λ (g : Grown). Replays g.script.text g.core) (sym c.into_grown.ensures) c.in_ok-logged.ensures.replays
 
 pub returns-clause-settled : goal.returns-clause-settled
 returns-clause-settled c =

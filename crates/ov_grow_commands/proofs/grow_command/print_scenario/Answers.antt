@@ -1,5 +1,5 @@
 -- What was written is the text of what was grown.
-use Rattle.std.proofs.Common.{ℕ, List, refl, sym, subst}
+use Rattle.std.proofs.Common.{◌∙◌, ℕ, List, inl, inr, refl, sym, subst}
 use Rattle.std.specs.Prelude.{Err}
 use Rattle.std.specs.Io.KnownBytes.{Appends}
 use Rattle.ov_io.specs.Device.{AppendsPrefixOf}
@@ -28,22 +28,31 @@ pub returns-in-Ok-write_all-clause-printed : goal.returns-in-Ok-write_all-clause
 unfolding is_grown
 returns-in-Ok-write_all-clause-printed g c =
     let grown = c.in-Ok.grown in (
-      grown.text.items,
-      is_grown c.args.options.now grown.text.items grown.core grown.settled grown.crashed grown.healed
+      grown.script.text,
+      is_grown c.args.options.now grown.script.text grown.core grown.settled grown.crashed grown.healed
           c.in-Ok.ensures.grows c.in-Ok.ensures.replays,
       subst (λ (text : List ℕ). Appends (g.W.Write.contents c.args.sink.now.writer) (g.W.Write.contents
-          c.write_all.new.self.writer) text) c.deref.ensures.value c.in-Ok-write_all.ensures.bytes,
+          c.write_all.new.self.writer) text) (c.deref.ensures.value ∙ c.in-Ok-text.ensures.value)
+          c.in-Ok-write_all.ensures.bytes,
       refl,
     )
 
-pub returns-in-Ok-clause-printed : goal.returns-in-Ok-clause-printed
-returns-in-Ok-clause-printed g c =
+pub returns-in-Ok-text-clause-printed : goal.returns-in-Ok-text-clause-printed
+returns-in-Ok-text-clause-printed g c =
     let grown = c.in-Ok.grown in
     subst (λ (fault : GrowCommandFault). WasPrinted c.args.options.now g.W.Write.contents c.args.sink.now.writer
     c.write_all.new.self.writer (Err fault)) (sym c.told.ensures) (
-      grown.text.items,
-      is_grown c.args.options.now grown.text.items grown.core grown.settled grown.crashed grown.healed
+      grown.script.text,
+      is_grown c.args.options.now grown.script.text grown.core grown.settled grown.crashed grown.healed
           c.in-Ok.ensures.grows c.in-Ok.ensures.replays,
       subst (λ (text : List ℕ). AppendsPrefixOf text (g.W.Write.contents c.args.sink.now.writer) (g.W.Write.contents
-          c.write_all.new.self.writer)) c.deref.ensures.value c.write_all.ensures.prefix,
+          c.write_all.new.self.writer)) (c.deref.ensures.value ∙ c.in-Ok-text.ensures.value)
+          c.write_all.ensures.prefix,
     )
+
+-- memory ran out as the text was written
+pub returns-in-Ok-clause-printed : goal.returns-in-Ok-clause-printed
+returns-in-Ok-clause-printed g c =
+    subst (λ (fault : GrowCommandFault). WasPrinted c.args.options.now g.W.Write.contents c.args.sink.now.writer
+    c.args.sink.now.writer (Err fault)) (sym c.not_grown.ensures)
+    (record { full = inr (inr refl); reason = inl refl }, refl)

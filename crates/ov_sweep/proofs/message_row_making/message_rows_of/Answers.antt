@@ -20,7 +20,7 @@ returns-clause-rows c =
     let logged = c.in_ok-logged.logged in
     let is = c.in_ok-logged.ensures.grows in
     record {
-      text = logged.grown.text.items;
+      text = logged.grown.script.text;
       core = logged.grown.core;
       settled = logged.grown.settled;
       crashed = logged.grown.crashed;

@@ -14,7 +14,7 @@ returns c =
     record {
       options = refl;
       three = refl;
-      text = grown.text.items;
+      text = grown.script.text;
       core = grown.core;
       settled = grown.settled;
       crashed = grown.crashed;

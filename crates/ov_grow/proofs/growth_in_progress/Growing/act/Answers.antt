@@ -24,7 +24,7 @@ pub returns-clause-goes : goal.returns-clause-goes
 returns-clause-goes c = act_goes _ _ _ _ _ refl
     (c.in_ok-tell.ensures c.args.self.now.recording.core.world.net c.packets-before.ensures.value
     c.id_made_by-made.ensures)
-    c.in_ok-act.ensures.happened.1 c.in_ok-act.ensures.written c.text-text.ensures.value c.text-text.ensures.says
+    c.in_ok-act.ensures.happened.1 c.in_ok-act.ensures.written refl c.script-script.ensures.says
 
 pub returns-in_err-act-clause-judged : goal.returns-in_err-act-clause-judged
 returns-in_err-act-clause-judged c =

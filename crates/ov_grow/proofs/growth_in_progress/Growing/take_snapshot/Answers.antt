@@ -24,7 +24,7 @@ pub returns-clause-goes : goal.returns-clause-goes
 returns-clause-goes c = act_goes _ _ _ _ _ refl
     (c.in_ok-tell.ensures c.args.self.now.recording.core.world.net c.packets-before.ensures.value refl)
     c.in_ok-act.ensures.happened.1 c.in_ok-act.ensures.written
-    c.text-text.ensures.value c.text-text.ensures.says
+    refl c.script-script.ensures.says
 
 pub returns-clause-fresh : goal.returns-clause-fresh
 returns-clause-fresh c = snapshot_fresh _ _ _ _ (subst (λ b. IsSound b) c.core.ensures c.world-world.ensures.sound)
