@@ -28,7 +28,11 @@ from repository import ROOT, below, end_session, end_with_parent, lay_out_root, 
 # How many programs of a crate are left beside a new one.
 KEPT = 3
 # What a build takes where 4 processors have nothing else to do.
-TAKES = {"overlay": "in three minutes or more", "overlay_check": "in a minute or more"}
+TAKES = {
+    "overlay": "in three minutes or more",
+    "overlay_check": "in a minute or more",
+    "overlay_check_large": "in a minute or more",
+}
 # How the name of a folder begins in which one is built.
 BUILDING = "building-"
 # Where the kit has its compiler, its linker and its check.

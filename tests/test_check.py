@@ -2,8 +2,8 @@
 """test_check.py: the tests of check.py, over the examples, over changed ones, and over the inputs that fuzzing kept.
 
 What is expected comes from docs/FORMATS.md, docs/CONNECTIVITY.md and the tables of examples/README.md. If the variable
-TAGZIRK_OVERLAY_CHECK names the program overlay-check, both must print the same line for examples that are changed at
-random.
+TAGZIRK_OVERLAY_CHECK names the program overlay-check, or TAGZIRK_OVERLAY_CHECK_LARGE overlay-check-large, both must
+print the same line for examples that are changed at random, and for files of version 3.
 """
 
 import base64
@@ -31,12 +31,17 @@ RANDOM_CHANGES = 300
 PIECES = (b"", b"0", b"1", b"4", b"9", b"-", b",", b"[", b"]")
 
 
-def line_of(data):
-    """The line for the bytes of a file."""
+def line_of(data, newest=check.NEWEST):
+    """The line for the bytes of a file, where this is the newest version that is read."""
     try:
-        return check.judge(data)
+        return check.judge(data, newest)
     except check.Answer as fault:
         return str(fault)
+
+
+def large_line_of(data):
+    """The line for the bytes of a file, of version 3 too."""
+    return line_of(data, check.NEWEST_LARGE)
 
 
 def example(name):
@@ -46,6 +51,32 @@ def example(name):
 def changed(value, **keys):
     """The bytes of a certificate file with other values."""
     return json.dumps({**value, **keys}).encode()
+
+
+def in_version_3(name, **keys):
+    """An example with other values, as a file of version 3."""
+    value = example(name)
+    return changed({"group": value["nodes"], **value, "version": 3}, **keys)
+
+
+def files_of_version_3():
+    """Files of version 3, or almost: each with the line that is printed of it."""
+    for name in HOLDING:
+        tail = line_of(json.dumps(example(name)).encode()).split(" ", 2)[2]
+        for moment in 0, 1, 65536, 65537, 70000, 2**32 - 1:
+            yield in_version_3(name, moment=moment), f"holds {moment} {tail}"
+        for moment in 2**32, -1, 0.5, 70000.0, "70000", None, True, [70000], 10**400:
+            yield in_version_3(name, moment=moment), "refused 60" if moment == 10**400 else "refused 63"
+        for version in 0, 4, 5, -3, 3.0, "3", None, True, [3], 2**64 + 3:
+            yield in_version_3(name, version=version), "refused 64"
+        yield in_version_3(name, version=2, moment=70000), "refused 63"
+        yield in_version_3(name, version=1), "refused 62"
+        yield in_version_3(name, k=example(name)["k"] + 1), "fails 40"
+        yield in_version_3(name, group=[]), "fails 49"
+        yield in_version_3(name, more=1), "refused 62"
+        for key in json.loads(in_version_3(name)):
+            less = {other: it for other, it in json.loads(in_version_3(name)).items() if other != key}
+            yield json.dumps(less).encode(), "refused 61"
 
 
 def run(*words, **how):
@@ -179,6 +210,59 @@ class ChangedFiles(unittest.TestCase):
                 self.assertEqual(line_of(changed(value, fans=fans)), "fails 45", name)
 
 
+class LargeFiles(unittest.TestCase):
+    """Version 3, which --large reads; and versions 1 and 2, of which it says the same."""
+
+    def test_version_3(self):
+        for data, line in files_of_version_3():
+            self.assertEqual(large_line_of(data), line, data)
+
+    def test_it_is_no_version_without_large(self):
+        for name in HOLDING:
+            for moment in 0, 70000, 2**32:
+                self.assertEqual(line_of(in_version_3(name, moment=moment)), "refused 64", name)
+
+    def test_forged(self):
+        """Each change of a list of paths, of ends and of sides makes another fault than in version 2, or the same."""
+        for name in HOLDING:
+            value = {"group": example(name)["nodes"], **example(name)}
+            for key in value.keys() - {"version"}:
+                for other in [], [[1, 2]], [1], 1, 99, "split", "linked", [{"j": 3, "paths": []}]:
+                    second, third = (changed(value, **{key: other, "version": it}) for it in (2, 3))
+                    self.assertEqual(large_line_of(third), line_of(second), third)
+
+    def test_cut_at_each_byte(self):
+        data = in_version_3("square", moment=70000)
+        for end in range(len(data)):
+            self.assertEqual(large_line_of(data[:end]), "refused 60", end)
+
+    def test_nodes(self):
+        for number, line in (1024, "fails 46"), (1025, "refused 31"):
+            nodes = list(range(number))
+            value = {"group": nodes, "k": number - 1, "links": [], "moment": 70000, "nodes": nodes, "verdict": "linked"}
+            self.assertEqual(large_line_of(changed(value, version=3)), line)
+
+    def test_versions_1_and_2(self):
+        for path in [*EXAMPLES.glob("*.json"), *EXAMPLES.glob("mistakes/*.json")]:
+            data = path.read_bytes()
+            if path.name != "version-three.json":
+                self.assertEqual(large_line_of(data), line_of(data), path.name)
+        self.assertEqual(large_line_of((EXAMPLES / "version-three.json").read_bytes()), "refused 61")
+        self.assertEqual(large_line_of(changed(example("square"), moment=70000)), "refused 63")
+        self.assertEqual(large_line_of(changed(example("square-group"), moment=70000)), "refused 63")
+
+    def test_the_option(self):
+        data = in_version_3("square", moment=70000)
+        line = "holds 70000 split k 2 cut 2,4 near 1 far 3 side 1\n"
+        self.assertEqual(run("--large", stdin=None, input=data), (line, "", 0))
+        self.assertEqual(run("--large", "-", stdin=None, input=data), (line, "", 0))
+        self.assertEqual(run(stdin=None, input=data)[::2], ("refused 64\n", 1))
+        graph = "node 1\nnode 2\nnode 3\nnode 4\nlink 1 2\nlink 1 4\nlink 2 3\nlink 3 4\n"
+        for words in ("--large", "--graph"), ("--graph", "--large"):
+            self.assertEqual(run(*words, stdin=None, input=data), (graph, "", 0))
+        self.assertEqual(run("--graph", stdin=None, input=data)[::2], ("", 1))
+
+
 class Json(unittest.TestCase):
     """What JSON a text is, by the format."""
 
@@ -238,10 +322,10 @@ class Command(unittest.TestCase):
                 self.assertRegex(err, r"\Arefused 71\n[^\n]+ can't be read: [^\n]+\n\Z")
 
     def test_arguments(self):
-        for words in ("a", "b"), ("--graph", "a", "b"), ("--grahp",), ("-x", "a"), ("--graph", "--graph"):
+        for words in ("a", "b"), ("--graph", "a", "b"), ("--grahp",), ("-x", "a"), ("--graph", "--graph"), ("--large", "-l"):
             out, err, status = run(*words)
             self.assertEqual((out, status), ("", 2), words)
-            self.assertEqual(err.split("\n")[0], "usage: check.py [--graph] [FILE]")
+            self.assertEqual(err.split("\n")[0], "usage: check.py [--graph] [--large] [FILE]")
         out, err, status = run("--help")
         self.assertEqual((out, err, status), (check.__doc__, "", 0))
 
@@ -282,21 +366,46 @@ class Command(unittest.TestCase):
         self.assertEqual((out, err.split("\n")[0], status), ("", "refused 32", 1))
 
 
-@unittest.skipUnless(os.environ.get("TAGZIRK_OVERLAY_CHECK"), "TAGZIRK_OVERLAY_CHECK is not set")
-class BesideOverlayCheck(unittest.TestCase):
+class BesideAProgram:
+    """The tests beside a program: its variable, and the line that check.py prints."""
+
+    def compare(self, data):
+        line = self.line_of(data)
+        ended = subprocess.run([os.environ[self.variable]], input=data, stdout=subprocess.PIPE,
+                               stderr=subprocess.DEVNULL)
+        status = 0 if line.startswith("holds ") else 1
+        self.assertEqual((ended.stdout.decode(), ended.returncode), (f"{line}\n", status), data)
+
     def test_random_changes(self):
         source = random.Random(1)
         texts = [path.read_bytes() for path in sorted(EXAMPLES.glob("*.json")) if path.stat().st_size < 5000]
+        texts += self.more
         for _ in range(RANDOM_CHANGES):
             data = bytearray(source.choice(texts))
             for _ in range(source.choice((1, 1, 2, 3))):
                 at = source.randrange(len(data))
                 data[at:at + source.choice((0, 1, 1))] = source.choice(PIECES)
-            ended = subprocess.run([os.environ["TAGZIRK_OVERLAY_CHECK"]], input=data, stdout=subprocess.PIPE,
-                                   stderr=subprocess.DEVNULL)
-            line = line_of(bytes(data))
-            status = 0 if line.startswith("holds ") else 1
-            self.assertEqual((ended.stdout.decode(), ended.returncode), (f"{line}\n", status), data)
+            self.compare(bytes(data))
+
+    def test_version_3(self):
+        for data, _ in files_of_version_3():
+            self.compare(data)
+
+    def test_version_3_cut_at_each_byte(self):
+        data = in_version_3("square", moment=70000)
+        for end in range(len(data) + 1):
+            self.compare(data[:end])
+
+
+@unittest.skipUnless(os.environ.get("TAGZIRK_OVERLAY_CHECK"), "TAGZIRK_OVERLAY_CHECK is not set")
+class BesideOverlayCheck(BesideAProgram, unittest.TestCase):
+    variable, line_of, more = "TAGZIRK_OVERLAY_CHECK", staticmethod(line_of), []
+
+
+@unittest.skipUnless(os.environ.get("TAGZIRK_OVERLAY_CHECK_LARGE"), "TAGZIRK_OVERLAY_CHECK_LARGE is not set")
+class BesideOverlayCheckLarge(BesideAProgram, unittest.TestCase):
+    variable, line_of = "TAGZIRK_OVERLAY_CHECK_LARGE", staticmethod(large_line_of)
+    more = [in_version_3(name, moment=70000) for name in HOLDING]
 
 
 if __name__ == "__main__":

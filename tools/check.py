@@ -1,11 +1,13 @@
 #!/usr/bin/env python3
-"""check.py [--graph] [FILE]: says in one line whether a certificate file holds. Without FILE, or with -, it reads
-standard input.
+"""check.py [--graph] [--large] [FILE]: says in one line whether a certificate file holds. Without FILE, or with -, it
+reads standard input.
 
 A second checker of certificate files, in plain Python (3.9 or later) and without packages. It was written from
 docs/FORMATS.md and docs/CONNECTIVITY.md alone, and has no line of the Rattle checker. It prints the line of
 overlay-check, and ends with its status: 0 if the certificate holds, 1 if it fails or the file is refused, 2 if the
 arguments are wrong. One more line on standard error says why.
+
+With --large it reads version 3 of these files too, and prints the line of overlay-check-large.
 
 With --graph it prints the graph in the file, as a graph file: the nodes ascending, then the links ascending, a line
 each. It does not ask then whether the certificate holds. If there is no graph to print, standard output gets nothing.
@@ -17,13 +19,16 @@ import re
 import sys
 from math import isinf
 
-USAGE = "usage: check.py [--graph] [FILE]"
+USAGE = "usage: check.py [--graph] [--large] [FILE]"
+OPTIONS = ("--graph", "--large")
 LINKED = {"k", "links", "moment", "nodes", "verdict", "version"}
 SPLIT = LINKED | {"cut", "fans", "far", "near", "pairs", "side"}
-KEYS_OF_VERSION = {1: set(), 2: {"group"}}
-MOST_NODES = {1: 256, 2: 1024}
 MOST_ID = 2**32 - 1
-LAST_MOMENT = 65536
+KEYS_OF_VERSION = {1: set(), 2: {"group"}, 3: {"group"}}
+MOST_NODES = {1: 256, 2: 1024, 3: 1024}
+LAST_MOMENT = {1: 65536, 2: 65536, 3: MOST_ID}
+# The newest version that is read, without --large and with it.
+NEWEST, NEWEST_LARGE = 2, 3
 DEEPEST = 127
 # The least number that is too large to be a float has so many digits.
 LONG = 309
@@ -136,7 +141,6 @@ FORMS = {
     "group": (is_ids, IDS),
     "k": (is_id, ID),
     "links": (listed(lambda x: is_ids(x) and len(x) == 2), "a list of lists of exactly two ids"),
-    "moment": (whole(LAST_MOMENT), f"a whole number from 0 to {LAST_MOMENT}"),
     "near": (is_id, ID),
     "nodes": (is_ids, IDS),
     "pairs": (listed(entry("i", "j")), ENTRIES.format("i and j, ids")),
@@ -144,19 +148,28 @@ FORMS = {
 }
 
 
-def judge_form(c):
-    """Demands that a value has the keys and the forms of a certificate file."""
+def form_of(key, version):
+    """The form of a key in files of this version, and its words."""
+    if key == "moment":
+        last = LAST_MOMENT[version]
+        return whole(last), f"a whole number from 0 to {last}"
+    return FORMS[key]
+
+
+def judge_form(c, newest):
+    """Demands that a value has the keys and the forms of a certificate file, up to the newest version."""
     demand(type(c) is dict, "refused 63", "the file is no JSON object")
     demand("version" in c, "refused 61", "the key version is missing")
-    demand(type(c["version"]) is int and c["version"] in (1, 2), "refused 64", "the version is neither 1 nor 2")
+    demand(type(c["version"]) is int and 1 <= c["version"] <= newest, "refused 64",
+           f"the version is no whole number from 1 to {newest}")
     demand("verdict" in c, "refused 61", "the key verdict is missing")
     demand(c["verdict"] in ("linked", "split"), "refused 63", "the verdict is neither linked nor split")
     keys = (LINKED if c["verdict"] == "linked" else SPLIT) | KEYS_OF_VERSION[c["version"]]
     demand(keys <= c.keys(), "refused 61", f"the key {min(keys - c.keys(), default=None)} is missing")
     demand(c.keys() <= keys, "refused 62",
            f"{c['verdict']} in version {c['version']} has no key {min(c.keys() - keys, default=None)!a}")
-    for key in sorted(keys & FORMS.keys()):
-        is_form, words = FORMS[key]
+    for key in sorted(keys - {"verdict", "version"}):
+        is_form, words = form_of(key, c["version"])
         demand(is_form(c[key]), "refused 63", f"the value of {key} is not {words}")
 
 
@@ -174,10 +187,10 @@ def judge_graph(nodes, links, most):
         demand(place == 0 or links[place - 1] < [a, b], "refused 32", f"[{a},{b}] is not above the link before it")
 
 
-def read_file(data):
-    """What the bytes of a certificate file say."""
+def read_file(data, newest):
+    """What the bytes of a certificate file say, where this is the newest version that is read."""
     c = read(data)
-    judge_form(c)
+    judge_form(c, newest)
     judge_graph(c["nodes"], c["links"], MOST_NODES[c["version"]])
     return c
 
@@ -261,9 +274,9 @@ def words(ids):
     return ",".join(map(str, ids)) or "-"
 
 
-def judge(data):
+def judge(data, newest=NEWEST):
     """The line for the bytes of a certificate that holds. Any other raises Answer."""
-    c = read_file(data)
+    c = read_file(data, newest)
     nodes = c["nodes"]
     demand(nodes, "fails 47", "the graph has no node")
     group = c.get("group", nodes)
@@ -283,9 +296,9 @@ def judge(data):
     return line if group == nodes else f"{line} group {words(group)}"
 
 
-def graph_file(data):
+def graph_file(data, newest):
     """The graph in the bytes of a certificate file, as the text of a graph file."""
-    c = read_file(data)
+    c = read_file(data, newest)
     return "".join([f"node {a}\n" for a in c["nodes"]] + [f"link {a} {b}\n" for a, b in c["links"]])
 
 
@@ -315,10 +328,10 @@ def bytes_of(file):
         return opened.read()
 
 
-def answer(data, has_graph):
+def answer(data, has_graph, newest):
     """What is printed on standard output, the lines on standard error, and the status."""
     try:
-        return graph_file(data) if has_graph else f"{judge(data)}\n", [], 0
+        return graph_file(data, newest) if has_graph else f"{judge(data, newest)}\n", [], 0
     except Answer as fault:
         if has_graph:
             return "", [fault, fault.why], 1
@@ -329,8 +342,9 @@ def main(arguments):
     if arguments in (["--help"], ["-h"]):
         write(__doc__, 1)
         return 0
-    has_graph = arguments[:1] == ["--graph"]
-    files = arguments[has_graph:]
+    files, asked = list(arguments), []
+    while files and files[0] in OPTIONS and files[0] not in asked:
+        asked.append(files.pop(0))
     if len(files) > 1 or (files and files[0].startswith("-") and files[0] != "-"):
         tell(USAGE, "more than one file is named" if len(files) > 1 else f"there is no option {files[0]}")
         return 2
@@ -340,7 +354,7 @@ def main(arguments):
     except OSError as why:
         tell("refused 71", f"{'standard input' if file == '-' else ascii(file)} can't be read: {why.strerror}")
         return 1
-    printed, lines, status = answer(data, has_graph)
+    printed, lines, status = answer(data, "--graph" in asked, NEWEST_LARGE if "--large" in asked else NEWEST)
     try:
         write(printed, 1)
     except OSError as why:

@@ -10,7 +10,7 @@ use Rattle.ov_cert.specs.declared.cert.FanPaths.{FanPaths}
 use Rattle.ov_certfile.specs.DataOf.{data_of, data_in, version_for, whole_data, list_data, ids_data, link_data}
 use Rattle.ov_certfile.specs.DataOf.{paths_data, pair_data, fan_data}
 use Rattle.ov_certfile.specs.declared.version.Version.{Version}
-use Rattle.ov_certfile.specs.declared.version.Version.TheVariants.{One, Two}
+use Rattle.ov_certfile.specs.declared.version.Version.TheVariants.{One, Two, Three}
 
 -- a list of values of depth at most d has depth at most d + 1
 list_depth : {X : Type 0} (as_data : X → Data) (d : ℕ) → ((x : X) → depth (as_data x) ≤ d)
@@ -47,6 +47,11 @@ version_depth Two (cert.Linked k) g q m =
     let b = ids_depth g.nodes in
     let i = ids_depth q in
     omega (arith, a, b, i)
+version_depth Three (cert.Linked k) g q m =
+    let a = links_depth g.links in
+    let b = ids_depth g.nodes in
+    let i = ids_depth q in
+    omega (arith, a, b, i)
 version_depth One (cert.Split c) g q m =
     let a = links_depth g.links in
     let b = ids_depth g.nodes in
@@ -64,7 +69,16 @@ version_depth Two (cert.Split c) g q m =
     let h = ids_depth c.side in
     let i = ids_depth q in
     omega (arith, a, b, d, e, f, h, i)
+version_depth Three (cert.Split c) g q m =
+    let a = links_depth g.links in
+    let b = ids_depth g.nodes in
+    let d = ids_depth c.cut in
+    let e = list_depth fan_data 3 fan_depth c.fans in
+    let f = list_depth pair_data 3 pair_depth c.pairs in
+    let h = ids_depth c.side in
+    let i = ids_depth q in
+    omega (arith, a, b, d, e, f, h, i)
 
 pub depth_within : (c : Cert) (g : LinkGraph) (q : List ℕ) (m : ℕ) → depth (data_of c g q m) ≤ max_depth
 unfolding data_of
-depth_within c g q m = version_depth (version_for g q) c g q m
+depth_within c g q m = version_depth (version_for g q m) c g q m

@@ -24,7 +24,7 @@ use Rattle.ov_certfile.specs.declared.fault.FileFault.{FileFault}
 use Rattle.ov_certfile.specs.declared.fault.FileFault.TheVariants.{NotJson, MissingKey, UnknownKey, BadValue}
 use Rattle.ov_certfile.specs.declared.fault.FileFault.TheVariants.{BadVersion, Graph, OutOfMemory}
 use Rattle.ov_certfile.specs.declared.version.Version.{Version}
-use Rattle.ov_certfile.specs.declared.version.Version.TheVariants.{One, Two}
+use Rattle.ov_certfile.specs.declared.version.Version.TheVariants.{One, Two, Three}
 use Rattle.ov_certfile.specs.declared.linked_or_split.Verdict.TheVariants.{Linked, Split as VerdictSplit}
 use Rattle.ov_certfile.specs.declared.reading.Filed.{Filed}
 
@@ -97,6 +97,7 @@ group_same : (d : Data) (version : Version) (g : LinkGraph) (a b : List ℕ) →
     → SaysGroup d version g b → a ≡ b
 group_same d One g a b p q = p ∙ sym q
 group_same d Two g a b p q = same _ _ _ p q
+group_same d Three g a b p q = same _ _ _ p q
 
 split_same : (a b : Split) → a.k ≡ b.k → a.cut ≡ b.cut → a.near ≡ b.near → a.far ≡ b.far → a.side ≡ b.side
     → a.pairs ≡ b.pairs → a.fans ≡ b.fans → a ≡ b
@@ -116,8 +117,8 @@ cert_same d (cert.Split a) (cert.Split b) p q =
     (split_same a b (same _ _ _ p.k q.k) (same _ _ _ p.cut q.cut) (same _ _ _ p.near q.near) (same _ _ _ p.far q.far)
     (same _ _ _ p.side q.side) (same _ _ _ p.pairs q.pairs) (same _ _ _ p.fans q.fans))
 
-file_same : (d : Data) (f h : Filed) → Says d f → Says d h → f ≡ h
-file_same d f h p q =
+file_same : (newest : Version) (d : Data) (f h : Filed) → Says newest d f → Says newest d h → f ≡ h
+file_same newest d f h p q =
     let version : p.version ≡ q.version = same _ _ _ p.version_said q.version_said in
     let graph : f.graph ≡ h.graph = graph_same d f.graph h.graph p.graph q.graph in
     let there : SaysGroup d q.version h.graph f.group =
@@ -143,56 +144,59 @@ comes_same d x y p q =
     (subst (λ v. FileGraphJudged v q.1 x) version (subst (λ g. FileGraphJudged p.0 g x) graph p.4)) q.4
 
 -- a fault is of a demand's kind, or of the graph
-cases : (d : Data) (e : FileFault) → IsFault d e
-    → (first_unmet (demands d) ≡ Some (kind_of e)) ⊎ ((f : GraphFault) × (e ≡ Graph f) × IsNoGraph d f)
-cases d (NotJson p) h = inl h
-cases d (MissingKey k) h = inl h
-cases d (UnknownKey at v w) h = inl h
-cases d (BadValue b) h = inl h
-cases d BadVersion h = inl h
-cases d (Graph f) h = inr (f, refl, h)
-cases d OutOfMemory h = inl h
+cases : (newest : Version) (d : Data) (e : FileFault) → IsFault newest d e
+    → (first_unmet (demands newest d) ≡ Some (kind_of e)) ⊎ ((f : GraphFault) × (e ≡ Graph f) × IsNoGraph newest d f)
+cases newest d (NotJson p) h = inl h
+cases newest d (MissingKey k) h = inl h
+cases newest d (UnknownKey at v w) h = inl h
+cases newest d (BadValue b) h = inl h
+cases newest d (BadVersion v) h = inl h
+cases newest d (Graph f) h = inr (f, refl, h)
+cases newest d OutOfMemory h = inl h
 
-no_graph_comes : (d : Data) (f : GraphFault) → IsNoGraph d f → GraphComesTo d (Some f)
-no_graph_comes d f h = (h.version, h.given, h.version_said, h.graph, h.judged)
+no_graph_comes : (newest : Version) (d : Data) (f : GraphFault) → IsNoGraph newest d f → GraphComesTo d (Some f)
+no_graph_comes newest d f h = (h.version, h.given, h.version_said, h.graph, h.judged)
 
-graph_comes : (d : Data) (f : Filed) → Says d f → GraphComesTo d None
-graph_comes d f h = (h.version, f.graph, h.version_said, h.graph, h.judged)
+graph_comes : (newest : Version) (d : Data) (f : Filed) → Says newest d f → GraphComesTo d None
+graph_comes newest d f h = (h.version, f.graph, h.version_said, h.graph, h.judged)
 
-fault_same : (d : Data) (e u : FileFault) → IsFault d e → IsFault d u → kind_of e ≡ kind_of u
-fault_same d e u p q = elim (cases d e p) [
-  | inl a ↦ elim (cases d u q) [
+fault_same : (newest : Version) (d : Data) (e u : FileFault) → IsFault newest d e → IsFault newest d u
+    → kind_of e ≡ kind_of u
+fault_same newest d e u p q = elim (cases newest d e p) [
+  | inl a ↦ elim (cases newest d u q) [
     | inl b ↦ same _ _ _ a b
     | inr b ↦ let x : Some (kind_of e) ≡ None = sym a ∙ b.2.met in absurd (cc)
   ]
-  | inr a ↦ elim (cases d u q) [
+  | inr a ↦ elim (cases newest d u q) [
     | inl b ↦ let x : Some (kind_of u) ≡ None = sym b ∙ a.2.met in absurd (cc)
     | inr b ↦
         let x : Some a.0 ≡ Some b.0 =
-        comes_same d (Some a.0) (Some b.0) (no_graph_comes d a.0 a.2) (no_graph_comes d b.0 b.2) in
+        comes_same d (Some a.0) (Some b.0) (no_graph_comes newest d a.0 a.2) (no_graph_comes newest d b.0 b.2) in
         let y : a.0 ≡ b.0 = cc in
         ap kind_of (a.1 ∙ ap (λ f. Graph f) y ∙ sym b.1)
   ]
 ]
 
-says_no_fault : (d : Data) (f : Filed) (e : FileFault) → Says d f → IsFault d e → ⊥
-says_no_fault d f e p q = elim (cases d e q) [
+says_no_fault : (newest : Version) (d : Data) (f : Filed) (e : FileFault) → Says newest d f → IsFault newest d e → ⊥
+says_no_fault newest d f e p q = elim (cases newest d e q) [
   | inl a ↦ let x : Some (kind_of e) ≡ None = sym a ∙ p.met in cc
-  | inr a ↦ let x : None ≡ Some a.0 = comes_same d None (Some a.0) (graph_comes d f p) (no_graph_comes d a.0 a.2) in cc
+  | inr a ↦ let x : None ≡ Some a.0 = comes_same d None (Some a.0) (graph_comes newest d f p)
+      (no_graph_comes newest d a.0 a.2) in cc
 ]
 
-pub file_one : (d : Data) (a b : Result Filed FileFault) → SaysFile d a → SaysFile d b → kind_in a ≡ kind_in b
-file_one d (Ok f) (Ok h) p q = ap (λ f. Ok f) (file_same d f h p q)
-file_one d (Ok f) (Err e) p q = absurd (says_no_fault d f e p q)
-file_one d (Err e) (Ok f) p q = absurd (says_no_fault d f e q p)
-file_one d (Err e) (Err u) p q = ap (λ k. Err k) (fault_same d e u p q)
-
-read_one : (o : Option Data) (a b : Result Filed FileFault) → IfSome o (λ d. SaysFile d a)
-    → IfNone o (kind_in a ≡ Err kind.NotJson) → IfSome o (λ d. SaysFile d b) → IfNone o (kind_in b ≡ Err kind.NotJson)
+pub file_one : (newest : Version) (d : Data) (a b : Result Filed FileFault) → SaysFile newest d a → SaysFile newest d b
     → kind_in a ≡ kind_in b
-read_one None a b p n q m = n ∙ sym m
-read_one (Some d) a b p n q m = file_one d a b p q
+file_one newest d (Ok f) (Ok h) p q = ap (λ f. Ok f) (file_same newest d f h p q)
+file_one newest d (Ok f) (Err e) p q = absurd (says_no_fault newest d f e p q)
+file_one newest d (Err e) (Ok f) p q = absurd (says_no_fault newest d f e q p)
+file_one newest d (Err e) (Err u) p q = ap (λ k. Err k) (fault_same newest d e u p q)
 
-pub text_one : (text : List ℕ) (a b : Result Filed FileFault) → SaysText text a → SaysText text b
-    → kind_in a ≡ kind_in b
-text_one text a b p q = read_one (read text) a b p.json p.no_json q.json q.no_json
+read_one : (newest : Version) (o : Option Data) (a b : Result Filed FileFault) → IfSome o (λ d. SaysFile newest d a)
+    → IfNone o (kind_in a ≡ Err kind.NotJson) → IfSome o (λ d. SaysFile newest d b)
+    → IfNone o (kind_in b ≡ Err kind.NotJson) → kind_in a ≡ kind_in b
+read_one newest None a b p n q m = n ∙ sym m
+read_one newest (Some d) a b p n q m = file_one newest d a b p q
+
+pub text_one : (newest : Version) (text : List ℕ) (a b : Result Filed FileFault) → SaysText newest text a
+    → SaysText newest text b → kind_in a ≡ kind_in b
+text_one newest text a b p q = read_one newest (read text) a b p.json p.no_json q.json q.no_json

@@ -25,14 +25,14 @@ use Rattle.ov_cert.specs.declared.cert.Cert.{Cert}
 use Rattle.ov_cert.specs.declared.cert.Cert.TheVariants as cert
 use Rattle.ov_cert.specs.declared.cert.PairPaths.{PairPaths}
 use Rattle.ov_cert.specs.declared.cert.FanPaths.{FanPaths}
-use Rattle.ov_certfile.specs.Forms.{last_moment, id_in, each_in, list_in, ids_in, both_of, link_in, paths_in, pair_in}
+use Rattle.ov_certfile.specs.Forms.{id_in, each_in, list_in, ids_in, both_of, link_in, paths_in, pair_in}
 use Rattle.ov_certfile.specs.Forms.{fan_in}
 use Rattle.ov_certfile.specs.DataOf.{data_in, data_of, version_for, whole_data, list_data, ids_data, link_data}
 use Rattle.ov_certfile.specs.DataOf.{paths_data, pair_data, fan_data}
 use Rattle.ov_certfile.specs.ReadsBack.{ReadsBack, TextReadsBack}
 use Rattle.ov_certfile.specs.Code.Writing.{FileReadsBack}
 use Rattle.ov_certfile.specs.declared.version.Version.{Version}
-use Rattle.ov_certfile.specs.declared.version.Version.TheVariants.{One, Two}
+use Rattle.ov_certfile.specs.declared.version.Version.TheVariants.{One, Two, Three}
 use Rattle.ov_certfile.proofs.Depth.{depth_within, version_depth}
 
 -- ---- a value that its text says
@@ -202,7 +202,7 @@ fan_readable p h =
 -- ---- the object of a file
 
 file_readable : (version : Version) (c : Cert) (g : LinkGraph) (q : List ℕ) (m : ℕ) → FileReadsBack version c g q
-    → m ≤ last_moment → IsReadable (data_in version c g q m)
+    → m < number_limit → IsReadable (data_in version c g q m)
 unfolding data_in
 file_readable One (cert.Linked k) g q m h t =
     object_readable _
@@ -221,6 +221,15 @@ file_readable Two (cert.Linked k) g q m h t =
     (one_more _ _ _ _ _ (ids_readable g.nodes h.graph.nodes)
     (one_more _ _ _ _ _ (text_readable _)
     (one_more _ _ _ _ _ (whole_readable 2 (omega arith)) (no_more _))))))))
+file_readable Three (cert.Linked k) g q m h t =
+    object_readable _
+    (one_more _ _ _ _ _ (ids_readable q h.named)
+    (one_more _ _ _ _ _ (id_readable k h.cert)
+    (one_more _ _ _ _ _ (list_readable link_in link_data link_readable g.links h.graph.links)
+    (one_more _ _ _ _ _ (whole_readable m (omega (arith, t)))
+    (one_more _ _ _ _ _ (ids_readable g.nodes h.graph.nodes)
+    (one_more _ _ _ _ _ (text_readable _)
+    (one_more _ _ _ _ _ (whole_readable 3 (omega arith)) (no_more _))))))))
 file_readable One (cert.Split c) g q m h t =
     let cut = h.cert.1 in
     let entries = h.cert.2 in
@@ -254,25 +263,42 @@ file_readable Two (cert.Split c) g q m h t =
     (one_more _ _ _ _ _ (ids_readable c.side cut.side)
     (one_more _ _ _ _ _ (text_readable _)
     (one_more _ _ _ _ _ (whole_readable 2 (omega arith)) (no_more _))))))))))))))
+file_readable Three (cert.Split c) g q m h t =
+    let cut = h.cert.1 in
+    let entries = h.cert.2 in
+    object_readable _
+    (one_more _ _ _ _ _ (ids_readable c.cut cut.cut)
+    (one_more _ _ _ _ _ (list_readable fan_in fan_data fan_readable c.fans entries.fans)
+    (one_more _ _ _ _ _ (id_readable c.far cut.far)
+    (one_more _ _ _ _ _ (ids_readable q h.named)
+    (one_more _ _ _ _ _ (id_readable c.k h.cert.0)
+    (one_more _ _ _ _ _ (list_readable link_in link_data link_readable g.links h.graph.links)
+    (one_more _ _ _ _ _ (whole_readable m (omega (arith, t)))
+    (one_more _ _ _ _ _ (id_readable c.near cut.near)
+    (one_more _ _ _ _ _ (ids_readable g.nodes h.graph.nodes)
+    (one_more _ _ _ _ _ (list_readable pair_in pair_data pair_readable c.pairs entries.pairs)
+    (one_more _ _ _ _ _ (ids_readable c.side cut.side)
+    (one_more _ _ _ _ _ (text_readable _)
+    (one_more _ _ _ _ _ (whole_readable 3 (omega arith)) (no_more _))))))))))))))
 
 -- a text with the tokens of the object reads as the object
 pub tokens_read : (text : List ℕ) (version : Version) (c : Cert) (g : LinkGraph) (q : List ℕ) (m : ℕ)
-    → FileReadsBack version c g q → m ≤ last_moment → tokens text ≡ json_tokens (outline (data_in version c g q m))
+    → FileReadsBack version c g q → m < number_limit → tokens text ≡ json_tokens (outline (data_in version c g q m))
     → read text ≡ Some (data_in version c g q m)
 tokens_read text version c g q m h t lexed =
     lexed_reads text (data_in version c g q m) (file_readable version c g q m h t) (version_depth version c g q m) lexed
 
 -- the object of the version that is written is the object that is written
-pub in_version_for : (version : Version) (c : Cert) (g : LinkGraph) (q : List ℕ) (m : ℕ) → version ≡ version_for g q
+pub in_version_for : (version : Version) (c : Cert) (g : LinkGraph) (q : List ℕ) (m : ℕ) → version ≡ version_for g q m
     → data_in version c g q m ≡ data_of c g q m
 unfolding data_of
 in_version_for version c g q m v = ap (λ w. data_in w c g q m) v
 
 -- the text of the object has the meaning of the object
-pub text_reads_back : (version : Version) (c : Cert) (g : LinkGraph) (q : List ℕ) (m : ℕ) → version ≡ version_for g q
-    → FileReadsBack version c g q → m ≤ last_moment → ReadsBack c g q m
-    → TextReadsBack c g q m (compact_text (data_of c g q m))
-text_reads_back version c g q m v h t back =
+pub text_reads_back : (newest version : Version) (c : Cert) (g : LinkGraph) (q : List ℕ) (m : ℕ)
+    → version ≡ version_for g q m → FileReadsBack version c g q → m < number_limit → ReadsBack newest c g q m
+    → TextReadsBack newest c g q m (compact_text (data_of c g q m))
+text_reads_back newest version c g q m v h t back =
     let readable = subst IsReadable (in_version_for version c g q m v) (file_readable version c g q m h t) in
     let reads = text_reads (data_of c g q m) readable (depth_within c g q m) in
     record { says = record { json = rw reads (back.says); no_json = rw reads tt } }

@@ -1,5 +1,5 @@
 -- The JSON object that is written for a certificate. Its keys are in the order of their bytes.
-use Rattle.std.specs.Prelude.{ℕ, ◌&&◌, List, [], ◌∷◌, length, map, codes, nat_le, if◌then◌else◌}
+use Rattle.std.specs.Prelude.{ℕ, ◌&&◌, ◌||◌, Bool, List, [], ◌∷◌, length, map, codes, nat_le, if◌then◌else◌}
 use Rattle.serde_json.specs.View.{items_of}
 use Rattle.serde_json.specs.Data.{Data, number, string, array, object, unsigned, Members, no_members, member}
 use Rattle.ov_graph.specs.Links.{LinkGraph}
@@ -9,9 +9,10 @@ use Rattle.ov_cert.specs.declared.cert.Split.{Split}
 use Rattle.ov_cert.specs.declared.cert.PairPaths.{PairPaths}
 use Rattle.ov_cert.specs.declared.cert.FanPaths.{FanPaths}
 use Rattle.ov_certfile.specs.Common.{are_same}
-use Rattle.ov_certfile.specs.Kinds.{version_number, verdict_text, most_nodes_of}
+use Rattle.ov_certfile.specs.Forms.{last_moment_of}
+use Rattle.ov_certfile.specs.Kinds.{version_number, verdict_text, most_nodes_of, names_group}
 use Rattle.ov_certfile.specs.declared.version.Version.{Version}
-use Rattle.ov_certfile.specs.declared.version.Version.TheVariants.{One, Two}
+use Rattle.ov_certfile.specs.declared.version.Version.TheVariants.{One, Two, Three}
 use Rattle.ov_certfile.specs.declared.linked_or_split.Verdict.TheVariants.{Linked, Split as VerdictSplit}
 
 -- a whole number as JSON
@@ -47,14 +48,22 @@ fan_data p = object
     (member (codes "j") (whole_data p.j)
     (member (codes "paths") (paths_data p.paths) no_members))
 
--- the version that is written: 1 exactly if the group is all nodes and there are no more nodes than version 1 allows
-unfoldable pub version_for : LinkGraph → List ℕ → Version
-version_for g group = if are_same group g.nodes && nat_le (length g.nodes) (most_nodes_of One) then One else Two
+-- a file of this version can say this: it names the group, or the group is all nodes; there are no more nodes than it
+-- allows, and the moment is none that is too late for it
+abbrev pub can_say : Version → LinkGraph → List ℕ → ℕ → Bool
+can_say version g group moment =
+    (names_group version || are_same group g.nodes) && (nat_le (length g.nodes) (most_nodes_of version)
+    && nat_le moment (last_moment_of version))
+
+-- the version that is written: 1 where it can say this, else 2 where this can, and 3 exactly where neither can
+unfoldable pub version_for : LinkGraph → List ℕ → ℕ → Version
+version_for g group moment =
+    if can_say One g group moment then One else (if can_say Two g group moment then Two else Three)
 
 -- the members, with the group before them if the version names one
 abbrev pub group_then : Version → List ℕ → Members → Members
-group_then One group members = members
-group_then Two group members = member (codes "group") (ids_data group) members
+group_then version group members =
+    if names_group version then member (codes "group") (ids_data group) members else members
 
 -- the members of a file with verdict linked
 abbrev pub linked_members : Version → ℕ → LinkGraph → List ℕ → ℕ → Members
@@ -95,4 +104,4 @@ data_in version c g group moment = object (cert_members version c g group moment
 
 -- the object of a file, given the certificate, the graph, the group and the moment
 unfoldable pub data_of : Cert → LinkGraph → List ℕ → ℕ → Data
-data_of c g group moment = data_in (version_for g group) c g group moment
+data_of c g group moment = data_in (version_for g group moment) c g group moment

@@ -10,7 +10,8 @@ use Rattle.ov_graph.specs.declared.fault.GraphFault.{GraphFault}
 use Rattle.ov_graph.specs.declared.fault.GraphFault.TheVariants.{TooManyNodes}
 use Rattle.ov_ids.specs.Options.{◌>>=◌}
 use Rattle.ov_certfile.specs.Keys.{has_key, has_no_other, said, first_failing}
-use Rattle.ov_certfile.specs.Kinds.{version_in, verdict_in, most_nodes_of, name_of, names_of, has_form, keys_of}
+use Rattle.ov_certfile.specs.Kinds.{version_in, version_up_to, verdict_in, most_nodes_of, name_of, names_of, has_form}
+use Rattle.ov_certfile.specs.Kinds.{keys_of}
 use Rattle.ov_certfile.specs.FaultKinds.{Kind, MissingKey, UnknownKey, BadValue, BadVersion}
 use Rattle.ov_certfile.specs.declared.file_keys.Key.{Key}
 use Rattle.ov_certfile.specs.declared.file_keys.Key.TheVariants as key
@@ -40,12 +41,13 @@ missing keys d = option_map MissingKey (first_failing (λ key. has_key (name_of 
 abbrev pub misformed : List Key → Data → Option Kind
 misformed keys d = option_map (λ key. BadValue (Some key)) (first_failing (has_form d) keys)
 
--- the demands: for each the kind of the fault if it is unmet, and None if it is met
-unfoldable pub demands : Data → List (Option Kind)
-demands d =
+-- the demands where this is the newest version that is read: for each the kind of the fault if it is unmet, and None if
+-- it is met
+unfoldable pub demands : Version → Data → List (Option Kind)
+demands newest d =
     unless (is_some (as_object d)) (BadValue None)
     ∷ missing (key.Version ∷ []) d
-    ∷ unless (is_some (said version_in (codes "version") d)) BadVersion
+    ∷ unless (is_some (said (version_up_to newest) (codes "version") d)) BadVersion
     ∷ missing (key.Verdict ∷ []) d
     ∷ misformed (key.Verdict ∷ []) d
     ∷ missing (wanted_keys d) d

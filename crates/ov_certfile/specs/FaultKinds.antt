@@ -22,7 +22,7 @@ kind_of (fault.NotJson place) = NotJson
 kind_of (fault.MissingKey key) = MissingKey key
 kind_of (fault.UnknownKey at version verdict) = UnknownKey
 kind_of (fault.BadValue bad) = BadValue bad.key
-kind_of fault.BadVersion = BadVersion
+kind_of (fault.BadVersion newest) = BadVersion
 kind_of (fault.Graph f) = Graph f
 kind_of fault.OutOfMemory = OutOfMemory
 

@@ -1,6 +1,6 @@
 -- The forms of the values in a file. A form maps a JSON value to what it means, or to None if the value does not have
 -- the form. The forms are a choice of this project.
-use Rattle.std.specs.Prelude.{◌+◌, ℕ, List, [], ◌∷◌, nat_lt, codes, if◌then◌else◌, Option, Some, None}
+use Rattle.std.specs.Prelude.{◌+◌, ◌-◌, ℕ, List, [], ◌∷◌, nat_lt, codes, if◌then◌else◌, Option, Some, None}
 use Rattle.ov_ids.specs.Limits.{number_limit, longest_journal}
 use Rattle.serde_json.specs.Data.{Data, Items, no_items, item}
 use Rattle.serde_json.specs.Find.{as_number, as_u64, as_array}
@@ -8,10 +8,18 @@ use Rattle.ov_cert.specs.declared.cert.PairPaths.{PairPaths}
 use Rattle.ov_cert.specs.declared.cert.FanPaths.{FanPaths}
 use Rattle.ov_ids.specs.Options.{◌>>=◌}
 use Rattle.ov_certfile.specs.Keys.{has_just, said}
+use Rattle.ov_certfile.specs.declared.version.Version.{Version}
+use Rattle.ov_certfile.specs.declared.version.Version.TheVariants.{One, Two, Three}
 
--- the highest moment: no journal has an entry of a higher number
+-- the highest moment in versions 1 and 2: no journal has an entry of a higher number
 abbrev pub last_moment : ℕ
 last_moment = longest_journal
+
+-- the highest moment in a file of this version; in version 3 each number of 32 bits is one
+abbrev pub last_moment_of : Version → ℕ
+last_moment_of One = last_moment
+last_moment_of Two = last_moment
+last_moment_of Three = number_limit - 1
 
 -- a whole number that is not negative, written without fraction and exponent
 abbrev pub whole_in : Data → Option ℕ
@@ -25,9 +33,10 @@ whole_below limit d = whole_in d >>= λ n. if nat_lt n limit then Some n else No
 abbrev pub count_in : Data → Option ℕ
 count_in d = whole_below number_limit d
 
--- a moment: the number of the entry of the journal to which the graph belongs, or 0 if the graph comes from no journal
-abbrev pub moment_in : Data → Option ℕ
-moment_in d = whole_below (last_moment + 1) d
+-- a moment in a file of this version: the number of the entry of the journal to which the graph belongs, or 0 if the
+-- graph comes from no journal
+abbrev pub moment_in : Version → Data → Option ℕ
+moment_in version d = whole_below (last_moment_of version + 1) d
 
 -- an id
 abbrev pub id_in : Data → Option ℕ

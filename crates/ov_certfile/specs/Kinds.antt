@@ -1,6 +1,6 @@
 -- The versions and the verdicts of files, and the keys of each.
-use Rattle.std.specs.Prelude.{◌==◌, ℕ, Bool, List, [], ◌∷◌, ◌++◌, map, codes, is_some, if◌then◌else◌, Option, Some}
-use Rattle.std.specs.Prelude.{None}
+use Rattle.std.specs.Prelude.{◌==◌, ℕ, Bool, true, false, List, [], ◌∷◌, ◌++◌, map, codes, nat_le, is_some}
+use Rattle.std.specs.Prelude.{if◌then◌else◌, Option, Some, None}
 use Rattle.serde_json.specs.Data.{Data}
 use Rattle.serde_json.specs.Find.{as_str}
 use Rattle.ov_graph.specs.Links.{most_nodes}
@@ -11,7 +11,7 @@ use Rattle.ov_certfile.specs.Forms.{whole_in, count_in, moment_in, id_in, ids_in
 use Rattle.ov_certfile.specs.declared.file_keys.Key.{Key}
 use Rattle.ov_certfile.specs.declared.file_keys.Key.TheVariants as key
 use Rattle.ov_certfile.specs.declared.version.Version.{Version}
-use Rattle.ov_certfile.specs.declared.version.Version.TheVariants.{One, Two}
+use Rattle.ov_certfile.specs.declared.version.Version.TheVariants.{One, Two, Three}
 use Rattle.ov_certfile.specs.declared.linked_or_split.Verdict.{Verdict}
 use Rattle.ov_certfile.specs.declared.linked_or_split.Verdict.TheVariants.{Linked, Split}
 
@@ -19,23 +19,44 @@ use Rattle.ov_certfile.specs.declared.linked_or_split.Verdict.TheVariants.{Linke
 abbrev pub version_number : Version → ℕ
 version_number One = 1
 version_number Two = 2
+version_number Three = 3
 
 -- the version with this number
 abbrev pub version_numbered : ℕ → Option Version
-version_numbered n = if n == 1 then Some One else (if n == 2 then Some Two else None)
+version_numbered n =
+    if n == 1 then Some One else (if n == 2 then Some Two else (if n == 3 then Some Three else None))
 
--- a version: the whole number 1 or 2
+-- a version: the whole number 1, 2 or 3
 abbrev pub version_in : Data → Option Version
 version_in d = whole_in d >>= version_numbered
+
+-- the version with this number, if files of it are read where this is the newest version that is read
+abbrev pub version_read : Version → ℕ → Option Version
+version_read newest n = if nat_le n (version_number newest) then version_numbered n else None
+
+-- a version that is read
+abbrev pub version_up_to : Version → Data → Option Version
+version_up_to newest d = whole_in d >>= version_read newest
+
+-- whether files of this version name their group; version 1 is of the group of all nodes
+abbrev pub names_group : Version → Bool
+names_group One = false
+names_group Two = true
+names_group Three = true
 
 -- the highest number of nodes in a file of version 1
 abbrev pub most_nodes_of_one : ℕ
 most_nodes_of_one = 256
 
--- the highest number of nodes in a file of this version: 256 in version 1, and the limit of all graphs in version 2
+-- the highest number of nodes in a file of version 3: the limit of all graphs
+abbrev pub most_nodes_of_three : ℕ
+most_nodes_of_three = most_nodes
+
+-- the highest number of nodes in a file of this version: 256 in version 1, and 1,024 in version 2
 abbrev pub most_nodes_of : Version → ℕ
 most_nodes_of One = most_nodes_of_one
 most_nodes_of Two = most_nodes
+most_nodes_of Three = most_nodes_of_three
 
 -- the text of a verdict
 abbrev pub verdict_text : Verdict → List ℕ
@@ -74,11 +95,15 @@ name_of key.Paths = codes "paths"
 abbrev pub names_of : List Key → List (List ℕ)
 names_of keys = map name_of keys
 
+-- the moment in the value, in the form of its version; None if it lacks a version
+abbrev pub moment_said : Data → Option ℕ
+moment_said d = said version_in (codes "version") d >>= λ version. said (moment_in version) (codes "moment") d
+
 -- whether the value has a key, and there a value of the key's form
 abbrev pub has_form : Data → Key → Bool
 has_form d key.K = is_some (said count_in (codes "k") d)
 has_form d key.Links = is_some (said links_in (codes "links") d)
-has_form d key.Moment = is_some (said moment_in (codes "moment") d)
+has_form d key.Moment = is_some (moment_said d)
 has_form d key.Nodes = is_some (said ids_in (codes "nodes") d)
 has_form d key.Verdict = is_some (said verdict_in (codes "verdict") d)
 has_form d key.Version = is_some (said version_in (codes "version") d)
@@ -97,10 +122,9 @@ has_form d key.Paths = is_some (said paths_in (codes "paths") d)
 abbrev pub common_keys : List Key
 common_keys = key.K ∷ key.Links ∷ key.Moment ∷ key.Nodes ∷ key.Verdict ∷ key.Version ∷ []
 
--- the keys that only this version has: in version 2 the group
+-- the keys that only some versions have: the group, if the version names it
 abbrev pub version_keys : Version → List Key
-version_keys One = []
-version_keys Two = key.Group ∷ []
+version_keys version = if names_group version then key.Group ∷ [] else []
 
 -- the keys that only this verdict has: for split the cut, its side and the entries
 abbrev pub verdict_keys : Verdict → List Key

@@ -11,6 +11,6 @@ number_of (NotJson place) = 60
 number_of (MissingKey key) = 61
 number_of (UnknownKey at version verdict) = 62
 number_of (BadValue bad) = 63
-number_of BadVersion = 64
+number_of (BadVersion newest) = 64
 number_of (Graph f) = graph.number_of f
 number_of OutOfMemory = 99

@@ -119,13 +119,12 @@ fn write_group_and_k(
     ensures group { OnOk result (GroupReadsBack version group.now) }
     ensures count { OnOk result (count_in (whole_data k) ≡ Some k) }
 {
-    match version {
-        Version::One => write_count(out, later, Key::K, k)?,
-        Version::Two => {
-            write_ids(out, later, Key::Group, group)?;
-            write_count(out, true, Key::K, k)?;
-        }
+    if !version.names_group() {
+        write_count(out, later, Key::K, k)?;
+        return Ok(());
     }
+    write_ids(out, later, Key::Group, group)?;
+    write_count(out, true, Key::K, k)?;
     Ok(())
 }
 

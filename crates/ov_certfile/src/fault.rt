@@ -28,8 +28,10 @@ pub enum FileFault {
     },
     /// 63: a value does not have the form of its key.
     BadValue(BadValue),
-    /// 64: the version is neither 1 nor 2.
-    BadVersion,
+    /// 64: the version is none of those that are read, from 1 to the newest.
+    BadVersion {
+        newest: Version,
+    },
     /// 31 to 33: the nodes and links are not a graph.
     Graph(GraphFault),
     /// 99: out of memory.
@@ -65,7 +67,7 @@ impl FileFault {
             FileFault::MissingKey(_) => 61,
             FileFault::UnknownKey { .. } => 62,
             FileFault::BadValue(_) => 63,
-            FileFault::BadVersion => 64,
+            FileFault::BadVersion { .. } => 64,
             FileFault::Graph(fault) => fault.number(),
             FileFault::OutOfMemory => 99,
         }
@@ -79,7 +81,7 @@ impl FileFault {
             FileFault::MissingKey(_) => "a key is missing",
             FileFault::UnknownKey { .. } => "a key is unknown",
             FileFault::BadValue(_) => "a value has another form",
-            FileFault::BadVersion => "another version",
+            FileFault::BadVersion { .. } => "another version",
             FileFault::Graph(_) => "the nodes and links are no graph",
             FileFault::OutOfMemory => "out of memory",
         }

@@ -59,8 +59,8 @@ impl Key {
 pub fn keys_of(version: Version, verdict: Verdict) -> &'static [Key]
     ensures { result.now ≡ keys_of version verdict }
 {
-    match (version, verdict) {
-        (Version::One, Verdict::Linked) => &[
+    match (version.names_group(), verdict) {
+        (false, Verdict::Linked) => &[
             Key::K,
             Key::Links,
             Key::Moment,
@@ -68,7 +68,7 @@ pub fn keys_of(version: Version, verdict: Verdict) -> &'static [Key]
             Key::Verdict,
             Key::Version,
         ],
-        (Version::One, Verdict::Split) => &[
+        (false, Verdict::Split) => &[
             Key::K,
             Key::Links,
             Key::Moment,
@@ -82,7 +82,7 @@ pub fn keys_of(version: Version, verdict: Verdict) -> &'static [Key]
             Key::Pairs,
             Key::Fans,
         ],
-        (Version::Two, Verdict::Linked) => &[
+        (true, Verdict::Linked) => &[
             Key::K,
             Key::Links,
             Key::Moment,
@@ -91,7 +91,7 @@ pub fn keys_of(version: Version, verdict: Verdict) -> &'static [Key]
             Key::Version,
             Key::Group,
         ],
-        (Version::Two, Verdict::Split) => &[
+        (true, Verdict::Split) => &[
             Key::K,
             Key::Links,
             Key::Moment,

@@ -1,4 +1,4 @@
-ghost use Rattle.std.specs.Prelude.{◌≡◌, ◌≢◌, [], ◌∷◌, None, Some, Result, Ok, Err, IfOk, IfErr};
+ghost use Rattle.std.specs.Prelude.{◌≡◌, ◌≢◌, [], ◌∷◌, None, Some, Result, Ok, Err, IfOk, IfErr, codes};
 ghost use Rattle.std.specs.Prelude.{MatchOption, MatchResult};
 ghost use Rattle.serde_json.specs.View.{view};
 ghost use Rattle.serde_json.specs.Read.{read};
@@ -6,7 +6,8 @@ ghost use Rattle.ov_graph.specs.Links.{LinkGraph};
 ghost use Rattle.ov_certfile.specs.declared.file_keys.Key.TheVariants as key;
 ghost use Rattle.ov_certfile.specs.declared.fault.FileFault.{FileFault};
 ghost use Rattle.ov_certfile.specs.FaultKinds.{kind_of, kind_in, NotJson};
-ghost use Rattle.ov_certfile.specs.Kinds.{version_keys, verdict_keys};
+ghost use Rattle.ov_certfile.specs.Keys.{said};
+ghost use Rattle.ov_certfile.specs.Kinds.{version_in, version_keys, verdict_keys};
 ghost use Rattle.ov_certfile.specs.Demands.{FileGraphJudged};
 ghost use Rattle.ov_certfile.specs.Says.{SaysFile, SaysText};
 ghost use Rattle.ov_certfile.specs.Code.Reading.{IsHeaded, IsListed, IsNamed, IsCert, LacksForm, IsGraphFault};
@@ -25,14 +26,11 @@ use ov_ids::{NUMBER_LIMIT, NodeId, Seq};
 use serde_json::Value;
 use std::alloc::Global;
 
-/// The highest moment: no journal has more entries. (Chosen here.)
-pub const LAST_MOMENT: u64 = 65_536;
-
 /// The content of a certificate file.
 #[derive(Drop)]
 pub struct Filed {
-    /// The number of the entry of the journal to which the graph belongs, at most 65,536. It is 0 if the graph comes
-    /// from no journal.
+    /// The number of the entry of the journal to which the graph belongs, in versions 1 and 2 at most 65,536. It is 0
+    /// if the graph comes from no journal.
     pub moment: u32,
     pub graph: Graph,
     /// The nodes that must stay joined, as listed in the file. They need not be a group of the graph.
@@ -57,11 +55,30 @@ pub struct Filed {
 ///
 /// `OutOfMemory` (99) is returned as soon as an allocation fails.
 pub fn from_text(alloc: Global, text: &str) -> Result<Filed, FileFault>
-    ensures says { result ≢ Err FileFault.OutOfMemory → SaysText text.now result }
+    ensures says { result ≢ Err FileFault.OutOfMemory → SaysText Version.Two text.now result }
     ensures only { (answer : Result Filed FileFault) → result ≢ Err FileFault.OutOfMemory
-        → SaysText text.now answer → kind_in answer ≡ kind_in result }
+        → SaysText Version.Two text.now answer → kind_in answer ≡ kind_in result }
 {
-    match filed_or_refusal(alloc, text) {
+    filed_or_fault(alloc, Version::Two, text)
+}
+
+/// Reads a certificate file of version 1, 2 or 3. It does what `from_text` does, and reads version 3 too, in which the
+/// moment may be up to 4,294,967,295.
+pub fn from_large_text(alloc: Global, text: &str) -> Result<Filed, FileFault>
+    ensures says { result ≢ Err FileFault.OutOfMemory → SaysText Version.Three text.now result }
+    ensures only { (answer : Result Filed FileFault) → result ≢ Err FileFault.OutOfMemory
+        → SaysText Version.Three text.now answer → kind_in answer ≡ kind_in result }
+{
+    filed_or_fault(alloc, Version::Three, text)
+}
+
+/// Reads a certificate file, where this is the newest version that is read.
+fn filed_or_fault(alloc: Global, newest: Version, text: &str) -> Result<Filed, FileFault>
+    ensures says { result ≢ Err FileFault.OutOfMemory → SaysText newest text.now result }
+    ensures only { (answer : Result Filed FileFault) → result ≢ Err FileFault.OutOfMemory
+        → SaysText newest text.now answer → kind_in answer ≡ kind_in result }
+{
+    match filed_or_refusal(alloc, newest, text) {
         Ok(filed) => Ok(filed),
         Err(refusal) => Err(refusal.fault),
     }
@@ -76,18 +93,19 @@ pub struct RefusedFile {
     pub value: Option<Value>,
 }
 
-/// Does what `from_text` does, and keeps the JSON value of a text that is refused. A text without a fault that is
-/// written as `to_text` writes it is read token by token, any other by its JSON value.
-pub fn filed_or_refusal(alloc: Global, text: &str) -> Result<Filed, RefusedFile>
-    ensures filed { IfOk result (λ filed. SaysText text.now (Ok filed)) }
+/// Does what `from_text` does, or with the newest version `Three` what `from_large_text` does, and keeps the JSON value
+/// of a text that is refused. A text without a fault that is written as `to_text` writes it is read token by token, any
+/// other by its JSON value.
+pub fn filed_or_refusal(alloc: Global, newest: Version, text: &str) -> Result<Filed, RefusedFile>
+    ensures filed { IfOk result (λ filed. SaysText newest text.now (Ok filed)) }
     ensures fault { IfErr result (λ refusal. refusal.fault ≢ FileFault.OutOfMemory
-        → SaysText text.now (Err refusal.fault)) }
+        → SaysText newest text.now (Err refusal.fault)) }
     ensures value { IfErr result (λ refusal. refusal.fault ≢ FileFault.OutOfMemory
         → MatchOption refusal.value (read text.now ≡ None) (λ value. read text.now ≡ Some (view value))) }
 {
-    match in_form(alloc, text) {
+    match in_form(alloc, newest, text) {
         Ok(Some(filed)) => Ok(filed),
-        Ok(None) => by_json(alloc, text),
+        Ok(None) => by_json(alloc, newest, text),
         Err(_) => Err(RefusedFile {
             fault: FileFault::OutOfMemory,
             value: None,
@@ -96,15 +114,15 @@ pub fn filed_or_refusal(alloc: Global, text: &str) -> Result<Filed, RefusedFile>
 }
 
 /// Does what `filed_or_refusal` does, by the JSON value of the text.
-fn by_json(alloc: Global, text: &str) -> Result<Filed, RefusedFile>
-    ensures filed { IfOk result (λ filed. SaysText text.now (Ok filed)) }
+fn by_json(alloc: Global, newest: Version, text: &str) -> Result<Filed, RefusedFile>
+    ensures filed { IfOk result (λ filed. SaysText newest text.now (Ok filed)) }
     ensures fault { IfErr result (λ refusal. refusal.fault ≢ FileFault.OutOfMemory
-        → SaysText text.now (Err refusal.fault)) }
+        → SaysText newest text.now (Err refusal.fault)) }
     ensures value { IfErr result (λ refusal. refusal.fault ≢ FileFault.OutOfMemory
         → MatchOption refusal.value (read text.now ≡ None) (λ value. read text.now ≡ Some (view value))) }
 {
     match json_in(alloc, text) {
-        Ok(value) => by_value(alloc, value),
+        Ok(value) => by_value(alloc, newest, value),
         Err(fault) => Err(RefusedFile { fault, value: None }),
     }
 }
@@ -122,13 +140,13 @@ fn json_in(alloc: Global, text: &str) -> Result<Value, FileFault>
 }
 
 /// Reads a file from its JSON value, which is kept if it is refused.
-fn by_value(alloc: Global, value: Value) -> Result<Filed, RefusedFile>
-    ensures filed { IfOk result (λ filed. SaysFile (view value) (Ok filed)) }
+fn by_value(alloc: Global, newest: Version, value: Value) -> Result<Filed, RefusedFile>
+    ensures filed { IfOk result (λ filed. SaysFile newest (view value) (Ok filed)) }
     ensures fault { IfErr result (λ refusal. refusal.fault ≢ FileFault.OutOfMemory
-        → SaysFile (view value) (Err refusal.fault)) }
+        → SaysFile newest (view value) (Err refusal.fault)) }
     ensures value { IfErr result (λ refusal. refusal.value ≡ Some value) }
 {
-    match from_value(alloc, &value) {
+    match from_value(alloc, newest, &value) {
         Ok(filed) => Ok(filed),
         Err(fault) => Err(RefusedFile {
             fault,
@@ -138,25 +156,26 @@ fn by_value(alloc: Global, value: Value) -> Result<Filed, RefusedFile>
 }
 
 /// Reads a certificate file from its JSON value. The faults are those of `from_text`, except NotJson.
-fn from_value(alloc: Global, value: &Value) -> Result<Filed, FileFault>
-    ensures { result ≢ Err FileFault.OutOfMemory → SaysFile (view value.now) result }
+fn from_value(alloc: Global, newest: Version, value: &Value) -> Result<Filed, FileFault>
+    ensures { result ≢ Err FileFault.OutOfMemory → SaysFile newest (view value.now) result }
 {
-    let (version, verdict) = heading_of(value)?;
-    values(alloc, version, verdict, value)
+    let (version, verdict) = heading_of(newest, value)?;
+    values(alloc, newest, version, verdict, value)
 }
 
 /// The content of a file with this heading.
 fn values(
     alloc: Global,
+    newest: Version,
     version: Version,
     verdict: Verdict,
     value: &Value,
 ) -> Result<Filed, FileFault>
-    ensures { IsHeaded version verdict (view value.now) → result ≢ Err FileFault.OutOfMemory
-        → SaysFile (view value.now) result }
+    ensures { IsHeaded newest version verdict (view value.now) → result ≢ Err FileFault.OutOfMemory
+        → SaysFile newest (view value.now) result }
 {
     let k = whole_at(value, Key::K, NUMBER_LIMIT - 1)?;
-    let listed = lists_of(alloc, value)?;
+    let listed = lists_of(alloc, version, value)?;
     let group = named_group(alloc, version, value)?;
     let cert = cert(alloc, verdict, k, value)?;
     let graph = graph(
@@ -181,12 +200,13 @@ struct Listed {
     links: Seq<(NodeId, NodeId)>,
 }
 
-fn lists_of(alloc: Global, value: &Value) -> Result<Listed, FileFault>
-    ensures { MatchResult result (IsListed (view value.now))
+fn lists_of(alloc: Global, version: Version, value: &Value) -> Result<Listed, FileFault>
+    ensures { said version_in (codes "version") (view value.now) ≡ Some version
+        → MatchResult result (IsListed version (view value.now))
         (LacksForm (key.Links ∷ key.Moment ∷ key.Nodes ∷ []) (view value.now)) }
 {
     let links = read_at(alloc, value, Key::Links)?;
-    let moment = whole_at(value, Key::Moment, LAST_MOMENT)?;
+    let moment = whole_at(value, Key::Moment, version.last_moment())?;
     let nodes = read_at(alloc, value, Key::Nodes)?;
     Ok(Listed {
         moment,
@@ -195,7 +215,7 @@ fn lists_of(alloc: Global, value: &Value) -> Result<Listed, FileFault>
     })
 }
 
-/// The group that a file names, in version 2.
+/// The group that a file names, if its version names one.
 fn named_group(
     alloc: Global,
     version: Version,
@@ -204,13 +224,11 @@ fn named_group(
     ensures { MatchResult result (IsNamed version (view value.now))
         (LacksForm (version_keys version) (view value.now)) }
 {
-    match version {
-        Version::One => Ok(None),
-        Version::Two => {
-            let group = read_at(alloc, value, Key::Group)?;
-            Ok(Some(group))
-        }
+    if !version.names_group() {
+        return Ok(None);
     }
+    let group = read_at(alloc, value, Key::Group)?;
+    Ok(Some(group))
 }
 
 /// The graph of these nodes and links, if the version allows this many nodes.

@@ -1,15 +1,13 @@
 //! Fields that are taken off the tokens of a text.
-ghost use Rattle.std.specs.Prelude.{◌≡◌, ◌≤◌, IfOk, Some};
+ghost use Rattle.std.specs.Prelude.{◌≡◌, IfOk, Some};
 ghost use Rattle.serde_json.specs.Data.{member};
-ghost use Rattle.ov_certfile.specs.Forms.{count_in, list_in, last_moment};
+ghost use Rattle.ov_certfile.specs.Forms.{count_in, list_in};
 ghost use Rattle.ov_certfile.specs.Kinds.{name_of};
 ghost use Rattle.ov_certfile.specs.DataOf.{whole_data, list_data};
 ghost use Rattle.ov_certfile.specs.Code.Tokens.{TakesValue, TakesMembers};
-ghost use Rattle.ov_certfile.specs.declared.file_keys.Key.TheVariants as key_name;
 
 use crate::field_reading_and_writing::Field;
 use crate::file_keys::Key;
-use crate::reading::LAST_MOMENT;
 use crate::token_keys::take_key;
 use crate::token_stop::Stop;
 use ov_ids::{NodeId, Seq};
@@ -93,17 +91,4 @@ pub(crate) fn take_count(cursor: &mut TokenCursor<'_>, key: Key) -> Result<u32, 
     take_key(cursor, key)?;
     let number = cursor.number()?;
     Ok(number)
-}
-
-/// Takes the member of a moment.
-pub(crate) fn take_moment(cursor: &mut TokenCursor<'_>) -> Result<u32, Stop>
-    ensures taken { IfOk result
-        (λ n. TakesMembers (member (name_of key_name.Moment) (whole_data n)) cursor.old cursor.new) }
-    ensures moment { IfOk result (λ n. n ≤ last_moment) }
-{
-    let moment = take_count(cursor, Key::Moment)?;
-    if u64::from(moment) > LAST_MOMENT {
-        return Err(Stop::OtherForm);
-    }
-    Ok(moment)
 }

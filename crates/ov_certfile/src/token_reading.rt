@@ -1,22 +1,22 @@
 //! Certificate files that are read token by token, without the JSON value of the whole text. This takes less time and
 //! memory, and makes nothing of a file with any fault.
-ghost use Rattle.std.specs.Prelude.{◌≡◌, ◌≤◌, ◌++◌, Some, Ok, IfOk, IfSome, OnOk};
+ghost use Rattle.std.specs.Prelude.{◌≡◌, ◌++◌, is_some, Some, Ok, IfOk, IfSome, OnOk};
 ghost use Rattle.json.specs.Tree.{members_tokens};
 ghost use Rattle.serde_json.specs.Data.{string, no_members, member};
 ghost use Rattle.serde_json.specs.Written.{members_outline};
-ghost use Rattle.ov_certfile.specs.Forms.{count_in, id_in, ids_in, links_in, fans_in, last_moment};
+ghost use Rattle.ov_certfile.specs.Forms.{count_in, id_in, ids_in, links_in, fans_in};
 ghost use Rattle.ov_certfile.specs.Kinds.{name_of, verdict_text, version_number};
 ghost use Rattle.ov_certfile.specs.DataOf.{whole_data, ids_data, list_data, link_data, fan_data};
 ghost use Rattle.ov_certfile.specs.Says.{SaysText};
 ghost use Rattle.ov_certfile.specs.Code.Tokens.{TakesMembers};
-ghost use Rattle.ov_certfile.specs.Code.Content.{TakesContent, NamedReadsBack, IsGraphWithin};
-ghost use Rattle.ov_certfile.specs.Code.Content.{version_with, named_then, graph_in, filed_in};
+ghost use Rattle.ov_certfile.specs.Code.Content.{TakesContent, NamedReadsBack, IsGraphWithin, Suits};
+ghost use Rattle.ov_certfile.specs.Code.Content.{named_then, graph_in, filed_in};
 ghost use Rattle.ov_certfile.specs.declared.file_keys.Key.TheVariants as key;
 
 use crate::file_keys::Key;
 use crate::linked_or_split::Verdict;
 use crate::reading::Filed;
-use crate::token_fields::{take_count, take_member, take_moment};
+use crate::token_fields::{take_count, take_member};
 use crate::token_keys::{is_at_key, take_key, take_verdict};
 use crate::token_stop::Stop;
 use crate::version::Version;
@@ -27,14 +27,15 @@ use ov_tokens::TokenCursor;
 use std::alloc::Global;
 
 /// Reads a certificate file that is written as `to_text` writes it, with its keys in the order of their bytes, but for
-/// white space. None: the text is not such a file, or has a fault; `from_text` tells which. It is much faster than to
-/// read the JSON value of the text, and takes a fraction of the memory.
+/// white space. None: the text is not such a file, or its version is above the newest that is read, or it has another
+/// fault; `filed_or_refusal` tells which. It is much faster than to read the JSON value of the text, and takes a
+/// fraction of the memory.
 ///
 /// `OutOfMemory` (99): an allocation was refused.
-pub fn in_form(alloc: Global, text: &str) -> Result<Option<Filed>, OutOfMemory>
-    ensures says { IfOk result (λ found. IfSome found (λ filed. SaysText text.now (Ok filed))) }
+pub fn in_form(alloc: Global, newest: Version, text: &str) -> Result<Option<Filed>, OutOfMemory>
+    ensures says { IfOk result (λ found. IfSome found (λ filed. SaysText newest text.now (Ok filed))) }
 {
-    match take_file(alloc, text) {
+    match take_file(alloc, newest, text) {
         Ok(filed) => Ok(Some(filed)),
         Err(Stop::OtherForm) => Ok(None),
         Err(Stop::OutOfMemory) => Err(OutOfMemory),
@@ -42,12 +43,12 @@ pub fn in_form(alloc: Global, text: &str) -> Result<Option<Filed>, OutOfMemory>
 }
 
 /// Reads a file that takes up the whole text.
-fn take_file(alloc: Global, text: &str) -> Result<Filed, Stop>
-    ensures { IfOk result (λ filed. SaysText text.now (Ok filed)) }
+fn take_file(alloc: Global, newest: Version, text: &str) -> Result<Filed, Stop>
+    ensures { IfOk result (λ filed. SaysText newest text.now (Ok filed)) }
 {
     let mut cursor = TokenCursor::new(text);
     cursor.begin_object()?;
-    let content = take_content(alloc, &mut cursor)?;
+    let content = take_content(alloc, newest, &mut cursor)?;
     if !cursor.is_at_end() {
         return Err(Stop::OtherForm);
     }
@@ -58,6 +59,7 @@ fn take_file(alloc: Global, text: &str) -> Result<Filed, Stop>
 /// What a file has, before it is known whether its nodes and links are a graph.
 #[derive(Drop)]
 struct Content {
+    version: Version,
     moment: u32,
     nodes: Seq<NodeId>,
     links: Seq<(NodeId, NodeId)>,
@@ -69,10 +71,10 @@ struct Content {
 /// The file with this content, if its nodes and links are a graph.
 fn filed_of(alloc: Global, content: Content) -> Result<Filed, Stop>
     ensures filed { IfOk result (λ f. f ≡ filed_in content) }
-    ensures graph { OnOk result (IsGraphWithin (version_with content.group) (graph_in content)) }
+    ensures graph { OnOk result (IsGraphWithin content.version (graph_in content)) }
 {
-    let version = version_with(&content.group);
     let Content {
+        version,
         moment,
         nodes,
         links,
@@ -86,16 +88,6 @@ fn filed_of(alloc: Global, content: Content) -> Result<Filed, Stop>
         group: group.unwrap_or(nodes),
         cert,
     })
-}
-
-/// The version of a file that names this group, or none.
-fn version_with(group: &Option<Seq<NodeId>>) -> Version
-    ensures { result ≡ version_with group.now }
-{
-    match group {
-        None => Version::One,
-        Some(_) => Version::Two,
-    }
 }
 
 /// The graph of these nodes and links, if there is one and the version allows this many nodes.
@@ -119,24 +111,33 @@ fn graph_of(
 }
 
 /// Takes the members of a file, and the brace that closes it.
-fn take_content(alloc: Global, cursor: &mut TokenCursor<'_>) -> Result<Content, Stop>
-    ensures { IfOk result (λ c. TakesContent c cursor.old cursor.new) }
+fn take_content(
+    alloc: Global,
+    newest: Version,
+    cursor: &mut TokenCursor<'_>,
+) -> Result<Content, Stop>
+    ensures { IfOk result (λ c. TakesContent newest c cursor.old cursor.new) }
 {
     if is_at_key(cursor, Key::Cut) {
-        take_split(alloc, cursor)
+        take_split(alloc, newest, cursor)
     } else {
-        take_linked(alloc, cursor)
+        take_linked(alloc, newest, cursor)
     }
 }
 
 /// Takes the members of a file with verdict linked.
-fn take_linked(alloc: Global, cursor: &mut TokenCursor<'_>) -> Result<Content, Stop>
-    ensures { IfOk result (λ c. TakesContent c cursor.old cursor.new) }
+fn take_linked(
+    alloc: Global,
+    newest: Version,
+    cursor: &mut TokenCursor<'_>,
+) -> Result<Content, Stop>
+    ensures { IfOk result (λ c. TakesContent newest c cursor.old cursor.new) }
 {
     let middle = take_middle(alloc, cursor)?;
     let nodes = take_member(alloc, cursor, Key::Nodes)?;
-    take_end(cursor, Verdict::Linked, version_with(&middle.group))?;
+    let version = take_end(cursor, Verdict::Linked, newest, &middle)?;
     Ok(Content {
+        version,
         moment: middle.moment,
         nodes,
         links: middle.links,
@@ -146,8 +147,8 @@ fn take_linked(alloc: Global, cursor: &mut TokenCursor<'_>) -> Result<Content, S
 }
 
 /// Takes the members of a file with verdict split.
-fn take_split(alloc: Global, cursor: &mut TokenCursor<'_>) -> Result<Content, Stop>
-    ensures { IfOk result (λ c. TakesContent c cursor.old cursor.new) }
+fn take_split(alloc: Global, newest: Version, cursor: &mut TokenCursor<'_>) -> Result<Content, Stop>
+    ensures { IfOk result (λ c. TakesContent newest c cursor.old cursor.new) }
 {
     let first = take_first(alloc, cursor)?;
     let middle = take_middle(alloc, cursor)?;
@@ -155,7 +156,7 @@ fn take_split(alloc: Global, cursor: &mut TokenCursor<'_>) -> Result<Content, St
     let nodes = take_member(alloc, cursor, Key::Nodes)?;
     let pairs = take_member(alloc, cursor, Key::Pairs)?;
     let side = take_member(alloc, cursor, Key::Side)?;
-    take_end(cursor, Verdict::Split, version_with(&middle.group))?;
+    let version = take_end(cursor, Verdict::Split, newest, &middle)?;
     let split = Split {
         k: middle.k,
         cut: first.cut,
@@ -166,6 +167,7 @@ fn take_split(alloc: Global, cursor: &mut TokenCursor<'_>) -> Result<Content, St
         fans: first.fans,
     };
     Ok(Content {
+        version,
         moment: middle.moment,
         nodes,
         links: middle.links,
@@ -217,12 +219,11 @@ fn take_middle(alloc: Global, cursor: &mut TokenCursor<'_>) -> Result<Middle, St
     ensures group { IfOk result (λ m. NamedReadsBack m.group) }
     ensures k { IfOk result (λ m. count_in (whole_data m.k) ≡ Some m.k) }
     ensures links { IfOk result (λ m. links_in (list_data link_data m.links) ≡ Some m.links) }
-    ensures moment { IfOk result (λ m. m.moment ≤ last_moment) }
 {
     let group = take_group(alloc, cursor)?;
     let k = take_count(cursor, Key::K)?;
     let links = take_member(alloc, cursor, Key::Links)?;
-    let moment = take_moment(cursor)?;
+    let moment = take_count(cursor, Key::Moment)?;
     Ok(Middle {
         group,
         k,
@@ -244,19 +245,39 @@ fn take_group(alloc: Global, cursor: &mut TokenCursor<'_>) -> Result<Option<Seq<
     Ok(Some(group))
 }
 
-/// Takes the last members of a file, and the brace that closes it.
+/// Takes the last members of a file, and the brace that closes it. The version is one that suits these members before
+/// them.
 #[tactic(auto, using(crate::proofs::Taking::end_taken))]
-fn take_end(cursor: &mut TokenCursor<'_>, verdict: Verdict, version: Version) -> Result<(), Stop>
-    ensures { OnOk result (cursor.old ≡ members_tokens (members_outline
+fn take_end(
+    cursor: &mut TokenCursor<'_>,
+    verdict: Verdict,
+    newest: Version,
+    middle: &Middle,
+) -> Result<Version, Stop>
+    ensures taken { IfOk result (λ version. cursor.old ≡ members_tokens (members_outline
         (member (name_of key.Verdict) (string (verdict_text verdict))
         (member (name_of key.Version) (whole_data (version_number version)) no_members))) ++ cursor.new) }
+    ensures suits { IfOk result (Suits newest (is_some middle.now.group) middle.now.moment) }
 {
     take_key(cursor, Key::Verdict)?;
     take_verdict(cursor, verdict)?;
     let number = take_count(cursor, Key::Version)?;
-    if number != version.number() {
+    let version = version_of(newest, number, middle.group.is_some(), middle.moment)?;
+    cursor.end_object()?;
+    Ok(version)
+}
+
+/// The version with this number, if it is read, and if its files name a group or none, as this one does, and may have
+/// this moment.
+fn version_of(newest: Version, number: u32, is_named: bool, moment: u32) -> Result<Version, Stop>
+    ensures number { IfOk result (λ version. number ≡ version_number version) }
+    ensures suits { IfOk result (Suits newest is_named moment) }
+{
+    let Some(version) = Version::numbered(newest, u64::from(number)) else {
+        return Err(Stop::OtherForm);
+    };
+    if version.names_group() != is_named || u64::from(moment) > version.last_moment() {
         return Err(Stop::OtherForm);
     }
-    cursor.end_object()?;
-    Ok(())
+    Ok(version)
 }

@@ -1,6 +1,6 @@
-ghost use Rattle.std.specs.Prelude.{◌≡◌, MatchResult};
+ghost use Rattle.std.specs.Prelude.{◌≡◌, Some, IfSome, MatchResult};
 ghost use Rattle.serde_json.specs.View.{view};
-ghost use Rattle.ov_certfile.specs.Kinds.{version_in, verdict_in};
+ghost use Rattle.ov_certfile.specs.Kinds.{version_in, version_up_to, verdict_in};
 ghost use Rattle.ov_certfile.specs.Says.{IsFault};
 ghost use Rattle.ov_certfile.specs.Code.Reading.{IsHeaded};
 
@@ -12,10 +12,11 @@ use crate::value_fault::{Misfit, Wanted};
 use crate::version::Version;
 use serde_json::Value;
 
-/// The version and the verdict of a file that has exactly their keys, or its first fault.
+/// The version, up to the newest that is read, and the verdict of a file that has exactly their keys, or its first
+/// fault.
 #[tactic(auto, unfolding(crate::specs::Demands::demands))]
-pub(crate) fn heading_of(value: &Value) -> Result<(Version, Verdict), FileFault>
-    ensures { MatchResult result (λ h. IsHeaded h.0 h.1 (view value.now)) (IsFault (view value.now)) }
+pub(crate) fn heading_of(newest: Version, value: &Value) -> Result<(Version, Verdict), FileFault>
+    ensures { MatchResult result (λ h. IsHeaded newest h.0 h.1 (view value.now)) (IsFault newest (view value.now)) }
 {
     if !value.is_object() {
         return Err(FileFault::BadValue(BadValue::of_file()));
@@ -23,8 +24,8 @@ pub(crate) fn heading_of(value: &Value) -> Result<(Version, Verdict), FileFault>
     let Some(version) = value.get("version") else {
         return Err(FileFault::MissingKey(Key::Version));
     };
-    let Some(version) = version_in(version) else {
-        return Err(FileFault::BadVersion);
+    let Some(version) = version_in(newest, version) else {
+        return Err(FileFault::BadVersion { newest });
     };
     let Some(verdict) = value.get("verdict") else {
         return Err(FileFault::MissingKey(Key::Verdict));
@@ -48,14 +49,14 @@ pub(crate) fn heading_of(value: &Value) -> Result<(Version, Verdict), FileFault>
     Ok((version, verdict))
 }
 
-/// The version that a value says, if it says one.
-fn version_in(value: &Value) -> Option<Version>
-    ensures { result ≡ version_in (view value.now) }
+/// The version that a value says, if it says one that is read.
+fn version_in(newest: Version, value: &Value) -> Option<Version>
+    ensures read { result ≡ version_up_to newest (view value.now) }
+    ensures known { IfSome result (λ version. version_in (view value.now) ≡ Some version) }
 {
     match value.as_u64() {
-        Some(1) => Some(Version::One),
-        Some(2) => Some(Version::Two),
-        _ => None,
+        Some(number) => Version::numbered(newest, number),
+        None => None,
     }
 }
 

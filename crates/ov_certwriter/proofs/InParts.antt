@@ -1,6 +1,6 @@
 -- The text of a file without entries, cut at two places, is around the texts of the entries of the whole file.
-use Rattle.std.proofs.Common.{◌≡◌, ◌∙◌, ℕ, ◌+◌, ◌-◌, ◌≤◌, true, false, List, ◌∷◌, ◌++◌, codes, decimal, length}
-use Rattle.std.proofs.Common.{map, take, drop, slice_range, refl, sym, ap, subst, arith, append_assoc, length-append}
+use Rattle.std.proofs.Common.{◌≡◌, ◌∙◌, ℕ, ◌+◌, ◌-◌, ◌<◌, ◌≤◌, true, false, if◌then◌else◌, List, [], ◌∷◌, ◌++◌}
+use Rattle.std.proofs.Common.{codes, decimal, length, map, take, drop, slice_range, refl, sym, ap, subst, arith, append_assoc, length-append}
 use Rattle.std.proofs.lemmas.Fmt.{decimal_digit}
 use Rattle.std.proofs.Math.Seq.{take-append_seam, drop-append_seam}
 use Rattle.serde_json.specs.Data.{Data, Items, Members, no_items, array, object, string, no_members, member}
@@ -10,11 +10,11 @@ use Rattle.serde_json.proofs.OnLiterals.{serde_json_on_literals}
 use Rattle.ov_graph.specs.Links.{LinkGraph}
 use Rattle.ov_cert.specs.declared.cert.Split.{Split}
 use Rattle.ov_cert.specs.declared.cert.Cert.TheVariants as cert
-use Rattle.ov_certfile.specs.Kinds.{verdict_text, version_number}
+use Rattle.ov_certfile.specs.Kinds.{verdict_text, version_number, names_group}
 use Rattle.ov_certfile.specs.DataOf.{whole_data, ids_data, list_data, link_data, pair_data, fan_data, group_then}
 use Rattle.ov_certfile.specs.DataOf.{version_for, data_in, data_of}
 use Rattle.ov_certfile.specs.declared.version.Version.{Version}
-use Rattle.ov_certfile.specs.declared.version.Version.TheVariants.{One, Two}
+use Rattle.ov_certfile.specs.declared.version.Version.TheVariants.{One, Two, Three}
 use Rattle.ov_certfile.specs.declared.linked_or_split.Verdict.TheVariants.{Split as VerdictSplit}
 use Rattle.ov_certwriter.specs.Code.Blocks.{items_after}
 use Rattle.ov_certwriter.specs.Code.Parts.{without_entries, cut_text, ArePartsOf}
@@ -57,19 +57,15 @@ head_text c = codes "{\"cut\":" ++ (compact_text (ids_data c.cut) ++ codes ",\"f
 abbrev member_text : List ℕ → Data → List ℕ
 member_text k d = 44 ∷ (compact_text (string k) ++ 58 ∷ compact_text d)
 
+-- the text of the group behind other members, if the version names one
+abbrev group_text : Version → List ℕ → List ℕ
+group_text version group = if names_group version then member_text (codes "group") (ids_data group) else []
+
 -- the text between the fans and the pairs
 middle_text : Version → Split → LinkGraph → List ℕ → ℕ → List ℕ
-middle_text One c g group moment =
+middle_text version c g group moment =
     member_text (codes "far") (whole_data c.far)
-    ++ (member_text (codes "k") (whole_data c.k)
-    ++ (member_text (codes "links") (list_data link_data g.links)
-    ++ (member_text (codes "moment") (whole_data moment)
-    ++ (member_text (codes "near") (whole_data c.near)
-    ++ (member_text (codes "nodes") (ids_data g.nodes)
-    ++ 44 ∷ (compact_text (string (codes "pairs")) ++ codes ":["))))))
-middle_text Two c g group moment =
-    member_text (codes "far") (whole_data c.far)
-    ++ (member_text (codes "group") (ids_data group)
+    ++ (group_text version group
     ++ (member_text (codes "k") (whole_data c.k)
     ++ (member_text (codes "links") (list_data link_data g.links)
     ++ (member_text (codes "moment") (whole_data moment)
@@ -83,6 +79,7 @@ middle_is : (version : Version) (c : Split) (g : LinkGraph) (group : List ℕ) (
 unfolding middle_text
 middle_is One c g group moment pairs ms = simp append_assoc
 middle_is Two c g group moment pairs ms = simp append_assoc
+middle_is Three c g group moment pairs ms = simp append_assoc
 
 head_is : (c : Split) (fans : Items) (ms : Members)
     → compact_text (object (member (codes "cut") (ids_data c.cut) (member (codes "fans") (array fans) ms)))
@@ -113,17 +110,21 @@ head_long c =
       length-append ids (codes ",\"fans\":["),
     )
 
+-- the number of a version has one digit
+one_digit : (version : Version) → version_number version < 10
+one_digit One = omega arith
+one_digit Two = omega arith
+one_digit Three = omega arith
+
 -- the text behind the pairs, with the bracket that ends them
 tail_is : (version : Version) (c : Split) → (end : List ℕ) × (length end ≡ 31)
     × (codes "]" ++ members_text true (last_members version c)
     ≡ codes "],\"side\":" ++ (compact_text (ids_data c.side) ++ end))
 unfolding serde_json_on_literals
-tail_is One c =
+tail_is version c =
     let end = λ (number : List ℕ). codes ",\"verdict\":\"split\",\"version\":" ++ (number ++ codes "}") in
-    (end (decimal 1), ap (λ number. length (end number)) (decimal_digit 1 (omega arith)), refl)
-tail_is Two c =
-    let end = λ (number : List ℕ). codes ",\"verdict\":\"split\",\"version\":" ++ (number ++ codes "}") in
-    (end (decimal 2), ap (λ number. length (end number)) (decimal_digit 2 (omega arith)), refl)
+    let number = version_number version in
+    (end (decimal number), ap (λ number. length (end number)) (decimal_digit number (one_digit version)), refl)
 
 -- how long it is
 tail_long : (version : Version) (c : Split)
@@ -152,17 +153,17 @@ cut_is a b d text first second is f s =
 -- the text of the file without entries
 hollow_is : (c : Split) (g : LinkGraph) (group : List ℕ) (moment : ℕ)
     → compact_text (data_of (cert.Split (without_entries c)) g group moment)
-    ≡ head_text c ++ ((codes "]" ++ middle_text (version_for g group) c g group moment)
-    ++ (codes "]" ++ members_text true (last_members (version_for g group) c)))
+    ≡ head_text c ++ ((codes "]" ++ middle_text (version_for g group moment) c g group moment)
+    ++ (codes "]" ++ members_text true (last_members (version_for g group moment) c)))
 unfolding data_of data_in
-hollow_is c g group moment = text_is (version_for g group) c g group moment no_items no_items
+hollow_is c g group moment = text_is (version_for g group moment) c g group moment no_items no_items
 
 -- it is long enough to be cut
 pub long_enough : (c : Split) (g : LinkGraph) (group : List ℕ) (moment : ℕ) (text : List ℕ)
     → text ≡ compact_text (data_of (cert.Split (without_entries c)) g group moment)
     → (length (compact_text (ids_data c.cut)) + 16) + (length (compact_text (ids_data c.side)) + 40) ≤ length text
 long_enough c g group moment text is =
-    let version = version_for g group in
+    let version = version_for g group moment in
     let middle = codes "]" ++ middle_text version c g group moment in
     let tail = codes "]" ++ members_text true (last_members version c) in
     let long = ap length (is ∙ hollow_is c g group moment) in
@@ -182,12 +183,12 @@ closed_then items all more h = sym (append_assoc items (codes "]") more) ∙ ap 
 -- entries between the parts make the whole file
 joined : (c : Split) (g : LinkGraph) (group : List ℕ) (moment : ℕ) → ArePartsOf c g group moment (record {
   head = head_text c;
-  middle = codes "]" ++ middle_text (version_for g group) c g group moment;
-  tail = codes "]" ++ members_text true (last_members (version_for g group) c);
+  middle = codes "]" ++ middle_text (version_for g group moment) c g group moment;
+  tail = codes "]" ++ members_text true (last_members (version_for g group moment) c);
 })
 unfolding data_of data_in
 joined c g group moment pairs fans =
-    let version = version_for g group in
+    let version = version_for g group moment in
     let last = members_text true (last_members version c) in
     let middle = middle_text version c g group moment in
     let fan_texts = items_text false (items_of (map fan_data fans)) in
@@ -206,7 +207,7 @@ pub parts_of_hollow : (c : Split) (g : LinkGraph) (group : List ℕ) (moment : �
     → second ≡ length text - (length (compact_text (ids_data c.side)) + 40)
     → ArePartsOf c g group moment (cut_text text first second)
 parts_of_hollow c g group moment text first second is f s =
-    let version = version_for g group in
+    let version = version_for g group moment in
     let tail = tail_long version c in
     let cut = cut_is (head_text c) (codes "]" ++ middle_text version c g group moment)
     (codes "]" ++ members_text true (last_members version c)) text first second (is ∙ hollow_is c g group moment)

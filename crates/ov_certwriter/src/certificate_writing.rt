@@ -15,7 +15,7 @@ use crate::entry_rooms::largest_room;
 use crate::text_around_entries::Parts;
 use crate::writing_fault::CertificateWriteFault;
 use ov_cert::Cert;
-use ov_certfile::to_text_group;
+use ov_certfile::to_large_text;
 use ov_ids::{OutOfMemory, Workers};
 use ov_io::{Sink, WriteFault};
 use std::alloc::Global;
@@ -53,9 +53,31 @@ pub fn write_certificate<R: Threads + Sync, W: Write>(
     ensures memory { IsErrOf result CertificateWriteFault.OutOfMemory → sink.new ≡ sink.old }
     ensures faults { sink.new.faults ≡ sink.old.faults + write_faults writing_number result }
 {
+    write_large_certificate(rt, alloc, workers, front, answer, moment, sink)
+}
+
+/// Does what `write_certificate` does, for any moment: the file is the one that `to_large_text` would make.
+pub fn write_large_certificate<R: Threads + Sync, W: Write>(
+    rt: &R,
+    alloc: Global,
+    workers: Workers,
+    front: &[u8],
+    answer: &PlacedAnswer<'_>,
+    moment: u32,
+    sink: &mut Sink<W>,
+) -> Result<(), CertificateWriteFault>
+    requires { sink.old.faults < most_faults }
+    ensures text { OnOk result (Appends (W.contents sink.old.writer) (W.contents sink.new.writer)
+        (front.now ++ compact_text (data_of answer.now.cert answer.now.graph answer.now.members moment))) }
+    ensures prefix { AppendsPrefixOf
+        (front.now ++ compact_text (data_of answer.now.cert answer.now.graph answer.now.members moment))
+        (W.contents sink.old.writer) (W.contents sink.new.writer) }
+    ensures memory { IsErrOf result CertificateWriteFault.OutOfMemory → sink.new ≡ sink.old }
+    ensures faults { sink.new.faults ≡ sink.old.faults + write_faults writing_number result }
+{
     let (outline, graph, group) = (answer.outline(), answer.graph(), answer.members());
     let Cert::Split(split) = outline else {
-        let text = to_text_group(alloc, outline, graph, group, moment)?;
+        let text = to_large_text(alloc, outline, graph, group, moment)?;
         sink.write_all(front)?;
         sink.write_all(text.as_bytes())?;
         return Ok(());

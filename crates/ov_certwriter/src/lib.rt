@@ -15,5 +15,5 @@ mod text_around_entries;
 mod writing_fault;
 
 pub use answer_by_places::{PlacedAnswer, place_answer};
-pub use certificate_writing::write_certificate;
+pub use certificate_writing::{write_certificate, write_large_certificate};
 pub use writing_fault::CertificateWriteFault;

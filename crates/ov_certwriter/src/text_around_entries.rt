@@ -4,12 +4,11 @@ ghost use Rattle.std.specs.Prelude.{◌≡◌, ◌≤◌, ◌+◌, ◌-◌, leng
 ghost use Rattle.serde_json.specs.Written.{compact_text};
 ghost use Rattle.ov_cert.specs.declared.cert.Cert.TheVariants as cert;
 ghost use Rattle.ov_certfile.specs.DataOf.{ids_data};
-ghost use Rattle.ov_certfile.specs.Forms.{last_moment};
 ghost use Rattle.ov_certwriter.specs.Code.Parts.{without_entries, cut_text, ArePartsOf};
 
 use crate::entry_texts::put_ids;
 use ov_cert::{Cert, Split};
-use ov_certfile::to_text_group;
+use ov_certfile::to_large_text;
 use ov_graph::Graph;
 use ov_ids::{NodeId, OutOfMemory};
 use std::alloc::Global;
@@ -51,11 +50,10 @@ impl Parts {
         group: &[NodeId],
         moment: u32,
     ) -> Result<Parts, OutOfMemory>
-        requires moment { moment ≤ last_moment }
-        requires outline { outline.now ≡ cert.Split (without_entries split.now) }
+        requires { outline.now ≡ cert.Split (without_entries split.now) }
         ensures { IfOk result (ArePartsOf split.now graph.now group.now moment) }
     {
-        let text = to_text_group(alloc, outline, graph, group, moment)?;
+        let text = to_large_text(alloc, outline, graph, group, moment)?;
         let cut = ids_length(alloc, split.cut.as_slice())?;
         let side = ids_length(alloc, split.side.as_slice())?;
         Ok(Parts::around(text, cut, side))

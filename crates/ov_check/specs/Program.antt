@@ -1,5 +1,5 @@
--- What the program overlay-check decides: its input, what it prints of a fault, and its status.
-use Rattle.std.specs.Prelude.{◌≡◌, ◌≢◌, ℕ, List, codes, IsUtf8, Option, Some, None, Result, Ok, Err}
+-- What a program that judges certificate files decides: its input, what it prints of a fault, and its status.
+use Rattle.std.specs.Prelude.{◌≡◌, ◌≢◌, ℕ, List, ◌++◌, codes, IsUtf8, Option, Some, None, Result, Ok, Err}
 use Rattle.ov_io.specs.Name.{unread_text}
 use Rattle.ov_io.specs.Refusal.{refusal_text}
 use Rattle.ov_check.specs.declared.read_or_write_fault.JudgeFault.{JudgeFault}
@@ -15,10 +15,10 @@ NamesInput bytes argument (Ok None) = argument ≡ codes "-"
 NamesInput bytes argument (Ok (Some name)) = (bytes name ≡ argument) × (argument ≢ codes "-")
 NamesInput bytes argument (Err fault) = (fault ≡ Judge Read) × (¬ IsUtf8 argument)
 
--- the line on standard error, without its line feed
-abbrev pub fault_line : ProgramFault → List ℕ
-fault_line Usage = codes "usage: overlay-check [FILE]"
-fault_line (Judge fault) = refusal_text (number_of fault)
+-- the line on standard error of a program of this name, without its line feed
+abbrev pub fault_line : List ℕ → ProgramFault → List ℕ
+fault_line program Usage = codes "usage: " ++ (program ++ codes " [FILE]")
+fault_line program (Judge fault) = refusal_text (number_of fault)
 
 -- what is printed below that line if the arguments name no input
 abbrev pub no_input_text : ProgramFault → List ℕ

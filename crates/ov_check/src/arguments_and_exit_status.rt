@@ -12,10 +12,9 @@ use ov_io::unread_text;
 use std::alloc::Global;
 use std::borrow::CowStr;
 use std::env::FillError;
-use std::error::Error;
 use std::fmt::{Display, Formatter, Result as Printed, Write};
 
-/// Why the program prints no line of an outcome. It is shown as the line that the program prints on standard error.
+/// Why the program prints no line of an outcome.
 #[derive(Clone, Copy, Debug, PartialEq, Eq)]
 pub enum ProgramFault {
     /// There is more than one argument.
@@ -32,21 +31,29 @@ impl From<JudgeFault> for ProgramFault {
     }
 }
 
-impl Display for ProgramFault {
+/// The line that a program of this name prints on standard error after a fault, without its line feed.
+#[derive(Drop)]
+pub struct FaultLine<'a> {
+    pub program: &'a str,
+    pub fault: ProgramFault,
+}
+
+impl<'a> Display for FaultLine<'a> {
     ghost use Rattle.std.specs.Prelude.{Some};
     ghost use Rattle.ov_check.specs.Program.{fault_line};
 
-    ghost output = { λ fault. Some (fault_line fault) };
+    ghost output = { λ line. Some (fault_line line.program.now line.fault) };
 
     fn fmt<W: Write>(&self, f: &mut Formatter<W>) -> Printed {
-        match self {
-            ProgramFault::Usage => write!(f, "usage: overlay-check [FILE]"),
+        match self.fault {
+            ProgramFault::Usage => {
+                let program = self.program;
+                write!(f, "usage: {program} [FILE]")
+            }
             ProgramFault::Judge(fault) => write!(f, "{fault}"),
         }
     }
 }
-
-impl Error for ProgramFault {}
 
 /// The name of the file that the arguments ask for, or nothing for standard input. No argument and the argument `-` ask
 /// for standard input. `length` is the length of the first argument, which is a prefix of `room`, or why it is not

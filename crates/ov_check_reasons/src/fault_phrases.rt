@@ -44,7 +44,7 @@ pub(crate) fn name_refusal(fault: FileFault) -> &'static str {
         FileFault::MissingKey(_) => "a key is missing",
         FileFault::UnknownKey { .. } => "a key is unknown",
         FileFault::BadValue(_) => "a value has another form",
-        FileFault::BadVersion => "the version is unknown",
+        FileFault::BadVersion { .. } => "the version is unknown",
         FileFault::Graph(GraphFault::TooManyNodes { .. }) => "the graph has too many nodes",
         FileFault::Graph(GraphFault::UnorderedNode { .. } | GraphFault::UnorderedLink { .. }) => {
             "the nodes or the links do not ascend"

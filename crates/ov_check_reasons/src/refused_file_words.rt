@@ -39,7 +39,7 @@ fn tell_value(
             version,
             verdict,
         } => tell_unknown(alloc, text, value, at, keys_of(version, verdict)),
-        FileFault::BadVersion => tell_version(alloc, text, value),
+        FileFault::BadVersion { newest } => tell_version(alloc, text, newest, value),
         FileFault::BadValue(bad) => tell_bad_value(alloc, text, bad, value),
         FileFault::NotJson(_) | FileFault::Graph(_) | FileFault::OutOfMemory => Ok(()),
     }
@@ -108,10 +108,24 @@ fn who_lacks(name: &str) -> &'static str {
     ""
 }
 
-/// Tells which version there is.
-fn tell_version(alloc: Global, text: &mut String, value: &Value) -> Result<(), OutOfMemory> {
+/// Tells which version there is, and which are read.
+fn tell_version(
+    alloc: Global,
+    text: &mut String,
+    newest: Version,
+    value: &Value,
+) -> Result<(), OutOfMemory> {
     match value.get(Key::Version.name()) {
-        Some(version) => say_found(alloc, text, "1 or 2", version),
+        Some(version) => say_found(alloc, text, versions_up_to(newest), version),
         None => Ok(()),
+    }
+}
+
+/// The versions that are read where this is the newest.
+fn versions_up_to(newest: Version) -> &'static str {
+    match newest {
+        Version::One => "1",
+        Version::Two => "1 or 2",
+        Version::Three => "1, 2 or 3",
     }
 }

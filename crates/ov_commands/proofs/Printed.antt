@@ -4,6 +4,7 @@ use Rattle.ov_ids.specs.FaultOrder.{IsRefusedBy}
 use Rattle.ov_ids.proofs.Stepping.{step_none}
 use Rattle.ov_cert.specs.declared.cert.Cert.{Cert}
 use Rattle.ov_certfile.specs.declared.reading.Filed.{Filed}
+use Rattle.ov_certfile.specs.declared.version.Version.TheVariants.{Two}
 use Rattle.ov_check.specs.Outcome.{IsOutcome}
 use Rattle.ov_check.specs.declared.outcome_of_file_bytes.Outcome.TheVariants.{Holds}
 use Rattle.ov_drawing.specs.Chosen.{shown_paths}
@@ -62,7 +63,7 @@ lacks_entry cert entry judged = elim judged [
 
 pub undrawn : {W : Type 0} (bytes : List ℕ) (names : Option (List ℕ)) (entry : Option ChosenEntry) (dot : Bool)
     (contents : W → Option (List ℕ)) (old : W) (f : Filed) (fault : PictureFault) (result : ConversionFault)
-    → IsOutcome bytes (Holds f) → IsRefusedBy drawing.OutOfMemory (PictureJudged f.cert entry) fault
+    → IsOutcome Two bytes (Holds f) → IsRefusedBy drawing.OutOfMemory (PictureJudged f.cert entry) fault
     → (fault ≡ drawing.OutOfMemory → result ≡ OutOfMemory) → (fault ≡ drawing.NoSuchEntry → result ≡ Refused 86)
     → WasPicturePrinted bytes names entry dot contents old old (Err result)
 undrawn bytes names entry dot contents old f drawing.OutOfMemory result holds judged memory missing =
@@ -73,7 +74,7 @@ undrawn bytes names entry dot contents old f drawing.NoSuchEntry result holds ju
 
 pub unnamed : {W : Type 0} (bytes : List ℕ) (names : Option (List ℕ)) (entry : Option ChosenEntry) (dot : Bool)
     (contents : W → Option (List ℕ)) (old : W) (f : Filed) (fault : ConversionFault)
-    → IsOutcome bytes (Holds f) → shown_paths f.cert entry ≢ None → IsNotNamed names f.graph fault
+    → IsOutcome Two bytes (Holds f) → shown_paths f.cert entry ≢ None → IsNotNamed names f.graph fault
     → WasPicturePrinted bytes names entry dot contents old old (Err fault)
 unnamed bytes names entry dot contents old f (Refused number) holds has it = (inr (f, holds, inr (has, it)), refl)
 unnamed bytes names entry dot contents old f Write holds has it = absurd it

@@ -7,6 +7,7 @@ use Rattle.ov_arguments.specs.declared.import_and_picture_requests.AskedEntry.Th
 use Rattle.ov_cert.specs.Number as cert
 use Rattle.ov_certfile.specs.Number as certificate_file
 use Rattle.ov_certfile.specs.declared.reading.Filed.{Filed}
+use Rattle.ov_certfile.specs.declared.version.Version.TheVariants.{Two}
 use Rattle.ov_check.specs.Outcome.{IsOutcome, status_of}
 use Rattle.ov_check.specs.declared.outcome_of_file_bytes.Outcome.{Outcome}
 use Rattle.ov_check.specs.declared.outcome_of_file_bytes.Outcome.TheVariants.{Holds, Fails, Refused as refused}
@@ -44,7 +45,7 @@ outcome_number (refused r) = certificate_file.number_of r.fault
 -- no certificate holds in the bytes, and this is the number of their fault: the first one of the file, or that of its
 -- certificate
 abbrev pub HoldsNot : List ℕ → ℕ → Type 0
-HoldsNot bytes number = (o : Outcome) × IsOutcome bytes o × (status_of o ≡ 1) × (number ≡ outcome_number o)
+HoldsNot bytes number = (o : Outcome) × IsOutcome Two bytes o × (status_of o ≡ 1) × (number ≡ outcome_number o)
 
 -- the file that names the nodes of g is refused, with this number: it is no graph file, or says another graph (87)
 abbrev pub NamesNot : Option (List ℕ) → LinkGraph → ℕ → Type 0
@@ -59,7 +60,7 @@ NamesNot (Some file) g number =
 abbrev pub IsPictureRefused : List ℕ → Option (List ℕ) → Option ChosenEntry → ℕ → Type 0
 IsPictureRefused bytes names entry number =
     HoldsNot bytes number
-    ⊎ ((f : Filed) × IsOutcome bytes (Holds f) × (((shown_paths f.cert entry ≡ None) × (number ≡ 86))
+    ⊎ ((f : Filed) × IsOutcome Two bytes (Holds f) × (((shown_paths f.cert entry ≡ None) × (number ≡ 86))
     ⊎ ((shown_paths f.cert entry ≢ None) × NamesNot names f.graph number)))
 
 -- ---- the picture
@@ -73,7 +74,7 @@ EndsAsAsked false text = (before : List ℕ) × (text ≡ before ++ codes "</svg
 -- a picture is drawn: a certificate holds in the bytes, it has the entry, and the file with names says its graph
 pub record IsDrawable (bytes : List ℕ) (names : Option (List ℕ)) (entry : Option ChosenEntry) : Type 0 where
   pub file : Filed
-  pub holds : IsOutcome bytes (Holds file)
+  pub holds : IsOutcome Two bytes (Holds file)
   pub has_entry : shown_paths file.cert entry ≢ None
   pub named : NamesGraph names file.graph
 

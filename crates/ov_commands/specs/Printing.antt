@@ -4,6 +4,7 @@ use Rattle.std.specs.Io.KnownBytes.{Appends}
 use Rattle.ov_certfile.specs.Number.{number_of}
 use Rattle.ov_certfile.specs.declared.fault.FileFault.{FileFault}
 use Rattle.ov_certfile.specs.declared.reading.Filed.{Filed}
+use Rattle.ov_certfile.specs.declared.version.Version.TheVariants.{Two}
 use Rattle.ov_check.specs.Outcome.{BytesSay}
 use Rattle.ov_graphfile.specs.GraphTexts.{graph_text}
 use Rattle.ov_io.specs.Device.{AppendsPrefixOf}
@@ -12,7 +13,7 @@ use Rattle.ov_commands.specs.declared.conversion_fault.ConversionFault.TheVarian
 
 -- these bytes are a certificate file, and this is the text of its graph as a graph file
 abbrev pub IsGraphTextOf : List ℕ → List ℕ → Type 0
-IsGraphTextOf bytes text = (f : Filed) × BytesSay bytes (Ok f) × (text ≡ graph_text f.graph)
+IsGraphTextOf bytes text = (f : Filed) × BytesSay Two bytes (Ok f) × (text ≡ graph_text f.graph)
 
 -- what a writer took of the graph of a certificate file: all of its text; a prefix of it, if writing failed; and
 -- nothing, if the bytes are no certificate file, with the number of their first fault, or if memory ran out
@@ -23,5 +24,5 @@ WasGraphPrinted bytes contents old new (Ok done) =
 WasGraphPrinted bytes contents old new (Err Write) =
     (text : List ℕ) × IsGraphTextOf bytes text × AppendsPrefixOf text (contents old) (contents new)
 WasGraphPrinted bytes contents old new (Err (Refused number)) =
-    (fault : FileFault) × BytesSay bytes (Err fault) × (number ≡ number_of fault) × (new ≡ old)
+    (fault : FileFault) × BytesSay Two bytes (Err fault) × (number ≡ number_of fault) × (new ≡ old)
 WasGraphPrinted bytes contents old new (Err OutOfMemory) = new ≡ old

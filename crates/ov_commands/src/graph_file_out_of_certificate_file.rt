@@ -8,7 +8,7 @@ ghost use Rattle.ov_commands.specs.declared.conversion_fault.ConversionFault.The
 ghost use Rattle.ov_commands.specs.declared.conversion_fault.ConversionFault.TheVariants.{Refused};
 
 use crate::conversion_fault::ConversionFault;
-use ov_certfile::{FileFault, RefusedFile};
+use ov_certfile::{FileFault, RefusedFile, Version};
 use ov_check::{Outcome, filed_in};
 use ov_check_reasons::reasons;
 use ov_graphfile::graph_text;
@@ -29,7 +29,7 @@ pub fn print_graph<W: Write>(
     requires { sink.old.faults < most_faults }
     ensures printed { WasGraphPrinted bytes.now W.contents sink.old.writer sink.new.writer result }
 {
-    match filed_in(rt.alloc(), bytes) {
+    match filed_in(rt.alloc(), Version::Two, bytes) {
         Ok(filed) => match graph_text(rt.alloc(), &filed.graph) {
             Ok(text) => written(rt, &text, sink),
             Err(_) => Err(told(rt, ConversionFault::OutOfMemory)),
@@ -80,7 +80,7 @@ fn print_reason(rt: &HostRuntime, refusal: RefusedFile) {
 
 /// Prints where bytes are no JSON. False if this is not known, and nothing was printed.
 pub(crate) fn tell_no_json(rt: &HostRuntime, bytes: &[u8]) -> bool {
-    match filed_in(rt.alloc(), bytes) {
+    match filed_in(rt.alloc(), Version::Two, bytes) {
         Ok(_) => false,
         Err(refusal) => {
             if !matches!(&refusal.fault, FileFault::NotJson(_)) {

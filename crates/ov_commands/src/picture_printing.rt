@@ -13,7 +13,7 @@ use crate::graph_file_out_of_certificate_file::{told, written};
 use crate::pairs_and_fans_tip::entries_of;
 use ov_arguments::{AskedEntry, PictureRequest};
 use ov_cert::Cert;
-use ov_certfile::Filed;
+use ov_certfile::{Filed, Version};
 use ov_check::{Outcome, outcome_of};
 use ov_check_reasons::reasons;
 use ov_drawing::{ChosenEntry, Drawing, PictureFault, draw};
@@ -46,7 +46,7 @@ pub fn print_picture<W: Write>(
     sink: &mut Sink<W>,
 ) -> Result<(), ConversionFault>
     requires { sink.old.faults < most_faults }
-    ensures holds { OnOk result (SaysExactNumber bytes.now) }
+    ensures holds { OnOk result (SaysExactNumber Version.Two bytes.now) }
     ensures printed { WasPicturePrinted bytes.now (option_map (λ file. file.now) names.entry)
         (chosen_entry request.now.entry) request.now.dot W.contents sink.old.writer sink.new.writer result }
 {
@@ -69,10 +69,10 @@ pub fn print_picture<W: Write>(
 
 /// The certificate file in these bytes, if its certificate holds. Else prints why not.
 fn held(rt: &HostRuntime, bytes: &[u8]) -> Result<Filed, ConversionFault>
-    ensures held { MatchResult result (λ filed. IsOutcome bytes.now (Holds filed)) (IsNotHeld bytes.now) }
-    ensures exact { OnOk result (SaysExactNumber bytes.now) }
+    ensures held { MatchResult result (λ filed. IsOutcome Version.Two bytes.now (Holds filed)) (IsNotHeld bytes.now) }
+    ensures exact { OnOk result (SaysExactNumber Version.Two bytes.now) }
 {
-    match outcome_of(rt.alloc(), bytes) {
+    match outcome_of(rt.alloc(), Version::Two, bytes) {
         Ok(Outcome::Holds(filed)) => Ok(filed),
         Ok(outcome) => Err(not_held(rt, &outcome)),
         Err(_) => Err(told(rt, ConversionFault::OutOfMemory)),

@@ -1,4 +1,5 @@
 //! What a person is told of certificate files that are almost right. More of it is an example (`tables` of `examples`).
+use ov_certfile::Version;
 use ov_check::{Outcome, outcome_of};
 use ov_check_reasons::reasons;
 use std::alloc::Global;
@@ -95,7 +96,7 @@ fn is_reason(alloc: Global, outcome: &Outcome, told: &str) -> bool {
 
 /// Whether of a file a person is told this.
 fn is_told(alloc: Global, file: &str, told: &str) -> bool {
-    match outcome_of(alloc, file.as_bytes()) {
+    match outcome_of(alloc, Version::Two, file.as_bytes()) {
         Ok(outcome) => is_reason(alloc, &outcome, told),
         Err(_) => false,
     }

@@ -1,23 +1,23 @@
 -- What is taken off the tokens of a file.
-use Rattle.std.specs.Prelude.{◌≡◌, ◌≤◌, ◌++◌, ℕ, List, length, codes, Option, Some, None, unwrap_or}
+use Rattle.std.specs.Prelude.{◌≡◌, ◌≤◌, ◌++◌, ℕ, Bool, List, length, codes, is_some, Option, Some, None, unwrap_or}
 use Rattle.json.specs.Token.{Token}
 use Rattle.json.specs.Tree.{members_tokens}
 use Rattle.serde_json.specs.Data.{Members, member}
 use Rattle.serde_json.specs.Written.{members_outline}
 use Rattle.ov_graph.specs.Links.{LinkGraph, IsGraph, most_nodes}
-use Rattle.ov_certfile.specs.Forms.{ids_in, links_in, last_moment}
-use Rattle.ov_certfile.specs.Kinds.{most_nodes_of}
+use Rattle.ov_certfile.specs.Forms.{ids_in, links_in, last_moment_of}
+use Rattle.ov_certfile.specs.Kinds.{most_nodes_of, version_number, names_group}
 use Rattle.ov_certfile.specs.DataOf.{ids_data, list_data, link_data, cert_members}
 use Rattle.ov_certfile.specs.Code.Writing.{CertReadsBack}
 use Rattle.ov_certfile.specs.declared.version.Version.{Version}
-use Rattle.ov_certfile.specs.declared.version.Version.TheVariants.{One, Two}
 use Rattle.ov_certfile.specs.declared.reading.Filed.{Filed}
 use Rattle.ov_certfile.specs.declared.token_reading.Content.{Content}
 
--- the version of a file that names this group, or none
-abbrev pub version_with : Option (List ℕ) → Version
-version_with None = One
-version_with (Some group) = Two
+-- files of this version are read, name a group if one is named, and may have this moment
+pub record Suits (newest : Version) (is_named : Bool) (moment : ℕ) (version : Version) : Type 0 where
+  pub read : version_number version ≤ version_number newest
+  pub named : names_group version ≡ is_named
+  pub within : moment ≤ last_moment_of version
 
 -- the members, with the group before them if it is named
 abbrev pub named_then : Option (List ℕ) → Members → Members
@@ -42,15 +42,14 @@ abbrev pub filed_in : Content → Filed
 filed_in c = record { moment = c.moment; graph = graph_in c; group = group_in c; cert = c.cert }
 
 -- the members of a file are taken off, with the brace that closes it, and the values written for them read back
-pub record TakesContent (c : Content) (old new : List Token) : Type 0 where
+pub record TakesContent (newest : Version) (c : Content) (old new : List Token) : Type 0 where
   pub members : old
-      ≡ members_tokens (members_outline (cert_members (version_with c.group) c.cert (graph_in c) (group_in c) c.moment))
-      ++ new
+      ≡ members_tokens (members_outline (cert_members c.version c.cert (graph_in c) (group_in c) c.moment)) ++ new
   pub cert : CertReadsBack c.cert
   pub nodes : ids_in (ids_data c.nodes) ≡ Some c.nodes
   pub links : links_in (list_data link_data c.links) ≡ Some c.links
   pub named : NamedReadsBack c.group
-  pub moment : c.moment ≤ last_moment
+  pub suits : Suits newest (is_some c.group) c.moment c.version
 
 -- the nodes and links are a graph within the limits of all graphs and of the version
 pub record IsGraphWithin (version : Version) (g : LinkGraph) : Type 0 where

@@ -1,5 +1,5 @@
 -- The texts that the functions append that write a file, and that what is written is read back.
-use Rattle.std.specs.Prelude.{◌≡◌, ◌≤◌, ◌++◌, ℕ, Bool, true, List, length, Some}
+use Rattle.std.specs.Prelude.{◌≡◌, ◌≤◌, ◌++◌, ℕ, Bool, true, List, length, MatchBool, Some}
 use Rattle.serde_json.specs.Data.{Data, Members}
 use Rattle.serde_json.specs.Written.{compact_text, members_text}
 use Rattle.ov_graph.specs.Links.{LinkGraph, IsGraph, most_nodes}
@@ -7,9 +7,9 @@ use Rattle.ov_cert.specs.declared.cert.Cert.{Cert}
 use Rattle.ov_cert.specs.declared.cert.Cert.TheVariants as cert
 use Rattle.ov_cert.specs.declared.cert.Split.{Split}
 use Rattle.ov_certfile.specs.Forms.{count_in, id_in, ids_in, links_in, pairs_in, fans_in}
+use Rattle.ov_certfile.specs.Kinds.{names_group}
 use Rattle.ov_certfile.specs.DataOf.{whole_data, ids_data, list_data, link_data, pair_data, fan_data}
 use Rattle.ov_certfile.specs.declared.version.Version.{Version}
-use Rattle.ov_certfile.specs.declared.version.Version.TheVariants.{One, Two}
 
 -- the text of a value was appended
 abbrev pub WritesValue : Data → List ℕ → List ℕ → Type 0
@@ -44,10 +44,9 @@ abbrev pub CertReadsBack : Cert → Type 0
 CertReadsBack (cert.Linked k) = count_in (whole_data k) ≡ Some k
 CertReadsBack (cert.Split c) = (count_in (whole_data c.k) ≡ Some c.k) × CutReadsBack c × EntriesReadBack c
 
--- the value written for a group in version 2 reads back
+-- the value written for a group reads back, if the version names one
 abbrev pub GroupReadsBack : Version → List ℕ → Type 0
-GroupReadsBack One group = Unit {0}
-GroupReadsBack Two group = ids_in (ids_data group) ≡ Some group
+GroupReadsBack version group = MatchBool (names_group version) (ids_in (ids_data group) ≡ Some group) (Unit {0})
 
 -- the values written in a file of this version read back
 pub record FileReadsBack (version : Version) (c : Cert) (g : LinkGraph) (group : List ℕ) : Type 0 where

@@ -1,6 +1,6 @@
 //! Files that are read token by token, as they are written, and with white space between their tokens.
 use crate::certificates::files;
-use ov_certfile::{Filed, in_form, to_text_group};
+use ov_certfile::{Filed, Version, in_form, to_text_group};
 use std::alloc::Global;
 
 /// Two linked nodes, spread over lines.
@@ -69,7 +69,7 @@ fn is_written(alloc: Global, filed: &Filed, file: &str) -> bool {
 
 /// Whether a text is read token by token, as what this file is written of.
 fn is_found(alloc: Global, text: &str, file: &str) -> bool {
-    match in_form(alloc, text) {
+    match in_form(alloc, Version::Two, text) {
         Ok(Some(filed)) => is_written(alloc, &filed, file),
         _ => false,
     }

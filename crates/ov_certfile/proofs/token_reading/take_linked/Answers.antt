@@ -7,11 +7,12 @@ returns c =
     let middle = c.in_ok-middle.middle in
     let told = c.in_ok-middle.ensures in
     record {
-      members = linked_taken middle.group middle.k middle.moment middle.links c.in_ok-nodes.nodes _ _ _ _ told.members
-          c.in_ok-nodes.ensures.taken (rw c.version_with.ensures at c.in_ok-take_end.ensures);
+      members = linked_taken c.in_ok-version.version middle.group middle.k middle.moment middle.links
+          c.in_ok-nodes.nodes _ _ _ _
+          c.in_ok-version.ensures.suits.named told.members c.in_ok-nodes.ensures.taken c.in_ok-version.ensures.taken;
       cert = told.k;
       nodes = c.in_ok-nodes.ensures.reads_back;
       links = told.links;
       named = told.group;
-      moment = told.moment;
+      suits = c.in_ok-version.ensures.suits;
     }

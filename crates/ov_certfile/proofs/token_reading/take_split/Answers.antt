@@ -8,11 +8,13 @@ returns c =
     let middle = c.in_ok-middle.middle in
     let told = c.in_ok-middle.ensures in
     record {
-      members = split_taken middle.k first.cut first.fans first.far c.in_ok-near.near c.in_ok-pairs.pairs
+      members = split_taken c.in_ok-version.version middle.k first.cut first.fans first.far c.in_ok-near.near
+          c.in_ok-pairs.pairs
           c.in_ok-side.side middle.group middle.moment middle.links c.in_ok-nodes.nodes _ _ _ _ _ _ _ _
-          c.in_ok-first.ensures.members told.members c.in_ok-near.ensures.taken c.in_ok-nodes.ensures.taken
+          c.in_ok-version.ensures.suits.named c.in_ok-first.ensures.members told.members c.in_ok-near.ensures.taken
+          c.in_ok-nodes.ensures.taken
           c.in_ok-pairs.ensures.taken c.in_ok-side.ensures.taken
-          (rw c.version_with.ensures at c.in_ok-take_end.ensures);
+          c.in_ok-version.ensures.taken;
       cert = (
         told.k,
         record {
@@ -26,5 +28,5 @@ returns c =
       nodes = c.in_ok-nodes.ensures.reads_back;
       links = told.links;
       named = told.group;
-      moment = told.moment;
+      suits = c.in_ok-version.ensures.suits;
     }

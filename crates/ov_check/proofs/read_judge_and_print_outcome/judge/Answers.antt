@@ -1,5 +1,6 @@
 -- What was read is what was judged, and its line was written.
 use Rattle.std.proofs.Common.{◌≡◌, List, ℕ, Result, Ok, Err, IsErrAnd, sym, ap, subst}
+use Rattle.ov_certfile.specs.declared.version.Version.TheVariants.{Two}
 use Rattle.ov_check.specs.Outcome.{IsOutcome, SaysExactNumber}
 use Rattle.ov_check.specs.Run.{IsRun}
 use Rattle.ov_check.specs.declared.read_or_write_fault.JudgeFault.{JudgeFault}
@@ -20,12 +21,12 @@ returns-in_err-write_line g c =
     let same = c.deref.ensures.value in
     let w = c.in_err-write_line.ensures in
     let fault = c.in_err-write_line.field-0.0 in
-    let is : IsRead (g.R.Read.remaining c.args.source.now.reader) bytes o = record {
+    let is : IsRead Two (g.R.Read.remaining c.args.source.now.reader) bytes o = record {
       all = c.in_ok-bytes.ensures.bytes;
-      comes_to = subst (λ (xs : List ℕ). IsOutcome xs o) same c.in_ok-outcome.ensures.outcome;
-      exact = λ zero. subst SaysExactNumber same (c.in_ok-outcome.ensures.exact zero);
+      comes_to = subst (λ (xs : List ℕ). IsOutcome Two xs o) same c.in_ok-outcome.ensures.outcome;
+      exact = λ zero. subst (SaysExactNumber Two) same (c.in_ok-outcome.ensures.exact zero);
     } in
-    let run = written g.R.Read.remaining g.W.Write.contents c.args.source.now c.read_all.new.self c.args.sink.now
+    let run = written Two g.R.Read.remaining g.W.Write.contents c.args.source.now c.read_all.new.self c.args.sink.now
     c.write_line.new.sink bytes o is c.in_ok-bytes.ensures.end c.in_ok-bytes.ensures.faults
     (c.in_ok-bytes.ensures.not_failed (λ e. absurd cc)) (Err fault)
     (record {
@@ -37,7 +38,7 @@ returns-in_err-write_line g c =
       no_memory = λ e. w.no_memory (same_fault ℕ (Unit {0}) fault OutOfMemory e);
     }) in
     let e = c.from_residual-in_err-write_line.ensures in
-    subst (IsRun g.R.Read.remaining g.W.Write.contents c.args.source.now c.args.sink.now c.read_all.new.self
+    subst (IsRun Two g.R.Read.remaining g.W.Write.contents c.args.source.now c.args.sink.now c.read_all.new.self
     c.write_line.new.sink) (sym (failed_so c.from_residual-in_err-write_line.result fault e.1)) run
 
 pub returns : goal.returns
@@ -45,12 +46,12 @@ returns g c =
     let bytes = c.in_ok-bytes.bytes.items in
     let o = c.in_ok-outcome.outcome in
     let same = c.deref.ensures.value in
-    let is : IsRead (g.R.Read.remaining c.args.source.now.reader) bytes o = record {
+    let is : IsRead Two (g.R.Read.remaining c.args.source.now.reader) bytes o = record {
       all = c.in_ok-bytes.ensures.bytes;
-      comes_to = subst (λ (xs : List ℕ). IsOutcome xs o) same c.in_ok-outcome.ensures.outcome;
-      exact = λ zero. subst SaysExactNumber same (c.in_ok-outcome.ensures.exact zero);
+      comes_to = subst (λ (xs : List ℕ). IsOutcome Two xs o) same c.in_ok-outcome.ensures.outcome;
+      exact = λ zero. subst (SaysExactNumber Two) same (c.in_ok-outcome.ensures.exact zero);
     } in
-    written g.R.Read.remaining g.W.Write.contents c.args.source.now c.read_all.new.self c.args.sink.now
+    written Two g.R.Read.remaining g.W.Write.contents c.args.source.now c.read_all.new.self c.args.sink.now
     c.write_line.new.sink bytes o is c.in_ok-bytes.ensures.end c.in_ok-bytes.ensures.faults
     (c.in_ok-bytes.ensures.not_failed (λ e. absurd cc)) (Ok c.status.result)
     (record {

@@ -21,12 +21,13 @@ returns-in_err-write_line-clause-run g c =
     let same = c.deref.ensures.value in
     let w = c.in_err-write_line.ensures in
     let fault = c.in_err-write_line.field-0.0 in
-    let is : IsRead (g.R.Read.remaining c.args.source.now.reader) bytes o = record {
+    let is : IsRead c.args.newest (g.R.Read.remaining c.args.source.now.reader) bytes o = record {
       all = c.in_ok-bytes.ensures.bytes;
-      comes_to = subst (λ (xs : List ℕ). IsOutcome xs o) same c.in_ok-outcome.ensures.outcome;
-      exact = λ zero. subst SaysExactNumber same (c.in_ok-outcome.ensures.exact zero);
+      comes_to = subst (λ (xs : List ℕ). IsOutcome c.args.newest xs o) same c.in_ok-outcome.ensures.outcome;
+      exact = λ zero. subst (SaysExactNumber c.args.newest) same (c.in_ok-outcome.ensures.exact zero);
     } in
-    let run = written g.R.Read.remaining g.W.Write.contents c.args.source.now c.read_all.new.self c.args.sink.now
+    let run = written c.args.newest g.R.Read.remaining g.W.Write.contents c.args.source.now c.read_all.new.self
+    c.args.sink.now
     c.write_line.new.sink bytes o is c.in_ok-bytes.ensures.end c.in_ok-bytes.ensures.faults
     (c.in_ok-bytes.ensures.not_failed (λ e. absurd cc)) (Err fault)
     (record {
@@ -38,7 +39,8 @@ returns-in_err-write_line-clause-run g c =
       no_memory = λ e. w.no_memory (same_fault ℕ (Unit {0}) fault OutOfMemory e);
     }) in
     let e = c.from_residual-in_err-write_line.ensures in
-    subst (IsRun g.R.Read.remaining g.W.Write.contents c.args.source.now c.args.sink.now c.read_all.new.self
+    subst (IsRun c.args.newest g.R.Read.remaining g.W.Write.contents c.args.source.now c.args.sink.now
+    c.read_all.new.self
     c.write_line.new.sink) (sym (failed_so c.from_residual-in_err-write_line.result fault e.1)) run
 
 pub returns-clause-run : goal.returns-clause-run
@@ -46,12 +48,12 @@ returns-clause-run g c =
     let bytes = c.in_ok-bytes.bytes.items in
     let o = c.in_ok-outcome.outcome in
     let same = c.deref.ensures.value in
-    let is : IsRead (g.R.Read.remaining c.args.source.now.reader) bytes o = record {
+    let is : IsRead c.args.newest (g.R.Read.remaining c.args.source.now.reader) bytes o = record {
       all = c.in_ok-bytes.ensures.bytes;
-      comes_to = subst (λ (xs : List ℕ). IsOutcome xs o) same c.in_ok-outcome.ensures.outcome;
-      exact = λ zero. subst SaysExactNumber same (c.in_ok-outcome.ensures.exact zero);
+      comes_to = subst (λ (xs : List ℕ). IsOutcome c.args.newest xs o) same c.in_ok-outcome.ensures.outcome;
+      exact = λ zero. subst (SaysExactNumber c.args.newest) same (c.in_ok-outcome.ensures.exact zero);
     } in
-    written g.R.Read.remaining g.W.Write.contents c.args.source.now c.read_all.new.self c.args.sink.now
+    written c.args.newest g.R.Read.remaining g.W.Write.contents c.args.source.now c.read_all.new.self c.args.sink.now
     c.write_line.new.sink bytes o is c.in_ok-bytes.ensures.end c.in_ok-bytes.ensures.faults
     (c.in_ok-bytes.ensures.not_failed (λ e. absurd cc)) (Ok (status_of o))
     (record {

@@ -12,7 +12,7 @@ around-requires c =
     let a = c.args in
     let split = a.split.now in
     let is = c.in_ok-text.ensures.text
-    ∙ ap (λ (t : Cert). compact_text (data_of t a.graph.now a.group.now a.moment)) c.requires.outline in
+    ∙ ap (λ (t : Cert). compact_text (data_of t a.graph.now a.group.now a.moment)) c.requires in
     let cut = c.in_ok-cut.ensures ∙ ap (λ (ids : List ℕ). length (compact_text (ids_data ids))) c.as_slice.ensures in
     let side = c.in_ok-side.ensures
     ∙ ap (λ (ids : List ℕ). length (compact_text (ids_data ids))) c.as_slice-2.ensures in
@@ -24,7 +24,7 @@ returns c =
     let split = a.split.now in
     let text = string_bytes c.in_ok-text.text in
     let is = c.in_ok-text.ensures.text
-    ∙ ap (λ (t : Cert). compact_text (data_of t a.graph.now a.group.now a.moment)) c.requires.outline in
+    ∙ ap (λ (t : Cert). compact_text (data_of t a.graph.now a.group.now a.moment)) c.requires in
     let cut = c.in_ok-cut.ensures ∙ ap (λ (ids : List ℕ). length (compact_text (ids_data ids))) c.as_slice.ensures in
     let side = c.in_ok-side.ensures
     ∙ ap (λ (ids : List ℕ). length (compact_text (ids_data ids))) c.as_slice-2.ensures in

@@ -6,8 +6,8 @@ use Rattle.ov_certfile.specs.DataOf.{data_of}
 use Rattle.ov_certwriter.specs.Code.Parts.{text_of_parts}
 use Rattle.ov_certwriter.proofs.Answering.{outline_whole, outline_filled, outline_hollow, same_file}
 use Rattle.ov_certwriter.proofs.Sending.{sent_before, sent_behind, same_sent, same_begun}
-use Rattle.ov_certwriter.proofs.certificate_writing.write_certificate.Goals as goal
-use Rattle.ov_certwriter.proofs.certificate_writing.write_certificate.Goals.{After-as_bytes, After-write_parts}
+use Rattle.ov_certwriter.proofs.certificate_writing.write_large_certificate.Goals as goal
+use Rattle.ov_certwriter.proofs.certificate_writing.write_large_certificate.Goals.{After-as_bytes, After-write_parts}
 
 -- the bytes that are lent are those of the file
 whole_is : (g : _) (c : After-as_bytes g) → c.as_bytes.result.now
@@ -32,8 +32,8 @@ parts_are g c =
     c.outline-outline.ensures.alike c.in-Split.is c.entries-entries.ensures) c.graph-graph.ensures
     c.members-group.ensures
 
-pub of-requires-clause-outline : goal.of-requires-clause-outline
-of-requires-clause-outline g c =
+pub of-requires : goal.of-requires
+of-requires g c =
     outline_hollow c.outline-outline.result.now c.in-Split.split c.in-Split.is c.outline-outline.ensures.no_paths
 
 pub returns-in_err-write_all-clause-prefix : goal.returns-in_err-write_all-clause-prefix
