@@ -15,9 +15,9 @@ use rand_pcg::Pcg64;
 use std::alloc::Global;
 use std::marker::Model;
 
-/// A scenario that is made line by line. It keeps its lines, and its text is written when it is asked for. The text says
-/// at any time a scenario whose lines to run are those that were added, each event with the next random words that the
-/// seed gives. Contracts see it as `ScriptState`. (Chosen here.)
+/// A scenario that is made line by line. It keeps its lines, and its text is written when it is asked for. The text
+/// says at any time a scenario whose lines to run are those that were added, each event with the next random words that
+/// the seed gives. Contracts see it as `ScriptState`. (Chosen here.)
 #[derive(Drop)]
 pub struct Script {
     params: Params,
