@@ -7,9 +7,9 @@ ghost use Rattle.ov_grow_commands.specs.declared.grow_command_fault.GrowCommandF
 
 use crate::grow_command_fault::GrowCommandFault;
 use crate::row_files::options_of_row;
+use ov_arguments::GrowRequest;
 use ov_grow::{GrowFault, grow};
 use ov_grow_options::GrowOptions;
-use ov_arguments::GrowRequest;
 use ov_ids::OutOfMemory;
 use ov_io::Sink;
 use std::alloc::Global;

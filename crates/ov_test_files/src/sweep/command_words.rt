@@ -1,8 +1,8 @@
 //! What the words after `overlay grow` and `overlay sweep` ask for. More of it is an example (`tables` of `examples`).
-use ov_grow_options::GrowOptions;
 use ov_arguments::{
     GrowArgumentsFault, Printed, SweepRequest, read_grow_arguments, read_sweep_arguments,
 };
+use ov_grow_options::GrowOptions;
 use ov_ids::Workers;
 use std::alloc::{AllocError, Global};
 
