@@ -6,6 +6,7 @@ from typing import Any, Dict, List, NamedTuple, Optional, Sequence, Set
 
 from .asked import Asked
 from .errors import BadDump
+from .limits import need_short
 from .values import PEER_KEYS, Said, Scalar, Views, is_list_of_names, items_of, key_in, one_of, said_of, short, text_in
 
 
@@ -88,7 +89,7 @@ def lists_in(value: Dict[str, Any]) -> Dict[str, Any]:
             found[key] = inner
         for other, it in inner.items() if isinstance(inner, dict) else ():
             if isinstance(it, (list, dict)):
-                found[f"{key}.{other}"] = it
+                found[f"{need_short(key)}.{other}"] = it
     return found
 
 

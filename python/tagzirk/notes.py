@@ -10,8 +10,8 @@ from typing import Callable, Counter, Dict, List, NamedTuple, Sequence, Set, Tup
 
 from .graphs import NamedGraph, shown
 
-# So many names, or pairs of names, are told.
-MOST_TOLD = 3
+# So many names, or pairs of names, are told; of longer names not each character is looked at.
+MOST_TOLD, MOST_LONG = 3, 1000
 # Words of a line that counts what the others have.
 COUNTING = frozenset("total sum count links edges nodes hosts rows lines records entries peers".split())
 PORT = re.compile(r"(.+):[0-9]{1,5}")
@@ -64,6 +64,8 @@ def bare(name: str) -> str:
     >>> bare("n1\\u200b") == "n1"
     True
     """
+    if name.isascii() and name.isprintable() or len(name) > MOST_LONG:
+        return name.strip()
     return "".join(it for it in unicodedata.normalize("NFKC", name) if unicodedata.category(it)[0] != "C").strip()
 
 

@@ -82,7 +82,7 @@ def field_of(views: Views, up: Up) -> Field:
     before = next((it for it in (HOST, LINK) if up.field.startswith(it)), "")
     name = up.field[len(before) :]
     if all(it.name != name for it in fields):
-        name = views.columns.get(name, name)
+        name = views.column(name)
     kinds = [it for it in fields if not before or it.is_of_hosts == (before == HOST)]
     found = [it for it in kinds if it.name == name] or [it for it in kinds if it.name.casefold() == name.casefold()]
     if not found:

@@ -17,8 +17,8 @@ NUMBER = re.compile(r"0|-?[1-9][0-9]{0,17}")
 TAG = re.compile(r"!|tag:yaml\.org,2002:(?:str|int|float|bool|null|seq|map|set|timestamp)")
 # How YAML begins, where the file's name does not say that it is YAML: an item of a list; a key with a list or an object
 # in brackets, which may go on in the next line; an object whose first key has no quotes.
-# A comment, with a word in it.
-COMMENT = re.compile(r"#[^\n]*\w[^\n]*")
+# A comment, and what it has that says anything.
+COMMENT, WORD = re.compile(r"#[^\n]*"), re.compile(r"\w")
 BRACKET = re.compile(r":\s*[\[{]")
 OBJECT = re.compile(r"\{\s*[^\s\"'{}\[\],:]+\s*:(?:\s.*)?")
 
@@ -156,7 +156,7 @@ def beside_in(text: str, reader: Reader) -> List[Tuple[str, Scalar]]:
         between.append(text[at:begin])
         between.append("\n" if text[begin:end].endswith("\n") else "")
         at = end
-    found = COMMENT.findall("".join([*between, text[at:]]))
+    found = [it for it in COMMENT.findall("".join([*between, text[at:]])) if WORD.search(it)]
     anchors = [it for it in reader.anchors if it not in reader.aliases]
     return [("comments", it) for it in found] + [("anchors", it) for it in anchors]
 
