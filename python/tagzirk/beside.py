@@ -6,7 +6,7 @@ import ast
 from typing import Dict, List, Optional
 
 from .fields import fields_of
-from .rows import Row, comments_in, rows_of
+from .rows import MARKED, Row, comments_in, rows_of
 from .states import Kind, kind_of
 from .values import Said, Scalar, Views, said_of
 
@@ -39,6 +39,15 @@ def with_comments(views: Views, text: str) -> Views:
     for it in comments_in(text):
         views.pass_over("comments", it)
     return views
+
+
+def may_say_more(text: str) -> bool:
+    """Whether lines of two names may have comments, or something behind the names.
+
+    >>> may_say_more("a b\\nb c\\n"), may_say_more("a b\\n; of today\\n")
+    (False, True)
+    """
+    return "#" in text or "}" in text or MARKED.search(text) is not None
 
 
 def plain_lines(text: str) -> Views:
