@@ -220,9 +220,8 @@ class Hunt:
     def merged(self, near: Dict[int, int], far: Dict[int, int]) -> NamedGraph[Any]:
         """The graph in which all surroundings of a host are that host."""
         node = {**{it: it for it in self.bits.nodes}, **near, **far}
-        ends = {(min(node[a], node[b]), max(node[a], node[b])) for a, b in self.graph.links}
         ids = {name: it for name, it in self.graph.ids.items() if node[it] == it}
-        return NamedGraph(ids, [[a, b] for a, b in sorted(ends) if a != b])
+        return NamedGraph(ids, self.graph.links_as(node))
 
 
 def worst(
