@@ -10,6 +10,8 @@ from .limits import need_short
 from .values import PEER_KEYS, Said, Scalar, Views, is_list_of_names, items_of, key_in, one_of, said_of, short, text_in
 
 
+# So many lists are told.
+MOST_TOLD = 24
 # What a further list says of each peer that it names.
 LISTED = "listed"
 
@@ -52,10 +54,10 @@ def enter_all(views: Views, entries: Sequence[Entry], asked: Asked) -> None:
         if lists is None:
             enter(views, it.name, {}, it.value, {}, asked)
         else:
-            of_host = said_of(it.value, lists.key or "", *lists.others, *lists.used)
-            enter(views, it.name, of_host, lists_in(it.value)[lists.key] if lists.key else None, lists.beside, asked)
+            of_host, inner = said_of(it.value, lists.key or "", *lists.others, *lists.used), lists_in(it.value)
+            enter(views, it.name, of_host, inner[lists.key] if lists.key else None, lists.beside, asked)
             for key in lists.others:
-                views.pass_over(key, text_in(lists_in(it.value)[key]))
+                views.pass_over(key, text_in(inner[key]))
 
 
 def enter(
@@ -65,9 +67,12 @@ def enter(
     if isinstance(peers, (str, int, float)):
         raise BadDump(f"the entry of {name} is no list of peers: {short(peers)}")
     views.enter(name, of_host)
+    of_peers: Dict[str, Dict[str, Scalar]] = {}
+    for field, values in beside.items():
+        for peer, value in values.items():
+            of_peers.setdefault(peer, {})[field] = value
     for peer, said in items_of(peers, asked.by):
-        more = {field: values[peer] for field, values in beside.items() if peer in values}
-        views.listing(name, peer, {**said, **more})
+        views.listing(name, peer, {**said, **of_peers.get(peer, {})})
 
 
 def is_peers_by_peers(entries: Sequence[Entry], hosts: Set[str]) -> bool:
@@ -114,7 +119,7 @@ def lists_of(entry: Entry, hosts: Set[str], asked: Asked) -> Lists:
         raise BadDump(without_peers(entry, lists))
     if key is None:
         return Lists(None, [], {}, [])
-    peers, found = names[key] or set(), Lists(key, [], {}, [])
+    peers, found, also_called = names[key] or set(), Lists(key, [], {}, []), set(called)
     for other, inner in lists.items():
         if other == key or key.startswith(f"{other}.") or other.startswith(f"{key}."):
             continue
@@ -122,7 +127,7 @@ def lists_of(entry: Entry, hosts: Set[str], asked: Asked) -> Lists:
         if of_each is not None:
             found.beside.update({f"{other}.{field}" if field else other: it for field, it in of_each.items()})
             found.used.append(other)
-        elif other in called or names[other] is not None and (names[other] or set()) & (hosts - {entry.name}):
+        elif other in also_called or any(it in hosts and it != entry.name for it in names[other] or ()):
             found.others.append(other)
     return found
 
@@ -190,8 +195,9 @@ def demand_one_list(said: Sequence[Lists], asked: Asked) -> None:
         return
     keys = {key: None for it in said if it.others for key in (it.key or "", *it.others)}
     if keys:
-        count = sum(bool(it.others) for it in said)
+        count, first = sum(bool(it.others) for it in said), list(keys)[:MOST_TOLD]
+        told = one_of(first if len(keys) <= MOST_TOLD else [*first, f"{len(keys) - MOST_TOLD} more"])
         raise SeveralLists(
-            f"{one_of(list(keys)).replace(' or ', ' and ')} may each be the list of a host's peers, and they differ "
+            f"{told.replace(' or ', ' and ')} may each be the list of a host's peers, and they differ "
             f"(in {count} of {len(said)} hosts): say --peers KEY"
         )

@@ -104,9 +104,9 @@ def named(value: Any) -> Tuple[str, Said]:
 
 def said_of_links(value: Any, views: Views) -> List[Tuple[int, Said]]:
     """What a list says of each link, if it has as many values."""
-    places = [at for at, it in enumerate(views.statements) if it.other is not None]
-    if not isinstance(value, list) or len(value) != len(places) or len(places) < 2:
+    if not isinstance(value, list) or len(value) != views.links or views.links < 2:
         return []
+    places = [at for at, it in enumerate(views.statements) if it.other is not None]
     return [(at, said_of(it) if isinstance(it, dict) else said_of({"": it})) for at, it in zip(places, value)]
 
 

@@ -80,12 +80,23 @@ def nodes_at(graph: Graph, line: Line, at: int) -> Tuple[List[str], int]:
             text = shape[0].strip(" []()<>{}/\\\t\"")
             said["class" if text.startswith(":::") else "label"] = text.strip(":")
             if not text.startswith(":::"):
-                said["shape"] = "".join(re.findall(r"^[\[({/\\]+|[\])}/\\]+$", shape[0].strip()))
+                said["shape"] = shape_of(shape[0].strip())
             shape = SHAPE.match(line.text, at)
         begin = behind_space(line, at)
         if not line.text.startswith("&", begin):
             return nodes, at
         at = begin + 1
+
+
+def shape_of(text: str) -> str:
+    """The brackets of a node's shape, without its text.
+
+    >>> shape_of("[/Oslo/]"), shape_of("((rome))")
+    ('[//]', '(())')
+    """
+    begin = text[: len(text) - len(text.lstrip("[({/\\"))]
+    inner = text[len(begin) :]
+    return begin + inner[len(inner.rstrip("])}/\\")) :]
 
 
 def behind_space(line: Line, at: int) -> int:

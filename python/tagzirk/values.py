@@ -65,6 +65,8 @@ class Views:
         self.kind = kind
         self.beside: List[Tuple[str, Scalar]] = [] if beside is None else beside
         self.columns: Sequence[str] = ()
+        # how many statements are of links and listings
+        self.links = 0
         # the hosts of statements that say nothing but that these have an entry
         self.bare: Set[str] = set()
 
@@ -90,12 +92,14 @@ class Views:
         """A host, which has an entry then, lists a peer, which this gives no entry. `said` is what stands beside it."""
         self.peers.setdefault(name, {})[peer] = None
         self.statements.append(Statement(name, peer, False, said or UNSAID))
+        self.links += 1
 
     def link(self, one: str, other: str, said: Optional[Said] = None) -> None:
         """Two hosts list each other."""
         self.peers.setdefault(one, {})[other] = None
         self.peers.setdefault(other, {})[one] = None
         self.statements.append(Statement(one, other, True, said or UNSAID))
+        self.links += 1
 
     def edge(self, one: str, other: str, is_directed: bool, said: Optional[Said] = None) -> None:
         """An edge: a link, or if it has a direction the listing of its first end; then both have an entry."""

@@ -283,6 +283,7 @@ GRAPHS = {
     "Mermaid of many shapes": lambda: filled("graph TD\na", "[b]"),
     "Mermaid of &": lambda: filled("graph TD\na", " & a"),
     "Mermaid of many &": lambda: filled("graph TD\n", " & ".join("ab" * 75) + "-->" + " & ".join("cd" * 75) + "\n"),
+    "Mermaid of a long shape": lambda: filled("graph TD\na[", "/", "x] --> b\n"),
     "Mermaid of open shapes": lambda: filled("graph TD\n", "a["),
     "DOT of edges": lambda: filled("graph {", "a--b;", "}"),
     "DOT of nested nodes, with directions": lambda: filled("digraph {" + "{" * 90, "a{}->a;".format, "}" * 91),
@@ -343,6 +344,13 @@ VALUES = {
         '{"a":{"peers":["b"]', ',"w{}":["c"]'.format, '},"b":[],"c":[]}'),
     "JSON of one host with many objects beside": lambda: filled(
         '{"a":{"peers":["b"]', ',"w{}":{{"b":1}}'.format, "}}"),
+    "JSON of one host with many lists of peers": lambda: filled(
+        '{"b":[],"c":[],"a":{"peers":{"x":["b"]', ',"w{}":["c"]'.format, "}}}"),
+    "JSON of one host with many peers and objects": lambda: filled(
+        '{"a":{"peers":["b"', ',"w{}"'.format, "]", SIZE // 2) + filled("", ',"o{}":{{"b":1}}'.format, "}}", SIZE // 2),
+    "JSON of many hosts, one with many lists": lambda: filled(
+        '{"a":[]', ',"w{}":[]'.format, ',"b":{"peers":["a"]', SIZE // 2) + filled(
+        "", ',"x{}":["z"]'.format, "}}", SIZE // 2),
     "JSON of hosts with many lists": lambda: json.dumps({f"h{at}": {"peers": [f"h{it}" for it in range(20)], **{
         f"l{to}": [f"h{it}" for it in range(20)] for to in range(10)}} for at in range(450)}),
     "JSON of empty objects": lambda: filled("[{}", ",{}", "]"),
@@ -373,6 +381,9 @@ VALUES = {
         nested('{"a":', "[" + "1," * 400000 + "1]", "}", 90)) + "}",
     "JSON of leftovers of each link": lambda: '{"nodes":["a","b"],"links":[' + ",".join(['["a","b"]'] * 300) + "]," + (
         filled('"x":1', lambda at: f',"w{at}":[{",".join(["1"] * 300)}]', "}", SIZE - 9999)),
+    "JSON of links and many lists": lambda: filled(
+        '{"nodes":["a","b"],"links":[["a","b"]', ',["a","b"]', "]", SIZE // 2) + filled(
+        "", ',"x{}":[1,2]'.format, "}", SIZE // 2),
     "JSON lines": lambda: filled("", '{"source":"a","target":"b"}\n'),
     "JSON lines of lists": lambda: filled("", '["a","b"]\n'),
     "JSON lines of hosts": lambda: filled("", '{{"host":"w{}","peers":["a"]}}\n'.format),
@@ -525,10 +536,12 @@ def cost_of(name, command="import"):
     data = made() if callable(made) else made
     environment = {**os.environ, "PYTHONPATH": str(PACKAGE)}
     with tempfile.TemporaryDirectory() as room:
-        place = pathlib.Path(room, "net.yaml" if name.startswith("YAML") else "net")
-        place.write_bytes(data if isinstance(data, bytes) else data.encode())
+        ending = ".yaml" if name.startswith("YAML") else ""
+        place, other = (pathlib.Path(room, f"{it}{ending}") for it in ("net", "other"))
+        for it in (place, other):
+            it.write_bytes(data if isinstance(data, bytes) else data.encode())
         # some commands take two dumps, or more words
-        words = {"diff": [str(place)], "mend": ["--to", "3"], "metrics": ["--textfile", "-"], "report": ["--html", "-"]}
+        words = {"diff": [str(other)], "mend": ["--to", "3"], "metrics": ["--textfile", "-"]}
         line = [sys.executable, "-B", "-c", RUN, command, str(place), *words.get(command, ())]
         return cost_of_line(line, environment, room)
 
