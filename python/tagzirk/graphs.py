@@ -66,7 +66,7 @@ class NamedGraph(Generic[Node]):
     @property
     def text(self) -> str:
         """The graph as a graph file, without names."""
-        return "".join([*(f"node {a}\n" for a in self.nodes), *self._link_lines()])
+        return "".join([*(f"node {a}\n" for a in self.nodes), self._link_lines])
 
     @property
     def text_with_names(self) -> str:
@@ -81,10 +81,11 @@ class NamedGraph(Generic[Node]):
         """
         names = self.names
         nodes = (f"# {a} {in_file(names[a])}\nnode {a}\n" for a in self.nodes)
-        return "".join([*nodes, *self._link_lines()])
+        return "".join([*nodes, self._link_lines])
 
-    def _link_lines(self) -> List[str]:
-        return [f"link {a} {b}\n" for a, b in self.links]
+    @cached_property
+    def _link_lines(self) -> str:
+        return "".join([f"link {a} {b}\n" for a, b in self.links])
 
     @property
     def pairs(self) -> List[Tuple[int, int]]:
@@ -109,6 +110,15 @@ class NamedGraph(Generic[Node]):
         """The graph with further links between its nodes."""
         pairs = sorted({*self.pairs, *((min(it), max(it)) for it in added)})
         return NamedGraph(self.ids, [[a, b] for a, b in pairs])
+
+    def links_as(self, node: Mapping[int, int]) -> List[List[int]]:
+        """The links, where each node is that for which it stands.
+
+        >>> named_graph([(1, 2), (2, 3), (3, 4)]).links_as({1: 1, 2: 1, 3: 3, 4: 1})
+        [[1, 3]]
+        """
+        pairs = ((node[a], node[b]) for a, b in self.links)
+        return [*map(list, sorted({(a, b) if a < b else (b, a) for a, b in pairs if a != b}))]
 
     def pieces(self, crashed: AbstractSet[int] = frozenset()) -> List[List[int]]:
         """The connected components that a crash of these nodes leaves, in the order of their lowest ids.

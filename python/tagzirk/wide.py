@@ -103,8 +103,7 @@ class Search:
         node. None if no two can be parted."""
         node = {it: it for it in self.graph.nodes}
         node.update((host, min(link)) for link in links for host in link)
-        ends = {(min(node[a], node[b]), max(node[a], node[b])) for a, b in self.graph.links}
-        merged = NamedGraph({it: it for it in sorted(set(node.values()))}, [[a, b] for a, b in sorted(ends) if a != b])
+        merged = NamedGraph({it: it for it in sorted(set(node.values()))}, self.graph.links_as(node))
         report = self.ask(merged, sorted(min(it) for it in links))
         return None if report.is_linked else set(report.cut)
 

@@ -56,6 +56,11 @@ class Notes(Dumps):
             ("addresses.edges", RING.replace("n", "10.0.0.")),
             ("domains.edges", RING.replace("n", "host").replace(" ", ".net ").replace("\n", ".net\n")),
             ("alone.edges", "a b\n"),
+            # two hosts that are linked to each other alone, as a part of an overlay that is split
+            ("pair.edges", RING + "n7 n8\n" + RING),
+            ("pair-last.edges", RING.replace("n", "ams-") + "hel-1 hel-2\nhel-2 hel-1\n"),
+            ("words.edges", "oslo rome\nrome bern\nbern oslo\nwien riga\nbern kiew\nkiew oslo\nrome kiew\n"),
+            ("host-of-a-word.edges", RING + "n1 peers\n"),
             ("none.json", '{"a": [], "b": []}'),
             ("hub.json", json.dumps({"hub": ["a", "b", "c"], **{it: ["hub"] for it in "abc"}})),
         ):
