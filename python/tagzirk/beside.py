@@ -8,7 +8,7 @@ from typing import Dict, List, Optional
 from .fields import fields_of
 from .rows import MARKED, Row, comments_in, rows_of
 from .states import Kind, kind_of
-from .values import Said, Scalar, Views, said_of
+from .values import UNSAID, Said, Scalar, Views, said_of
 from .written import Written
 
 # Brackets with more than this are not read.
@@ -32,6 +32,8 @@ def attributes_in(text: str) -> Dict[str, Scalar]:
 
 def said_behind(row: Row) -> Said:
     """What stands behind the names on a line: attributes, and a comment."""
+    if not row.attributes and not row.comment:
+        return UNSAID
     return {**attributes_in(row.attributes), **({"comment": row.comment} if row.comment else {})}
 
 

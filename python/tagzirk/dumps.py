@@ -377,7 +377,8 @@ def of_overlay(
         views = more_in_dot(data, dump, options, overlay)
         text = decoded(data) if form in OF_LINES else ""
         lines = plain_lines(text) if may_say_more(text) else Views()
-        tell_how_often(lines)
+        if options.asked.up:
+            tell_how_often(lines)
         if options.asked.up and any(it.said for it in lines.statements):
             views = lines
         elif views is None:

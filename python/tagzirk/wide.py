@@ -80,9 +80,12 @@ class Search:
         order = sorted(range(len(links)), key=links.__getitem__)
         for a in order:
             near = bits.around(bits.peers[a]) | bits.peers[a]
+            most = self.most_useful(len(links))
             for b in places_of(near >> a + 1 << a + 1):
                 number = number_of((bits.peers[a] | bits.peers[b]) & ~(1 << a | 1 << b))
-                self.try_pair(bits, a, b, number)
+                if number < most:
+                    self.try_pair(bits, a, b, number)
+                    most = self.most_useful(len(links))
             for b in order:
                 if links[a] + links[b] >= self.most_useful(len(links)):
                     break
