@@ -5,7 +5,7 @@ from __future__ import annotations
 import re
 import warnings
 from dataclasses import dataclass
-from functools import cached_property
+from functools import cached_property, lru_cache
 from typing import (AbstractSet, Any, Dict, Generic, Hashable, Iterable, List, Mapping, Optional, Sequence, Set, Tuple,
                     TypeVar, Union, cast)
 
@@ -28,7 +28,14 @@ UNSHOWN = re.compile(f"[{CONTROLS}\u061c\u200b\u200e\u200f\u2028-\u202e\u2060-\u
 def in_file(name: Any) -> str:
     """A name as one line, as `overlay import` writes it: control characters, and a backslash before `u{`, as codes. So
     are halves of surrogate pairs, which UTF-8 has not."""
-    return OF_FILES.sub(code, str(name).replace("\\u{", "\\u{5c}u{"))
+    return as_line(str(name))
+
+
+# One graph is written again and again, of at most so many hosts.
+@lru_cache(maxsize=1024)
+def as_line(text: str) -> str:
+    """The same of a text."""
+    return OF_FILES.sub(code, text.replace("\\u{", "\\u{5c}u{"))
 
 
 def shown(name: Any) -> str:

@@ -5,6 +5,7 @@ from __future__ import annotations
 
 import collections
 import re
+import string
 import unicodedata
 from typing import Callable, Counter, Iterable, List, Sequence, Set
 
@@ -15,6 +16,7 @@ from .states import STATE_WORDS
 # So many names are told; of fewer names than this nothing is; and of longer names not each character is looked at.
 MOST_TOLD, LEAST, MOST_LONG = 3, 3, 1000
 NUMBERS = re.compile("[0-9]+")
+LETTERS = str.maketrans({it: "A" if it.isupper() else "a" for it in string.ascii_letters})
 # What goes on with a part of a name, or with nothing.
 NO_SIGN = re.compile("[a-zA-Z0]?")
 # What the notes call them.
@@ -82,6 +84,8 @@ def shape(name: str) -> str:
     >>> shape("oslo-17"), shape("N3")
     ('aaaa-0', 'A0')
     """
+    if name.isascii():
+        return NUMBERS.sub("0", name.translate(LETTERS))
     letters = "".join("A" if it.isupper() else "a" if it.isalpha() else it for it in name)
     return NUMBERS.sub("0", letters)
 
@@ -92,7 +96,7 @@ def rare_signs(names: Iterable[str]) -> Set[str]:
     ends: Counter[str] = collections.Counter()
     inside: Set[str] = set()
     for name in every:
-        inner = name.strip("".join({it for it in name if not it.isalnum()}))
+        inner = name.strip("".join({it for it in set(name) if not it.isalnum()}))
         inside.update(inner)
         first = name.partition(inner)[0] if inner else name
         ends.update(set(first + name[len(first) + len(inner) :]))

@@ -57,6 +57,7 @@ def of_weights(text):
 
 
 def of_commas(text):
+    """The same, where a comma may stand between two words."""
     return of_words(text.replace(",", " "))
 
 
@@ -64,6 +65,8 @@ def of_rows(between, one, other):
     """The columns of these names in rows of CSV."""
 
     def read(text):
+        # what ends a line to Python's csv alone
+        assert not re.search("\r(?!\n)", text)
         rows = list(csv.reader(io.StringIO(text, newline=""), delimiter=between, skipinitialspace=True))
         head = [it.strip().lower() for it in rows[0]]
         places = head.index(one), head.index(other)
@@ -156,9 +159,8 @@ def of_dot(text):
 def readings():
     """The readings that can be asked here, by the names of forms."""
     found = {
-        **dict.fromkeys(("pairs", "tabs", "comments by #", "SNAP"), of_words),
+        **dict.fromkeys(("pairs", "tabs", "commas", "comments by #", "SNAP"), of_commas),
         **dict.fromkeys(("weights", "NCOL", "weights behind commas"), of_weights),
-        "commas": of_commas,
         **dict.fromkeys(("CSV", "CSV in quotes", "two tables one behind the other"), of_rows(",", "source", "target")),
         "CSV of Gephi": of_rows(";", "source", "target"),
         "psql": of_drawn,
