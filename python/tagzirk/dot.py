@@ -366,7 +366,7 @@ def of_dot(text: str) -> Views:
 
 def comments_in(text: str) -> List[str]:
     """The comments in a text of DOT that have a word in them."""
-    spaces, at = [], 0
+    spaces, at = [], 0 if any(it in text for it in ("#", "//", "/*")) else len(text)
     while at < len(text):
         found = TOKEN.match(text, at)
         kind = found.lastgroup if found else None

@@ -69,6 +69,8 @@ class Views:
         self.links = 0
         # the hosts of statements that say nothing but that these have an entry
         self.bare: Set[str] = set()
+        # whether it was asked how often each link and listing stands there
+        self.is_counted = False
 
     def emptied(self) -> Views:
         """The same dump without any host."""
