@@ -113,7 +113,7 @@ class Reader:
         self.edges: List[Tuple[str, str, Attributes]] = []
         self.ports: Dict[str, str] = {}
         self.implied, self.unnamed = 0, 0
-        # how often a node was put into a subgraph, or something was said of one as a member; and values by default
+        # how often a node was put into a subgraph, or something was said of one as a member; and values of both
         self.members, self.by_default = 0, 0
         # what is neither a node nor an edge, nor said of one
         self.beside: List[Tuple[str, Scalar]] = []
@@ -234,7 +234,7 @@ class Reader:
         if name not in self.attributes:
             need_few(len(self.attributes), "hosts")
             self.attributes[name] = {**part.inside(), **part.defaults["node"]}
-            self.count_defaults(part, "node")
+            self.count_values(len(part.defaults["node"]))
             for it in self.parts:
                 it.idle["node"].clear()
         else:
@@ -297,6 +297,7 @@ class Reader:
             pairs = [*itertools.islice(itertools.product(ones, others), MOST_IMPLIED + 1)]
             self.implied += len(pairs) if len(pairs) > 1 else 0
             need_few_implied(self.implied, "subgraphs as ends stand for many edges")
+            self.count_values(len(pairs) * len(beside))
             self.edges += [(one, other, beside) for one, other in pairs]
 
     def beside_edge(self, part: Part, said: Attributes) -> Attributes:
@@ -305,13 +306,12 @@ class Reader:
             part.of_edges = {**part.inside(), **part.defaults["edge"]}
         if not said:
             return part.of_edges
-        self.count_defaults(part, "edge")
         return {**part.of_edges, **said}
 
-    def count_defaults(self, part: Part, kind: str) -> None:
-        """Refuses very many values that nodes or edges have by default."""
-        self.by_default += len(part.defaults[kind])
-        need_few(self.by_default, "values by default")
+    def count_values(self, number: int) -> None:
+        """Refuses very many values of nodes and edges, which a short text may say of all of them."""
+        self.by_default += number
+        need_few(self.by_default, "values of nodes and edges")
 
     def list(self) -> Attributes:
         """The attributes in brackets, if such stand here."""
