@@ -6,9 +6,9 @@ import ast
 from typing import Dict, List, Optional
 
 from .fields import fields_of
-from .rows import Row, comments_in, rows_of
+from .rows import MARKED, Row, comments_in, rows_of
 from .states import Kind, kind_of
-from .values import Said, Scalar, Views, said_of
+from .values import UNSAID, Said, Scalar, Views, said_of
 from .written import Written
 
 # Brackets with more than this are not read.
@@ -32,6 +32,8 @@ def attributes_in(text: str) -> Dict[str, Scalar]:
 
 def said_behind(row: Row) -> Said:
     """What stands behind the names on a line: attributes, and a comment."""
+    if not row.attributes and not row.comment:
+        return UNSAID
     return {**attributes_in(row.attributes), **({"comment": row.comment} if row.comment else {})}
 
 
@@ -40,6 +42,29 @@ def with_comments(views: Views, text: str) -> Views:
     for it in comments_in(text):
         views.pass_over("comments", it)
     return views
+
+
+def may_say_more(text: str) -> bool:
+    """Whether lines of two names may have comments, or something behind the names; or are not written alike.
+
+    >>> may_say_more("a b\\nb c\\n"), may_say_more("a b\\n; of today\\n"), may_say_more("a b\\nb c\\nb a\\n")
+    (False, True, True)
+    """
+    return "#" in text or "}" in text or MARKED.search(text) is not None or not are_alike(text)
+
+
+def are_alike(text: str) -> bool:
+    """Whether lines of two names have the same sign between them, and each two names stand on one line."""
+    lines = [it for it in map(str.strip, text.split("\n")) if it]
+    if any(sign in text and not all(sign in it for it in lines) for sign in ",\t"):
+        return False
+    pairs = set()
+    for it in lines:
+        pair = tuple(sorted(it.replace(",", " ").split()))
+        if pair in pairs:
+            return False
+        pairs.add(pair)
+    return True
 
 
 def plain_lines(text: str) -> Views:

@@ -2,6 +2,7 @@
 
 from __future__ import annotations
 
+import sys
 from typing import Any, Iterable, Iterator, List
 
 from .graphs import NamedGraph
@@ -16,7 +17,7 @@ def number_of(hosts: Hosts) -> int:
     >>> number_of(0b1011)
     3
     """
-    return bin(hosts).count("1")
+    return hosts.bit_count() if sys.version_info >= (3, 10) else bin(hosts).count("1")
 
 
 def places_of(hosts: Hosts) -> Iterator[int]:

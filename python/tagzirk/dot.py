@@ -9,14 +9,14 @@ from typing import Dict, Iterable, Iterator, List, NamedTuple, Optional, Tuple
 
 from .errors import BadDump
 from .graph_files import NAME_OF_GRAPH
-from .limits import DEEPEST, MOST_IMPLIED, need_few, need_few_implied
+from .limits import DEEPEST, MOST_IMPLIED, MOST_NAME, need_few, need_few_implied, need_few_members, need_short
 from .rows import WORDS as OF_COMMENTS
 from .values import Scalar, Views
 
 NAME = r"[A-Za-z_\x80-\U0010ffff][A-Za-z0-9_\x80-\U0010ffff]*"
 TOKEN = re.compile(
-    rf"""(?P<space>[\s\ufeff]+|//[^\n]*|/\*(?:[^*]|\*(?!/))*\*/|(?<![^\n])\#[^\n]*)
-    |(?P<text>"(?:[^"\\]|\\.)*")|(?P<name>{NAME}|-?(?:\.[0-9]+|[0-9]+(?:\.[0-9]*)?))
+    rf"""(?P<space>[\s\ufeff]+|//[^\n]*|/\*[^*]*(?:\*(?!/)[^*]*)*\*/|(?<![^\n])\#[^\n]*)
+    |(?P<text>"[^"\\]*(?:\\.[^"\\]*)*")|(?P<name>{NAME}|-?(?:\.[0-9]+|[0-9]+(?:\.[0-9]*)?))
     |(?P<arrow>--|->)|(?P<mark>[{{}}\[\];,=:+])|(?P<html><)""",
     re.VERBOSE | re.DOTALL,
 )
@@ -84,11 +84,13 @@ class Part:
 
     def __init__(self, outer: Optional[Part] = None, name: Optional[str] = None) -> None:
         self.nodes: Dict[str, None] = {}
-        self.name: str = name or (outer.name if outer else "")
+        self.name: str = need_short(name or (outer.name if outer else ""))
         self.named: Dict[str, Part] = {}
         self.chain: List[Iterable[str]] = []
+        # what edges have that say nothing themselves
+        self.of_edges: Optional[Attributes] = None
         self.defaults: Dict[str, Attributes] = {
-            it: dict(outer.defaults[it]) if outer else {} for it in ("node", "edge", "graph")
+            it: outer.defaults[it] if outer else {} for it in ("node", "edge", "graph")
         }
         # the defaults that no node, or no edge, was made with so far
         self.idle: Dict[str, Attributes] = {"node": {}, "edge": {}}
@@ -111,6 +113,8 @@ class Reader:
         self.edges: List[Tuple[str, str, Attributes]] = []
         self.ports: Dict[str, str] = {}
         self.implied, self.unnamed = 0, 0
+        # how often a node was put into a subgraph, or something was said of one as a member; and values of both
+        self.members, self.by_default = 0, 0
         # what is neither a node nor an edge, nor said of one
         self.beside: List[Tuple[str, Scalar]] = []
 
@@ -179,11 +183,11 @@ class Reader:
         elif self.take("node", "edge", "graph"):
             if part.chain or self.token.text != "[":
                 raise self.fault(f"{kind} has a meaning in DOT: a host of this name needs quotes")
-            self.by_default(part, kind, self.list())
+            self.set_defaults(part, kind, self.list())
         else:
             self.node_or_value(part)
 
-    def by_default(self, part: Part, kind: str, said: Attributes) -> None:
+    def set_defaults(self, part: Part, kind: str, said: Attributes) -> None:
         """What nodes, or edges, have from here on; or what is said of the graph."""
         if kind == "graph":
             for key, value in said.items():
@@ -191,8 +195,9 @@ class Reader:
         else:
             self.leave_idle(part, kind, {key: it for key, it in part.idle[kind].items() if key in said})
             part.idle[kind].update(said)
-        part.defaults[kind].update(said)
-        for name in part.nodes if kind == "node" else ():
+        part.defaults[kind] = {**part.defaults[kind], **said}
+        part.of_edges = None
+        for name in self.members_of(part.nodes) if kind == "node" and len(self.parts) > 1 else ():
             more = self.of_members(part, name, said)
             self.attributes[name].update(more)
             for key in more:
@@ -229,16 +234,27 @@ class Reader:
         if name not in self.attributes:
             need_few(len(self.attributes), "hosts")
             self.attributes[name] = {**part.inside(), **part.defaults["node"]}
+            self.count_values(len(part.defaults["node"]))
             for it in self.parts:
                 it.idle["node"].clear()
         else:
             self.attributes[name].update(self.of_members(part, name, part.defaults["node"]))
         for it in self.parts:
-            it.nodes[name] = None
+            if name not in it.nodes:
+                it.nodes[name] = None
+                self.members += 1
+        need_few_members(self.members)
         for is_first in (True, False):
             if self.take(":"):
                 self.port(name, is_first)
         self.end(part, (name,), own=name)
+
+    def members_of(self, nodes: Iterable[str]) -> Iterable[str]:
+        """Nodes of a subgraph, of which something is said now. A short text may say it again and again of many."""
+        named = list(nodes)
+        self.members += len(named)
+        need_few_members(self.members)
+        return named
 
     def of_members(self, part: Part, name: str, defaults: Attributes) -> Attributes:
         """What being in a subgraph says of a node that was there before. Graphviz draws it without these defaults."""
@@ -272,16 +288,30 @@ class Reader:
             self.attributes[own].update(said)
         elif len(chain) == 1:
             self.unnamed += 1
-            for name in nodes:
+            for name in self.members_of(nodes):
                 self.attributes[name].setdefault("subgraph", f"unnamed {self.unnamed}")
-        beside = {**part.inside(), **part.defaults["edge"], **said} if len(chain) > 1 else said
+        beside = self.beside_edge(part, said) if len(chain) > 1 else said
         for it in self.parts if len(chain) > 1 else ():
             it.idle["edge"].clear()
         for ones, others in zip(chain, chain[1:]):
             pairs = [*itertools.islice(itertools.product(ones, others), MOST_IMPLIED + 1)]
             self.implied += len(pairs) if len(pairs) > 1 else 0
             need_few_implied(self.implied, "subgraphs as ends stand for many edges")
+            self.count_values(len(pairs) * len(beside))
             self.edges += [(one, other, beside) for one, other in pairs]
+
+    def beside_edge(self, part: Part, said: Attributes) -> Attributes:
+        """What stands beside an edge. Edges that say nothing themselves have the same in common."""
+        if part.of_edges is None:
+            part.of_edges = {**part.inside(), **part.defaults["edge"]}
+        if not said:
+            return part.of_edges
+        return {**part.of_edges, **said}
+
+    def count_values(self, number: int) -> None:
+        """Refuses very many values of nodes and edges, which a short text may say of all of them."""
+        self.by_default += number
+        need_few(self.by_default, "values of nodes and edges")
 
     def list(self) -> Attributes:
         """The attributes in brackets, if such stand here."""
@@ -330,13 +360,13 @@ def of_dot(text: str) -> Views:
             views.enter(name, attributes)
         elif name not in views.peers:
             # it is listed alone, and so has no entry
-            views.beside += [(f"{key} of {name}", value) for key, value in attributes.items()]
+            views.beside += [(f"{key} of {name[:MOST_NAME]}", value) for key, value in attributes.items()]
     return views
 
 
 def comments_in(text: str) -> List[str]:
     """The comments in a text of DOT that have a word in them."""
-    spaces, at = [], 0
+    spaces, at = [], 0 if any(it in text for it in ("#", "//", "/*")) else len(text)
     while at < len(text):
         found = TOKEN.match(text, at)
         kind = found.lastgroup if found else None

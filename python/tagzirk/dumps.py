@@ -13,7 +13,7 @@ from typing import Dict, List, NamedTuple, Optional, Sequence, TextIO, Tuple
 
 from .account import KNOWN, LEFT, account_of
 from .asked import Asked, demand_used
-from .beside import plain_lines
+from .beside import may_say_more, plain_lines
 from .errors import BadDump, LibraryMissing, Refused
 from .dot import of_dot
 from .folders import of_hosts
@@ -110,7 +110,7 @@ class Dump:
     @property
     def graph(self) -> NamedGraph[str]:
         """The graph, by the names of its hosts."""
-        return read_graph_file(self.graph_file)
+        return graph_in(self.graph_file)
 
     @property
     def left_out(self) -> int:
@@ -149,6 +149,10 @@ def read_graph_file(text: str) -> NamedGraph[str]:
             name = f"{name} ({place})"
         ids[name] = place
     return NamedGraph(ids, links)
+
+
+# It is asked for its notes first, and then for what a command asks.
+graph_in = lru_cache(maxsize=2)(read_graph_file)
 
 
 def comments_of(text: str) -> List[str]:
@@ -371,8 +375,10 @@ def of_overlay(
         views = of_dot(decoded(data))
     else:
         views = more_in_dot(data, dump, options, overlay)
-        lines = plain_lines(decoded(data)) if form in OF_LINES else Views()
-        tell_how_often(lines)
+        text = decoded(data) if form in OF_LINES else ""
+        lines = plain_lines(text) if may_say_more(text) else Views()
+        if options.asked.up:
+            tell_how_often(lines)
         if options.asked.up and any(it.said for it in lines.statements):
             views = lines
         elif views is None:

@@ -9,9 +9,9 @@ import functools
 import math
 import re
 from dataclasses import dataclass
-from typing import Counter, Dict, List, Optional, Sequence, Set, Tuple
+from typing import Counter, Dict, Iterable, List, Optional, Sequence, Set, Tuple
 
-from .values import Said, Scalar, Views
+from .values import FURTHER, MOST_DIFFERENT, Said, Scalar, Views
 
 NUMBER = re.compile(r"[-+]?([0-9]+(\.[0-9]*)?|\.[0-9]+)([eE][-+]?[0-9]{1,3})?")
 CLOCK = r"[0-9]{2}:[0-9]{2}(:[0-9]{2})?([.,][0-9]{1,9})?( ?(Z|UTC|[-+][0-9]{2}:?[0-9]{2}))?"
@@ -110,27 +110,42 @@ def text_of(value: Scalar) -> str:
 
 def fields_of(views: Views) -> List[Field]:
     """The fields of hosts, and those of listings and links."""
-    hosts: Dict[str, Dict[str, Scalar]] = {name: {} for name in views.peers}
-    links: List[Tuple[Tuple[str, ...], Said]] = []
+    hosts: Dict[str, Dict[str, List[Scalar]]] = {}
+    links = [it for it in views.statements if it.other is not None]
     for it in views.statements:
-        if it.other is None:
-            of_host = hosts[it.one]
-            for name, value in it.said.items():
-                # what is said twice, and otherwise, is both
-                is_new = name not in of_host or text_of(of_host[name]) == text_of(value)
-                of_host[name] = value if is_new else f"{text_of(of_host[name])},{text_of(value)}"
-        else:
-            links.append(((it.one, it.other), it.said))
-    kind = "links" if all(it.is_link for it in views.statements if it.other is not None) else "listings"
-    return [*of_kind("hosts", [((name,), said) for name, said in hosts.items()]), *of_kind(kind, links)]
+        for name, value in it.said.items() if it.other is None else ():
+            values = hosts.setdefault(it.one, {}).setdefault(name, [])
+            # what is said twice, and otherwise, is both
+            if len(values) == 1 and text_of(values[0]) == text_of(value):
+                values[0] = value
+            else:
+                values.append(value)
+    of_hosts = (((name,), {field: joined(them) for field, them in hosts[name].items()})
+                for name in views.peers if name in hosts)
+    of_links = (((it.one, str(it.other)), it.said) for it in links if it.said)
+    kind = "links" if all(it.is_link for it in links) else "listings"
+    return [*of_kind("hosts", of_hosts, len(views.peers)), *of_kind(kind, of_links, len(links))]
 
 
-def of_kind(kind: str, said: Sequence[Tuple[Tuple[str, ...], Said]]) -> List[Field]:
+def joined(values: List[Scalar]) -> Scalar:
+    """Several values as one text, or one value as it is."""
+    return values[0] if len(values) == 1 else ",".join(map(text_of, values))
+
+
+def of_kind(kind: str, said: Iterable[Tuple[Tuple[str, ...], Said]], count: int) -> List[Field]:
+    """The fields of hosts, or of links and listings, of which there are so many. Further fields than very many are one
+    together."""
     found: Dict[str, List[Tuple[Tuple[str, ...], Scalar]]] = {}
     for who, beside in said:
+        further: List[Scalar] = []
         for name, value in beside.items():
-            found.setdefault(name, []).append((who, value))
-    return [Field(kind, name, values, len(said) - len(values)) for name, values in found.items()]
+            if name != FURTHER and (name in found or len(found) < MOST_DIFFERENT):
+                found.setdefault(name, []).append((who, value))
+            else:
+                further.append(value)
+        if further:
+            found.setdefault(FURTHER, []).append((who, joined(further)))
+    return [Field(kind, name, values, count - len(values)) for name, values in found.items()]
 
 
 def number_of(value: Scalar) -> Optional[float]:

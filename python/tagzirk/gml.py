@@ -8,7 +8,7 @@ from typing import Dict, Iterator, List, NamedTuple, Optional, Tuple, Union
 
 from .errors import BadDump
 from .graph_files import Graph
-from .limits import DEEPEST
+from .limits import DEEPEST, need_short
 from .values import Scalar
 
 TOKEN = re.compile(r'(?P<space>\s+|#[^\n]*)|(?P<text>"[^"]*")|(?P<mark>[\[\]])|(?P<word>[^\s\[\]"#]+)')
@@ -69,10 +69,16 @@ def scalars(pairs: List[Pair]) -> Dict[str, Scalar]:
     """The values that are no lists, and those in lists by both keys with a dot between; of a key that stands several
     times all values as one text."""
     said: Dict[str, List[str]] = {}
-    for it in pairs:
-        inner = {"": it.value} if isinstance(it.value, str) else scalars(it.value)
-        for key, value in inner.items():
-            said.setdefault(f"{it.key}.{key}" if key else it.key, []).append(str(value))
+    more = [("", iter(pairs))]
+    while more:
+        before, items = more[-1]
+        it = next(items, None)
+        if it is None:
+            more.pop()
+        elif isinstance(it.value, str):
+            said.setdefault(f"{before}{it.key}", []).append(it.value)
+        else:
+            more.append((f"{need_short(before + it.key)}.", iter(it.value)))
     return {key: ",".join(values) for key, values in said.items()}
 
 

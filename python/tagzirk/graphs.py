@@ -5,7 +5,7 @@ from __future__ import annotations
 import re
 import warnings
 from dataclasses import dataclass
-from functools import cached_property
+from functools import cached_property, lru_cache
 from typing import (AbstractSet, Any, Dict, Generic, Hashable, Iterable, List, Mapping, Optional, Sequence, Set, Tuple,
                     TypeVar, Union, cast)
 
@@ -28,7 +28,14 @@ UNSHOWN = re.compile(f"[{CONTROLS}\u061c\u200b\u200e\u200f\u2028-\u202e\u2060-\u
 def in_file(name: Any) -> str:
     """A name as one line, as `overlay import` writes it: control characters, and a backslash before `u{`, as codes. So
     are halves of surrogate pairs, which UTF-8 has not."""
-    return OF_FILES.sub(code, str(name).replace("\\u{", "\\u{5c}u{"))
+    return as_line(str(name))
+
+
+# One graph is written again and again, of at most so many hosts.
+@lru_cache(maxsize=1024)
+def as_line(text: str) -> str:
+    """The same of a text."""
+    return OF_FILES.sub(code, text.replace("\\u{", "\\u{5c}u{"))
 
 
 def shown(name: Any) -> str:
@@ -66,7 +73,7 @@ class NamedGraph(Generic[Node]):
     @property
     def text(self) -> str:
         """The graph as a graph file, without names."""
-        return "".join([*(f"node {a}\n" for a in self.nodes), *self._link_lines()])
+        return "".join([*(f"node {a}\n" for a in self.nodes), self._link_lines])
 
     @property
     def text_with_names(self) -> str:
@@ -81,10 +88,11 @@ class NamedGraph(Generic[Node]):
         """
         names = self.names
         nodes = (f"# {a} {in_file(names[a])}\nnode {a}\n" for a in self.nodes)
-        return "".join([*nodes, *self._link_lines()])
+        return "".join([*nodes, self._link_lines])
 
-    def _link_lines(self) -> List[str]:
-        return [f"link {a} {b}\n" for a, b in self.links]
+    @cached_property
+    def _link_lines(self) -> str:
+        return "".join([f"link {a} {b}\n" for a, b in self.links])
 
     @property
     def pairs(self) -> List[Tuple[int, int]]:
@@ -109,6 +117,15 @@ class NamedGraph(Generic[Node]):
         """The graph with further links between its nodes."""
         pairs = sorted({*self.pairs, *((min(it), max(it)) for it in added)})
         return NamedGraph(self.ids, [[a, b] for a, b in pairs])
+
+    def links_as(self, node: Mapping[int, int]) -> List[List[int]]:
+        """The links, where each node is that for which it stands.
+
+        >>> named_graph([(1, 2), (2, 3), (3, 4)]).links_as({1: 1, 2: 1, 3: 3, 4: 1})
+        [[1, 3]]
+        """
+        pairs = ((node[a], node[b]) for a, b in self.links)
+        return [*map(list, sorted({(a, b) if a < b else (b, a) for a, b in pairs if a != b}))]
 
     def pieces(self, crashed: AbstractSet[int] = frozenset()) -> List[List[int]]:
         """The connected components that a crash of these nodes leaves, in the order of their lowest ids.

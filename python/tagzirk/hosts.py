@@ -7,6 +7,7 @@ from typing import Any, Dict, List, NamedTuple, Optional, Sequence, Set
 
 from .asked import Asked
 from .errors import BadDump
+from .limits import need_short
 from .values import (
     PEER_KEYS,
     Said,
@@ -24,6 +25,8 @@ from .values import (
 from .written import KEY, LIST, Written, way_of
 
 
+# So many lists are told.
+MOST_TOLD = 24
 # What a further list says of each peer that it names.
 LISTED = "listed"
 
@@ -68,11 +71,11 @@ def enter_all(views: Views, entries: Sequence[Entry], asked: Asked) -> None:
         if lists is None:
             enter(views, Host(it, LIST if it.value else "nobody", {}, it.value, {}), asked, written)
         else:
-            of_host = said_of(it.value, lists.key or "", *lists.others, *lists.used)
+            of_host, inner = said_of(it.value, lists.key or "", *lists.others, *lists.used), lists_in(it.value)
             peers = at_path(it.value, lists.key) if lists.key else None
             enter(views, Host(it, lists.key or "nobody", of_host, peers, lists.beside), asked, written)
             for key in lists.others:
-                views.pass_over(key, text_in(lists_in(it.value)[key]))
+                views.pass_over(key, text_in(inner[key]))
     written.tell()
 
 
@@ -92,16 +95,27 @@ def enter(views: Views, host: Host, asked: Asked, written: Written) -> None:
     name, peers = host.entry.name, host.peers
     if isinstance(peers, (str, int, float)):
         raise BadDump(f"the entry of {name} is no list of peers: {short(peers)}")
+    # it stands there, even if what stands before said so
+    views.bare.discard(name)
     written.next_is(host.key + host.entry.way)
     views.enter(name, host.said)
     listed = peers if isinstance(peers, list) else ()
     ways = [way_of(it, asked.by) for it in listed if it is not None]
     if len(ways) < len(listed):
         views.pass_over("null among peers", f"of {name}")
+    of_peers = by_peer(host.beside)
     for at, (peer, said) in enumerate(items_of(peers, asked.by)):
-        more = {field: values[peer] for field, values in host.beside.items() if peer in values}
         written.next_is(ways[at] if ways else KEY)
-        views.listing(name, peer, {**said, **more})
+        views.listing(name, peer, {**said, **of_peers.get(peer, {})})
+
+
+def by_peer(beside: Dict[str, Dict[str, Scalar]]) -> Dict[str, Dict[str, Scalar]]:
+    """What is said of each peer, by fields, of values by fields and peers."""
+    found: Dict[str, Dict[str, Scalar]] = {}
+    for field, values in beside.items():
+        for peer, value in values.items():
+            found.setdefault(peer, {})[field] = value
+    return found
 
 
 def is_peers_by_peers(entries: Sequence[Entry], hosts: Set[str]) -> bool:
@@ -123,7 +137,7 @@ def lists_in(value: Dict[str, Any]) -> Dict[str, Any]:
             found[key] = inner
         for other, it in inner.items() if isinstance(inner, dict) else ():
             if isinstance(it, (list, dict)):
-                found[f"{key}.{other}"] = it
+                found[f"{need_short(key)}.{other}"] = it
     return found
 
 
@@ -152,7 +166,7 @@ def lists_of(entry: Entry, hosts: Set[str], asked: Asked) -> Lists:
         raise BadDump(without_peers(entry, lists))
     if key is None:
         return Lists(None, [], {}, [])
-    peers, found = names[key] or set(), Lists(key, [], {}, [])
+    peers, found, also_called = names[key] or set(), Lists(key, [], {}, []), set(called)
     for other, inner in lists.items():
         if other == key or key.startswith(f"{other}.") or other.startswith(f"{key}."):
             continue
@@ -160,7 +174,7 @@ def lists_of(entry: Entry, hosts: Set[str], asked: Asked) -> Lists:
         if of_each is not None:
             found.beside.update({f"{other}.{field}" if field else other: it for field, it in of_each.items()})
             found.used.append(other)
-        elif other in called or names[other] is not None and (names[other] or set()) & (hosts - {entry.name}):
+        elif other in also_called or any(it in hosts and it != entry.name for it in names[other] or ()):
             found.others.append(other)
     return found
 
@@ -228,8 +242,9 @@ def demand_one_list(said: Sequence[Lists], asked: Asked) -> None:
         return
     keys = {key: None for it in said if it.others for key in (it.key or "", *it.others)}
     if keys:
-        count = sum(bool(it.others) for it in said)
+        count, first = sum(bool(it.others) for it in said), list(keys)[:MOST_TOLD]
+        told = one_of(first if len(keys) <= MOST_TOLD else [*first, f"{len(keys) - MOST_TOLD} more"])
         raise SeveralLists(
-            f"{one_of(list(keys)).replace(' or ', ' and ')} may each be the list of a host's peers, and they differ "
+            f"{told.replace(' or ', ' and ')} may each be the list of a host's peers, and they differ "
             f"(in {count} of {len(said)} hosts): say --peers KEY"
         )

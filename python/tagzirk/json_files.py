@@ -9,7 +9,7 @@ from typing import Any, Dict, List, Tuple
 from .errors import BadDump
 
 # A text in quotes, which need not have an end; or a comma right before a closing bracket.
-LAST_COMMA = re.compile(r'"(?:[^"\\]|\\.)*(?:"|\\?\Z)|,(?=\s*[}\]])', re.DOTALL)
+LAST_COMMA = re.compile(r'"[^"\\]*(?:\\.[^"\\]*)*(?:"|\\?\Z)|,(?=\s*[}\]])', re.DOTALL)
 # How many digits a whole number may have.
 MOST_DIGITS = 1000
 

@@ -7,6 +7,7 @@ from typing import Any, List, Mapping, NamedTuple, Optional, Set, Tuple
 
 from .errors import BadDump
 from .hosts import LISTED
+from .limits import need_short
 from .values import Said, Scalar, Views, is_scalar, item_of, said_of, text_in
 
 # Deeper than this nothing is read by itself.
@@ -57,6 +58,7 @@ def take(views: Views, key: str, value: Any, names: Mapping[str, str], deep: int
     if of_hosts or of_links:
         return
     inner = value if isinstance(value, dict) and deep else {}
+    need_short(key if inner else "")
     for other, it in inner.items():
         if isinstance(it, (dict, list)):
             take(views, f"{key}.{other}", it, names, deep - 1)
@@ -72,6 +74,7 @@ def left_in(value: Any, parts: Set[int], path: str, deep: int) -> Optional[List[
     if not deep or not isinstance(value, (dict, list)):
         return None
     inner = value.items() if isinstance(value, dict) else (("", it) for it in value)
+    need_short(path)
     keyed = [(".".join(filter(None, (path, str(key)))), it) for key, it in inner]
     found = [(key, it, left_in(it, parts, key, deep - 1)) for key, it in keyed]
     if all(left is None for _, _, left in found):
@@ -101,9 +104,9 @@ def named(value: Any) -> Tuple[str, Said]:
 
 def said_of_links(value: Any, views: Views) -> List[Tuple[int, Said]]:
     """What a list says of each link, if it has as many values."""
-    places = [at for at, it in enumerate(views.statements) if it.other is not None]
-    if not isinstance(value, list) or len(value) != len(places) or len(places) < 2:
+    if not isinstance(value, list) or len(value) != views.links or views.links < 2:
         return []
+    places = [at for at, it in enumerate(views.statements) if it.other is not None]
     return [(at, said_of(it) if isinstance(it, dict) else said_of({"": it})) for at, it in zip(places, value)]
 
 

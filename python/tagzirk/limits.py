@@ -13,12 +13,16 @@ MOST = 600_000
 # How many links, hosts or values a short text may stand for: by subgraphs as ends in DOT, by aliases in YAML, by a
 # count of hosts.
 MOST_IMPLIED = 100_000
+# How often a node may be put into a subgraph of DOT, or something be said of all nodes of one.
+MOST_MEMBERS = 1_000_000
 # How many bytes a packed dump may have when it is unpacked.
-MOST_UNPACKED = 2_000_000
+MOST_UNPACKED = 1_000_000
 # How many bytes of the begin of a packed file are looked at.
 MOST_HEAD = 70_000
 # How many bytes of YAML are read where libyaml is not there, in Python alone.
 MOST_SLOW_YAML = 300_000
+# How long the name of a field, or of what values stand in, may be: it stands before the name of each of them.
+MOST_NAME = 200
 # How deep values may be nested.
 DEEPEST = 100
 
@@ -35,6 +39,19 @@ def need_few_implied(count: int, what: str) -> None:
     """Refuses what a short text stands for, if that is too much."""
     if count > MOST_IMPLIED:
         raise BadDump(f"its {what}, more than {MOST_IMPLIED:,}: write them out")
+
+
+def need_short(name: str) -> str:
+    """The name of a field, or of what values stand in. Refused is a very long one."""
+    if len(name) > MOST_NAME:
+        raise BadDump(f"values stand below a name of {len(name):,} characters, which begins {name[:40]}")
+    return name
+
+
+def need_few_members(count: int) -> None:
+    """Refuses subgraphs in one another, or said again and again, that stand for very many nodes."""
+    if count > MOST_MEMBERS:
+        raise BadDump(f"its subgraphs name or have nodes more than {MOST_MEMBERS:,} times: write them out once")
 
 
 def need_declarable(count: int) -> None:

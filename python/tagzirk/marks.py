@@ -5,6 +5,7 @@ from __future__ import annotations
 
 import collections
 import re
+import string
 import unicodedata
 from typing import Callable, Counter, Iterable, List, Sequence, Set
 
@@ -12,9 +13,12 @@ from .fields import words_of
 from .graphs import shown
 from .states import STATE_WORDS
 
-# So many names are told; and of fewer names than this nothing is.
-MOST_TOLD, LEAST = 3, 3
+# So many names are told; of fewer names than this nothing is; and of longer names not each character is looked at.
+MOST_TOLD, LEAST, MOST_LONG = 3, 3, 1000
 NUMBERS = re.compile("[0-9]+")
+LETTERS = str.maketrans({it: "A" if it.isupper() else "a" for it in string.ascii_letters})
+# What goes on with a part of a name, or with nothing.
+NO_SIGN = re.compile("[a-zA-Z0]?")
 # What the notes call them.
 MARKS, WORDS = "marks in names", "words of a state in names"
 
@@ -53,15 +57,25 @@ def marked(names: Sequence[str]) -> List[str]:
         without.append(lambda name: bare(name, signs).lower())
     found: List[str] = []
     for way in without:
-        shapes = {shape(it) for it in names if way(it) == it}
-        found += [it for it in names if it not in found and way(it) and way(it) != it and shape(way(it)) in shapes]
+        ways = {it: way(it) for it in names if it not in found}
+        shapes = {shape(it) for it in ways if ways[it] == it}
+        found += [name for name, rest in ways.items() if rest not in ("", name) and shape(rest) in shapes]
     (usual, number), *_ = collections.Counter(map(shape, names)).most_common(1)
     odd = [it for it in names if it not in found and shape(it) != usual]
     if number + len(odd) + len(found) == len(names):
-        begin, end = (re.escape(usual), r"[^a-zA-Z0]")
-        beside = re.compile(f"{begin}{end}.*|.*{end}{begin}")
-        found += [it for it in odd if beside.fullmatch(shape(it))]
+        found += [it for it in odd if stands_beside(usual, shape(it))]
     return found
+
+
+def stands_beside(usual: str, other: str) -> bool:
+    """Whether a shape is the usual one, and a sign with anything in front of it or behind it.
+
+    >>> stands_beside("aaaa-0", "aaaa-0.a"), stands_beside("aaaa-0", "aaaa-0a")
+    (True, False)
+    """
+    behind, before = other[len(usual) : len(usual) + 1], other[-len(usual) - 1 : -len(usual)]
+    is_begin = other.startswith(usual) and not NO_SIGN.fullmatch(behind)
+    return is_begin or other.endswith(usual) and not NO_SIGN.fullmatch(before)
 
 
 def shape(name: str) -> str:
@@ -70,6 +84,8 @@ def shape(name: str) -> str:
     >>> shape("oslo-17"), shape("N3")
     ('aaaa-0', 'A0')
     """
+    if name.isascii():
+        return NUMBERS.sub("0", name.translate(LETTERS))
     letters = "".join("A" if it.isupper() else "a" if it.isalpha() else it for it in name)
     return NUMBERS.sub("0", letters)
 
@@ -80,7 +96,7 @@ def rare_signs(names: Iterable[str]) -> Set[str]:
     ends: Counter[str] = collections.Counter()
     inside: Set[str] = set()
     for name in every:
-        inner = name.strip("".join({it for it in name if not it.isalnum()}))
+        inner = name.strip("".join({it for it in set(name) if not it.isalnum()}))
         inside.update(inner)
         first = name.partition(inner)[0] if inner else name
         ends.update(set(first + name[len(first) + len(inner) :]))
@@ -89,8 +105,10 @@ def rare_signs(names: Iterable[str]) -> Set[str]:
 
 def bare(name: str, signs: Set[str]) -> str:
     """A name without such signs at its ends, and without what is drawn over a letter or not seen."""
-    plain = unicodedata.normalize("NFKC", unicodedata.normalize("NFC", name))
-    seen = "".join(latin(it) for it in plain if unicodedata.category(it)[0] not in "MC")
+    seen = name
+    if not (name.isascii() and name.isprintable()) and len(name) <= MOST_LONG:
+        plain = unicodedata.normalize("NFKC", unicodedata.normalize("NFC", name))[:MOST_LONG]
+        seen = "".join(latin(it) for it in plain if unicodedata.category(it)[0] not in "MC")
     return seen.strip("".join(signs)) if signs else seen
 
 

@@ -14,6 +14,7 @@ BEGIN = re.compile(r"(?:%%[^\n]*\n\s*)*(?:graph|flowchart)[ \t]+(?:TB|TD|BT|LR|R
 # A node, whose text in brackets and class are passed over; and an arrow, which may have a text.
 NODE = re.compile(r"\s*([^\s\[\](){}<>|&;:@~=-](?:[^\s\[\](){}<>|&;:@~=-]|-(?![-.]))*)")
 SHAPE = re.compile(r"\s*(?:\[[^\]]*\]+|\([^)]*\)+|\{[^}]*\}+|:::\w+)")
+SPACE = re.compile(r"\s*")
 ARROW = re.compile(r"\s*(<?(?:-{2,}|={2,}|-\.+-)[>ox]?)(?:\s*\|([^|]*)\|)?")
 # Words that begin a line which says no link.
 OTHERS = ("subgraph", "end", "classDef", "class", "style", "linkStyle", "click", "direction", "accTitle", "accDescr")
@@ -50,7 +51,7 @@ def mermaid(text: str) -> Graph:
 def read_chain(graph: Graph, line: Line) -> None:
     """Takes in one statement: nodes, with arrows between them."""
     ones, at = nodes_at(graph, line, 0)
-    while line.text[at:].strip():
+    while behind_space(line, at) < len(line.text):
         found = ARROW.match(line.text, at)
         if not found:
             raise BadDump(f"{line.place}no arrow of Mermaid begins at {line.text[at:].strip()[:40]}")
@@ -79,9 +80,26 @@ def nodes_at(graph: Graph, line: Line, at: int) -> Tuple[List[str], int]:
             text = shape[0].strip(" []()<>{}/\\\t\"")
             said["class" if text.startswith(":::") else "label"] = text.strip(":")
             if not text.startswith(":::"):
-                said["shape"] = "".join(re.findall(r"^[\[({/\\]+|[\])}/\\]+$", shape[0].strip()))
+                said["shape"] = shape_of(shape[0].strip())
             shape = SHAPE.match(line.text, at)
-        rest = line.text[at:].lstrip()
-        if not rest.startswith("&"):
+        begin = behind_space(line, at)
+        if not line.text.startswith("&", begin):
             return nodes, at
-        at = len(line.text) - len(rest) + 1
+        at = begin + 1
+
+
+def shape_of(text: str) -> str:
+    """The brackets of a node's shape, without its text.
+
+    >>> shape_of("[/Oslo/]"), shape_of("((rome))")
+    ('[//]', '(())')
+    """
+    begin = text[: len(text) - len(text.lstrip("[({/\\"))]
+    inner = text[len(begin) :]
+    return begin + inner[len(inner.rstrip("])}/\\")) :]
+
+
+def behind_space(line: Line, at: int) -> int:
+    """Where the next character stands from some place on that is no space."""
+    found = SPACE.match(line.text, at)
+    return found.end() if found else at

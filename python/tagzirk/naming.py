@@ -12,6 +12,8 @@ from .graphs import shown
 # What ends a short name: the rest is a domain or a port.
 ENDS = ".:"
 MOST_TOLD = 5
+# No short name has so many characters.
+MOST_LONG = 200
 
 
 def hosts_of(words: Iterable[str], names: Sequence[str], option: str) -> List[str]:
@@ -54,7 +56,7 @@ def short_names(names: Iterable[str]) -> Dict[str, List[str]]:
     """
     short: Dict[str, List[str]] = {}
     for name in names:
-        for at, sign in enumerate(name):
+        for at, sign in enumerate(name[:MOST_LONG]):
             if sign in ENDS and at:
                 short.setdefault(name[:at], []).append(name)
     return short

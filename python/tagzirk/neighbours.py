@@ -17,6 +17,8 @@ from .written import Written
 LGL, METIS = "LGL", "METIS"
 # What may stand between two names on a line.
 BETWEEN = re.compile(r"\s*,\s*|\s+")
+# A number of METIS.
+WHOLE = re.compile("[0-9]{1,9}")
 
 
 def is_adjacency(rows: List[Row]) -> bool:
@@ -113,17 +115,18 @@ def metis(text: str) -> Graph:
     >>> metis("3 2\\n2\\n1 3\\n2\\n").views().value
     {'1': ['2'], '2': ['1', '3'], '3': ['2']}
     """
-    lines = [line.split() for line in text.split("\n") if not line.startswith("%")]
-    begin = next((at for at, words in enumerate(lines) if words), 0)
-    head, lists = lines[begin], lines[begin + 1 :]
-    if not 2 <= len(head) <= 4 or not all(re.fullmatch("[0-9]{1,9}", it) for words in lines for it in words):
+    lines = [line for line in text.split("\n") if not line.startswith("%")]
+    begin = next((at for at, line in enumerate(lines) if line.strip()), 0)
+    head, rows = lines[begin].split(), lines[begin + 1 :]
+    if not 2 <= len(head) <= 4 or not all(WHOLE.fullmatch(it) for line in lines for it in line.split()):
         raise BadDump("METIS is lines of whole numbers, the first of which has those of hosts and links")
     count, links = int(head[0]), int(head[1])
     need_declarable(count)
-    while len(lists) > count and not lists[-1]:
-        lists.pop()
-    if len(lists) != count:
-        raise BadDump(f"it declares {count} hosts, and has lists of {len(lists)}: is it torn?")
+    while len(rows) > count and not rows[-1].strip():
+        rows.pop()
+    if len(rows) != count:
+        raise BadDump(f"it declares {count} hosts, and has lists of {len(rows)}: is it torn?")
+    lists = [row.split() for row in rows]
     form = (head[2] if len(head) > 2 else "").zfill(3)
     before = (form[-3] == "1") + (int(head[3]) if len(head) > 3 else 1) * (form[-2] == "1")
     has_weights = form[-1] == "1"
@@ -153,7 +156,7 @@ def weights_of(lists: List[List[str]], has_weights: bool) -> Dict[Tuple[int, int
 def is_metis(text: str, first: Row) -> bool:
     """Whether a text with this first row is as METIS says beyond doubt: it has as many lists, and each link at both
     ends, as it declares."""
-    if not all(map(re.compile("[0-9]{1,9}").fullmatch, first.words)) or int(first.words[0]) > text.count("\n"):
+    if not all(map(WHOLE.fullmatch, first.words)) or int(first.words[0]) > text.count("\n"):
         return False
     try:
         metis(text)

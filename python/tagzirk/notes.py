@@ -6,14 +6,18 @@ from __future__ import annotations
 import collections
 import re
 import unicodedata
-from typing import Callable, Counter, Dict, List, NamedTuple, Sequence, Set, Tuple
+from typing import Callable, Counter, Dict, FrozenSet, List, NamedTuple, Sequence, Set, Tuple
 
 from .graphs import NamedGraph, shown
+from .values import HOST_FIELDS, LINK_ENDS, PEER_FIELDS
 
-# So many names, or pairs of names, are told.
-MOST_TOLD = 3
+# So many names, or pairs of names, are told; of longer names not each character is looked at.
+MOST_TOLD, MOST_LONG = 3, 1000
 # Words of a line that counts what the others have.
 COUNTING = frozenset("total sum count links edges nodes hosts rows lines records entries peers".split())
+# Words of a header, or of a line that counts.
+OF_HEADERS = COUNTING.union(HOST_FIELDS, PEER_FIELDS, *LINK_ENDS)
+LETTERS, DIGITS = re.compile(r"[^\W\d_]+"), re.compile("[0-9]+")
 PORT = re.compile(r"(.+):[0-9]{1,5}")
 ADDRESS = re.compile(r"[0-9.]+")
 
@@ -64,6 +68,8 @@ def bare(name: str) -> str:
     >>> bare("n1\\u200b") == "n1"
     True
     """
+    if name.isascii() and name.isprintable() or len(name) > MOST_LONG:
+        return name.strip()
     return "".join(it for it in unicodedata.normalize("NFKC", name) if unicodedata.category(it)[0] != "C").strip()
 
 
@@ -108,23 +114,45 @@ def differing(what: str, groups: Sequence[Sequence[str]]) -> str:
     return f"names that differ in {what} alone, and are hosts of their own here: {pairs}"
 
 
+def shape_of(name: str) -> str:
+    """A name with each number in it as one sign, and each word as another.
+
+    >>> shape_of("ams-gw-07"), shape_of("fra-db-1") == shape_of("ams-gw-07")
+    ('a-a-#', True)
+    """
+    return LETTERS.sub("a", DIGITS.sub("#", name))
+
+
+def is_plain_link(names: Set[str], places: Sequence[Line], graph: NamedGraph[str]) -> bool:
+    """Whether lines that two names stand in alone are surely no header and no footer: the names are as those of other
+    hosts, none of them is a word of headers or counts, and the lines are not the same twice."""
+    first = [tuple(it.words[:2]) for it in places]
+    if len(first) > 1 and len(set(first)) == 1 or not OF_HEADERS.isdisjoint(map(str.casefold, names)):
+        return False
+    others = {shape_of(it) for it in graph.ids if it not in names}
+    return all(shape_of(it) in others for it in names)
+
+
 def parted(graph: NamedGraph[str], lines: Sequence[Line]) -> List[str]:
     """Two names that are linked to each other alone, beside at least three others: a header or a footer may say them.
     What the first line says so once is told by `overlay import`; and a word that counts, in the last line alone."""
     told = []
-    if len(graph.ids) >= 5:
-        pairs = [it for it in graph.pieces() if len(it) == 2 and graph.peers[it[0]]]
-        for pair in pairs[:MOST_TOLD]:
-            names = {graph.names[it] for it in pair}
-            at = [it.number for it in lines if set(it.words[:2]) == names]
-            if at and at != [lines[0].number]:
-                both = " and ".join(sorted(names))
-                told.append(f"{in_lines(at)}: {both} stand in no other line: a header or a footer?")
-    words = set(map(str.casefold, lines[-1].words[:2])) & COUNTING & set(map(str.casefold, graph.ids))
+    pairs = [it for it in graph.pieces() if len(it) == 2 and graph.peers[it[0]]] if len(graph.ids) >= 5 else []
+    places: Dict[FrozenSet[str], List[Line]] = {}
+    for line in lines if pairs else ():
+        places.setdefault(frozenset(line.words[:2]), []).append(line)
+    for pair in pairs:
+        names = {graph.names[it] for it in pair}
+        at = places.get(frozenset(names), [])
+        if at and at != [lines[0]] and not is_plain_link(names, at, graph):
+            both = " and ".join(sorted(names))
+            told.append(f"{in_lines([it.number for it in at])}: {both} stand in no other line: a header or a footer?")
+    last = [it.casefold() for it in lines[-1].words[:2]]
+    words = set(last) & COUNTING & set(map(str.casefold, graph.ids)) if any(map(str.isdigit, last)) else set()
     once = [it for it in words if sum(it in map(str.casefold, line.words) for line in lines) == 1]
     if once and not told:
         told.append(f"line {lines[-1].number}: {once[0]} stands in no other line: is it a footer?")
-    return told
+    return told[:MOST_TOLD]
 
 
 def in_lines(numbers: Sequence[int]) -> str:

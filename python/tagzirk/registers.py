@@ -12,6 +12,8 @@ from .rows import NUMBER
 from .values import HOST_FIELDS
 
 HARDWARE = re.compile(r"[0-9a-f]{2}(?:[:-][0-9a-f]{2}){5}", re.IGNORECASE)
+# What an address of the Internet is made of: with dots or colons, and no longer than one of version 6.
+OF_ADDRESS = re.compile(r"(?=[0-9a-f]*[.:])[0-9a-f.:]{2,45}(?:%.*)?", re.IGNORECASE | re.DOTALL)
 SERVICE = re.compile(r"[0-9]{1,5}/[a-z]{3,4}")
 KEY = re.compile(r"(?:ssh|ecdsa|sk-ssh|sk-ecdsa)-[a-z0-9@.-]+")
 SETTING = re.compile(r"[A-Za-z_][A-Za-z0-9_.]*=[^=]+")
@@ -54,6 +56,8 @@ def what_is(lines: Sequence[Words]) -> Optional[str]:
 
 def is_address(word: str) -> bool:
     """Whether a word is an address: of the Internet, without a port, or of hardware."""
+    if not OF_ADDRESS.fullmatch(word):
+        return HARDWARE.fullmatch(word) is not None
     try:
         ipaddress.ip_address(word.partition("%")[0])
     except ValueError:

@@ -12,6 +12,7 @@ NUMBER = re.compile(r"[-+]?(?:\d+(?:\.\d*)?|\.\d+)(?:[eE][-+]?\d+)?")
 COMMENT, ATTRIBUTES = re.compile(r"(^|\s)#.*"), re.compile(r"\s\{")
 # What begins a line that is a comment in some forms, if white space follows, and no word.
 MARKS = ("//", "%", ";", "--")
+MARKED = re.compile(rf"^[^\S\n]*(?:{'|'.join(MARKS)})(?:\s|$)", re.MULTILINE)
 # What a comment has that says anything.
 WORDS = re.compile(r"[\w\x80-\U0010ffff]")
 # A word, or a text in quotes; with what may stand between two.

@@ -2,6 +2,7 @@
 
 from __future__ import annotations
 
+import collections
 import csv
 import io
 import itertools
@@ -13,7 +14,7 @@ from .cells import peers_in_cell
 from .errors import BadDump
 from .limits import need_few
 from .rows import rows_of
-from .values import HOST_FIELDS, LINK_ENDS, LISTING_ENDS, Said, Scalar, Views
+from .values import FURTHER, HOST_FIELDS, LINK_ENDS, LISTING_ENDS, MOST_DIFFERENT as MOST_COLUMNS, Said, Scalar, Views
 from .written import Written
 
 # What a column is called that has all peers of a host in one cell.
@@ -45,8 +46,8 @@ class Table(NamedTuple):
     @property
     def names(self) -> List[str]:
         """What the columns are called: by their numbers where a name is empty, or stands there twice."""
-        lower = [it.lower() for it in self.header]
-        return [it if it and lower.count(it.lower()) == 1 else str(at) for at, it in enumerate(self.header, 1)]
+        lower = collections.Counter(it.lower() for it in self.header)
+        return [it if it and lower[it.lower()] == 1 else str(at) for at, it in enumerate(self.header, 1)]
 
 
 class Ends(NamedTuple):
@@ -71,8 +72,8 @@ def ends_by_name(header: Sequence[str], columns: Optional[str]) -> Optional[Ends
 
 def known_ends(names: Sequence[str]) -> List[Ends]:
     """Each two columns of a header, in small letters, that are known as both ends."""
-    pairs = (*LINK_ENDS, *LISTING_ENDS, *MANY_ENDS)
-    return [ends_of(pair, names) for pair in pairs if set(pair) <= set(names)]
+    pairs, there = (*LINK_ENDS, *LISTING_ENDS, *MANY_ENDS), set(names)
+    return [ends_of(pair, names) for pair in pairs if there.issuperset(pair)]
 
 
 def ends_of(pair: Tuple[str, str], names: Sequence[str]) -> Ends:
@@ -83,8 +84,9 @@ def ends_of(pair: Tuple[str, str], names: Sequence[str]) -> Ends:
 
 def demand_one_pair(pair: Tuple[str, str], names: Sequence[str]) -> None:
     """Refuses a header that has two such pairs without a name in both."""
+    there = set(names)
     for other in (*LINK_ENDS, *LISTING_ENDS):
-        if set(other) <= set(names) and not set(other) & set(pair):
+        if there.issuperset(other) and not set(other) & set(pair):
             raise BadDump(f"its header has {' and '.join(pair)}, and {' and '.join(other)}: say --columns FROM,TO")
 
 
@@ -264,7 +266,7 @@ def of_table(table: Table, ends: Ends) -> Views:
     """What hosts list by a table."""
     views, repeated, names = Views(told_of(table, ends), [*table.beside]), 0, table.names
     written = Written(views)
-    views.columns = {str(at): it for at, it in enumerate(names, 1)}
+    views.columns = names
     for number, cells in table.rows:
         if cells == table.header:
             repeated += 1
@@ -310,9 +312,12 @@ def enter_many(views: Views, name: str, cell: str, said: Dict[str, Scalar], writ
 
 
 def said_in(cells: Sequence[str], header: Sequence[str], ends: Ends) -> Dict[str, Scalar]:
-    """What the other columns say, by their names, or by their numbers where there is no header."""
-    others = (it for it in range(len(cells)) if it not in ends.places)
-    return {header[it] if it < len(header) else str(it + 1): cells[it] for it in others}
+    """What the other columns say, by their names, or by their numbers where there is no header. Those behind very many
+    are one text."""
+    others = (it for it in range(min(len(cells), MOST_COLUMNS)) if it not in ends.places)
+    said: Dict[str, Scalar] = {header[it] if it < len(header) else str(it + 1): cells[it] for it in others}
+    further = ",".join(filter(None, cells[MOST_COLUMNS:]))
+    return {**said, FURTHER: further} if further else said
 
 
 def told_of(table: Table, ends: Ends) -> str:

@@ -5,7 +5,7 @@ from __future__ import annotations
 
 from typing import Callable, Dict, List, NamedTuple, Optional, Sequence, Set, Tuple
 
-from .account import LEFT, MOST_NAMED, account_of, doubtful
+from .account import LEFT, MOST_NAMED, MOST_VALUES, RARE, account_of, doubtful, odd_of, patterns_of
 from .asked import Asked
 from .errors import BadDump
 from .fields import MISSING, Field, fields_of, moment_of, most_of, number_of, span_of, text_of
@@ -84,7 +84,7 @@ def field_of(views: Views, up: Up) -> Field:
     before = next((it for it in (HOST, LINK) if up.field.startswith(it)), "")
     name = up.field[len(before) :]
     if all(it.name != name for it in fields):
-        name = views.columns.get(name, name)
+        name = views.column(name)
     kinds = [it for it in fields if not before or it.is_of_hosts == (before == HOST)]
     found = [it for it in kinds if it.name == name] or [it for it in kinds if it.name.casefold() == name.casefold()]
     if not found:
@@ -172,7 +172,8 @@ def in_range(field: Field, low: str, high: str) -> Callable[[Scalar, bool], bool
 
 
 def one(field: Field) -> str:
-    """A field, with its values and how often each is there; or with the least and the greatest of many."""
+    """A field, with its values and how often each is there. If these are many, it is told first of how many it is
+    missing; then come its rarest words, that which is there most often, and the least and the greatest number."""
     counts = field.counts.most_common()
     name = f"column {field.name}" if field.name.isdigit() else quoted(field.name)
     if len(counts) <= MOST_SHOWN:
@@ -180,15 +181,36 @@ def one(field: Field) -> str:
     way = moment_of if field.moments else measured
     texts = {number: text_of(value) for number, value in ((way(value), value) for _, value in field.said)}
     numbers = sorted(it for it in texts if it is not None)
-    if 2 * len(numbers) > len(counts):
-        return f"{name} is {texts[numbers[0]]} to {texts[numbers[-1]]}"
-    first = ", ".join(f"{value} ({number})" for value, number in counts[:MOST_SHOWN])
-    return f"{name} is {first} and {len(counts) - MOST_SHOWN} more values"
+    words = [it for it in reversed(counts) if way(it[0]) is None]
+    words.sort(key=lambda it: it[0] != MISSING)
+    first = words if len(words) <= MOST_SHOWN else [*words[: MOST_SHOWN - 1], words[-1]]
+    told = [f"{quoted(value)} ({number})" for value, number in first]
+    if numbers:
+        often = f" ({sum(field.counts.values()) - sum(number for _, number in words)})" if words else ""
+        told.append(" to ".join(dict.fromkeys((texts[numbers[0]], texts[numbers[-1]]))) + often)
+    more = len(words) - len(first)
+    return f"{name} is {', '.join(told)} and {more} more values" if more else f"{name} is {one_of(told)}"
+
+
+def rare_first(fields: Sequence[Field]) -> List[Field]:
+    """Fields in the order in which they are told. If not all can be told with their values, those with a rare value
+    come first, as in the account."""
+    if len(fields) <= MOST_SHOWN:
+        return [*fields]
+    return sorted(fields, key=lambda it: not has_rare(it))
+
+
+def has_rare(field: Field) -> bool:
+    """Whether a rare value is among few, or among those of many that stand out."""
+    counts = patterns_of(field)
+    values = counts if len(counts) <= MOST_VALUES else odd_of(field, counts)
+    return any(counts[it] < RARE * sum(counts.values()) for it in values)
 
 
 def many(fields: Sequence[Field]) -> str:
     """Several fields with their values."""
     kinds: Dict[str, List[str]] = {}
+    fields = rare_first(fields)
     for it in fields[:MOST_SHOWN]:
         kinds.setdefault(f"{sum(it.counts.values())} {it.of}", []).append(one(it))
     rest = sorted(fields[MOST_SHOWN:], key=lambda it: it.words.isdisjoint(STATE_NAMES))
@@ -199,7 +221,7 @@ def many(fields: Sequence[Field]) -> str:
 
 def question(fields: Sequence[Field]) -> str:
     """What a person is asked of fields that may say what is down."""
-    first = fields[0]
+    first = rare_first(fields)[0]
     is_measured = bool(first.moments or first.spans or len(first.counts) > 2 and most_of(first.numbers))
     is_range = is_measured and not first.missing and "null" not in first.counts
     word = f"{first.name}={'LOW..HIGH' if is_range else 'VALUE[,VALUE]'}"

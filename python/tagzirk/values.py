@@ -4,15 +4,18 @@ from __future__ import annotations
 
 import itertools
 import json
-from typing import Any, Dict, Iterable, List, Mapping, NamedTuple, Optional, Sequence, Tuple, Union
+from typing import AbstractSet, Any, Dict, Iterable, List, Mapping, NamedTuple, Optional, Sequence, Set, Tuple, Union
 
 from .errors import BadDump
+from .limits import need_short
 
 # What the list of peers of a host is called, and the host itself, in the order in which they are looked for.
 PEER_KEYS = ("peers", "neighbors", "neighbours", "active_view", "connections", "links")
 NAME_KEYS = ("name", "id", "host", "hostname", "node", "address", "addr", "key")
 # So many fields of an object, and of objects so deep in it, are fields by themselves; further ones are one text.
 MOST_FIELDS, MOST_DEEP, FURTHER = 64, 6, "further fields"
+# So many different fields are told apart at most; all that is said in others is one.
+MOST_DIFFERENT = 10_000
 # So are those of objects in a list of so many; a list counts as so many objects in one another.
 MOST_LONG, OF_LISTS = 16, 3
 # What both ends of a link are called, as fields or columns; and of a listing a host and a peer that it lists.
@@ -37,6 +40,8 @@ LISTING_ENDS = tuple(itertools.product(HOST_FIELDS, PEER_FIELDS))
 # What a dump says beside a listing, a link or a host: the value of each other field, column or attribute.
 Scalar = Union[str, int, float, bool, None]
 Said = Mapping[str, Scalar]
+# What is said of what nothing is said of.
+UNSAID: Said = {}
 
 
 class Statement(NamedTuple):
@@ -52,14 +57,20 @@ class Statement(NamedTuple):
 class Views:
     """What each host lists: the dump as `overlay import --views` reads it. `kind` says how the file was read, and
     `statements` has all that was said, in its order, with what stands beside it. `beside` has all else that stands in
-    the dump: what it is, and a value of it. `columns` has the names of columns by their numbers."""
+    the dump: what it is, and a value of it. `columns` has the names of columns in their order."""
 
     def __init__(self, kind: str = "", beside: Optional[List[Tuple[str, Scalar]]] = None) -> None:
         self.peers: Dict[str, Dict[str, None]] = {}
         self.statements: List[Statement] = []
         self.kind = kind
         self.beside: List[Tuple[str, Scalar]] = [] if beside is None else beside
-        self.columns: Dict[str, str] = {}
+        self.columns: Sequence[str] = ()
+        # how many statements are of links and listings
+        self.links = 0
+        # the hosts of statements that say nothing but that these have an entry
+        self.bare: Set[str] = set()
+        # whether it was asked how often each link and listing stands there
+        self.is_counted = False
 
     def emptied(self) -> Views:
         """The same dump without any host."""
@@ -74,18 +85,23 @@ class Views:
     def enter(self, name: str, said: Optional[Said] = None) -> None:
         """A host has an entry. `said` is what the dump says of it otherwise."""
         self.peers.setdefault(name, {})
-        self.statements.append(Statement(name, None, False, said or {}))
+        if said or name not in self.bare:
+            self.statements.append(Statement(name, None, False, said or UNSAID))
+        if not said:
+            self.bare.add(name)
 
     def listing(self, name: str, peer: str, said: Optional[Said] = None) -> None:
         """A host, which has an entry then, lists a peer, which this gives no entry. `said` is what stands beside it."""
         self.peers.setdefault(name, {})[peer] = None
-        self.statements.append(Statement(name, peer, False, said or {}))
+        self.statements.append(Statement(name, peer, False, said or UNSAID))
+        self.links += 1
 
     def link(self, one: str, other: str, said: Optional[Said] = None) -> None:
         """Two hosts list each other."""
         self.peers.setdefault(one, {})[other] = None
         self.peers.setdefault(other, {})[one] = None
-        self.statements.append(Statement(one, other, True, said or {}))
+        self.statements.append(Statement(one, other, True, said or UNSAID))
+        self.links += 1
 
     def edge(self, one: str, other: str, is_directed: bool, said: Optional[Said] = None) -> None:
         """An edge: a link, or if it has a direction the listing of its first end; then both have an entry."""
@@ -108,6 +124,11 @@ class Views:
             self.link(statement.one, statement.other, statement.said)
         else:
             self.listing(statement.one, statement.other, statement.said)
+
+    def column(self, name: str) -> str:
+        """The name of the column that is meant: by its number from 1 on, or by its name."""
+        is_number = name.isascii() and name.isdigit() and name[0] != "0" and len(name) < 10
+        return self.columns[int(name) - 1] if is_number and int(name) <= len(self.columns) else name
 
     @property
     def has_known(self) -> bool:
@@ -163,12 +184,15 @@ def said_of(value: Mapping[Any, Any], *without: str) -> Dict[str, Scalar]:
     {'state.up': True, 'flags': 'a,b'}
     """
     said: Dict[str, Scalar] = {}
-    take_in(said, "", value, without, MOST_DEEP)
+    take_in(said, "", value, frozenset(without), MOST_DEEP)
     return said
 
 
-def take_in(said: Dict[str, Scalar], before: str, value: Mapping[Any, Any], without: Sequence[str], deep: int) -> None:
+def take_in(
+    said: Dict[str, Scalar], before: str, value: Mapping[Any, Any], without: AbstractSet[str], deep: int
+) -> None:
     """Takes in what an object says below such a key."""
+    need_short(before)
     items = [(f"{before}{key}", inner) for key, inner in value.items() if f"{before}{key}" not in without]
     for at, (name, inner) in enumerate(items):
         if len(said) >= MOST_FIELDS:
@@ -214,7 +238,7 @@ def joined(values: List[Any], deep: int) -> Dict[str, Scalar]:
     found: Dict[str, Dict[str, None]] = {}
     for it in values:
         inner: Dict[str, Scalar] = {}
-        take_in(inner, ".", it, (), deep - OF_LISTS)
+        take_in(inner, ".", it, frozenset(), deep - OF_LISTS)
         for key, value in inner.items():
             found.setdefault(key, {})[str(value)] = None
     return {key: ",".join(texts) for key, texts in found.items()}

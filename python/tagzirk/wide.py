@@ -80,9 +80,12 @@ class Search:
         order = sorted(range(len(links)), key=links.__getitem__)
         for a in order:
             near = bits.around(bits.peers[a]) | bits.peers[a]
+            most = self.most_useful(len(links))
             for b in places_of(near >> a + 1 << a + 1):
                 number = number_of((bits.peers[a] | bits.peers[b]) & ~(1 << a | 1 << b))
-                self.try_pair(bits, a, b, number)
+                if number < most:
+                    self.try_pair(bits, a, b, number)
+                    most = self.most_useful(len(links))
             for b in order:
                 if links[a] + links[b] >= self.most_useful(len(links)):
                     break
@@ -103,8 +106,7 @@ class Search:
         node. None if no two can be parted."""
         node = {it: it for it in self.graph.nodes}
         node.update((host, min(link)) for link in links for host in link)
-        ends = {(min(node[a], node[b]), max(node[a], node[b])) for a, b in self.graph.links}
-        merged = NamedGraph({it: it for it in sorted(set(node.values()))}, [[a, b] for a, b in sorted(ends) if a != b])
+        merged = NamedGraph({it: it for it in sorted(set(node.values()))}, self.graph.links_as(node))
         report = self.ask(merged, sorted(min(it) for it in links))
         return None if report.is_linked else set(report.cut)
 

@@ -20,6 +20,9 @@ MOST_STEPS, MOST_HOSTS, ENOUGH_STEPS = 3_000_000, 400, 300_000
 # So many hosts, at most one more, are taken two by two, to ask for a smallest cut that parts them; and of so many hosts
 # with k links these are taken for a cut.
 SPREAD, MOST_WEAK = 6, 64
+# A pair is asked about four times or so, and each time all links are read: so many pairs at most are taken that so many
+# links are read.
+MOST_READ = 1_000_000
 
 Ask = Callable[[NamedGraph[Any], Optional[List[int]]], Report[Any]]
 
@@ -144,10 +147,15 @@ class Hunt:
         cut = self.parting_two(self.graph, spread)
         self.note(cut)
         # if no smallest cut parts two of these, none parts what is around them
-        pairs = itertools.combinations(spread, 2) if cut else []
+        pairs = self.few([*itertools.combinations(spread, 2)]) if cut else []
         for cut in each_at_once(lambda it: self.between(*it), pairs, workers, "smallest cuts: between hosts", progress):
             self.note(cut)
         self.exchange(progress)
+
+    def few(self, pairs: List[Tuple[int, int]]) -> List[Tuple[int, int]]:
+        """Those of these pairs that there is time for: all, unless there are very many links."""
+        most = max(2, MOST_READ // (4 * len(self.graph.links)))
+        return pairs[:: -(-len(pairs) // most)] if pairs else pairs
 
     def exchange(self, progress: Optional[Progress]) -> None:
         """Finds cuts that differ by one host from one that was found, the worst first, as long as there are steps."""
@@ -212,9 +220,8 @@ class Hunt:
     def merged(self, near: Dict[int, int], far: Dict[int, int]) -> NamedGraph[Any]:
         """The graph in which all surroundings of a host are that host."""
         node = {**{it: it for it in self.bits.nodes}, **near, **far}
-        ends = {(min(node[a], node[b]), max(node[a], node[b])) for a, b in self.graph.links}
         ids = {name: it for name, it in self.graph.ids.items() if node[it] == it}
-        return NamedGraph(ids, [[a, b] for a, b in sorted(ends) if a != b])
+        return NamedGraph(ids, self.graph.links_as(node))
 
 
 def worst(

@@ -118,6 +118,9 @@ def without_common(told: Dict[str, str]) -> Dict[str, str]:
 def tell_how_often(views: Views) -> None:
     """Makes a field of which links and which listings stand there more often than others; and of which are links, and
     which are listings, if both are there."""
+    if views.is_counted:
+        return
+    views.is_counted = True
     count: Counter[Key] = collections.Counter(key_of(it) for it in views.statements if it.other is not None)
     often, kinds = how_often(count), {is_link for _, _, is_link in count}
     shared: Dict[str, Said] = {}

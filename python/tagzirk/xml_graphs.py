@@ -10,7 +10,7 @@ from xml.parsers import expat
 from .errors import BadDump
 from .fields import words_of
 from .graph_files import NAME_OF_GRAPH, WRITTEN_AT, WRITTEN_BY, Graph
-from .limits import DEEPEST
+from .limits import DEEPEST, need_few, need_short
 from .states import STATE_WORDS
 from .values import Scalar, both
 
@@ -69,9 +69,11 @@ class Reader:
         self.first, self.graphs, self.is_directed = "", 0, False
         # how many elements for edges there were
         self.parts = 0
-        # the name of a field by its id, and its value where nothing is said; both by the kind of item
+        # the name of a field by its id, and its value where nothing is said; both by the kind of item; and how often
+        # such a value was taken
         self.fields: Dict[Tuple[str, str], str] = {}
         self.defaults: Dict[str, Dict[str, Scalar]] = {"node": {}, "edge": {}}
+        self.by_default = 0
         # the names of fields that something has
         self.used: Set[str] = set()
         # the field that is declared, and the kinds of items that may have it
@@ -156,10 +158,11 @@ class Reader:
             self.first = name
             self.graph.kind = FORMS.get(name, "XML")
             self.spaces = {it: value for it, value in attributes.items() if it.startswith("xmlns")}
+        need_short(tag)
         if len(self.path) >= DEEPEST:
             raise self.fault(f"elements are nested more than {DEEPEST} deep")
         space = [f"{it}={value}" for it, value in attributes.items()
-                 if it.startswith("xmlns") and it in {"xmlns", *self.spaces} and self.spaces.get(it) != value]
+                 if (it == "xmlns" or it.startswith("xmlns") and it in self.spaces) and self.spaces.get(it) != value]
         known = AROUND.get(self.first, OF_ALL)
         self.parts += name in ("edges", "links")
         is_known = name in known and tag.rpartition(":")[0] in ("", *(it.rpartition(":")[0] for it in self.tags))
@@ -239,7 +242,7 @@ class Reader:
             self.kinds = [it for it in self.defaults if attributes["for"] in (it, "all")]
         if attributes.get("for") == "graph":
             self.of_graph[attributes.get("id", "")] = attributes.get("attr.name", "")
-        self.key = next((attributes[it] for it in ("attr.name", "title", "id") if it in attributes), "")
+        self.key = need_short(next((attributes[it] for it in ("attr.name", "title", "id") if it in attributes), ""))
         for it in self.kinds:
             self.fields[it, attributes.get("id", "")] = self.key
 
@@ -249,7 +252,7 @@ class Reader:
         if name == "default":
             return
         around = self.values[-1][0] if self.values else name
-        key = attributes.get(VALUES[name], "")
+        key = need_short(attributes.get(VALUES[name], ""))
         if not self.item:
             self.values.append((self.of_graph.get(key) or key or around, True))
             self.leave(self.values[-1][0], attributes.get("value", ""))
@@ -268,6 +271,8 @@ class Reader:
         """A node or an edge was read."""
         place = f"line {item.line}: "
         kind = "node" if item.tag in NODES else "edge"
+        self.by_default += len(self.defaults[kind])
+        need_few(self.by_default, "values by default")
         said: Dict[str, Scalar] = {**self.defaults[kind], **item.fields}
         if kind == "node":
             if "id" not in item.attributes:

@@ -19,8 +19,8 @@ NUMBER = re.compile(r"0|-?[1-9][0-9]{0,17}")
 TAG = re.compile(r"!|tag:yaml\.org,2002:(?:str|int|float|bool|null|seq|map|set|timestamp)")
 # How YAML begins, where the file's name does not say that it is YAML: an item of a list; a key with a list or an object
 # in brackets, which may go on in the next line; an object whose first key has no quotes.
-# A comment, with a word in it.
-COMMENT = re.compile(r"#[^\n]*[\w\x80-\U0010ffff][^\n]*")
+# A comment, and what it has that says anything.
+COMMENT, WORD = re.compile(r"#[^\n]*"), re.compile(r"[\w\x80-\U0010ffff]")
 # What stands above the values: directives, of which one that tells the version of YAML says nothing.
 BEGIN = re.compile(r"\ufeff?(?:[ \t]*(?:#[^\n]*)?\r?\n|%[^\n]*\n)*")
 DIRECTIVE = re.compile(r"^%(?!YAML 1\.[0-9]\s*$)[^\n]*", re.MULTILINE)
@@ -179,7 +179,7 @@ def beside_in(text: str, reader: Reader) -> List[Tuple[str, Scalar]]:
         between.append(text[at:begin])
         between.append("\n" if text[begin:end].endswith("\n") else "")
         at = end
-    found = COMMENT.findall("".join([*between, text[at:]]))
+    found = [it for it in COMMENT.findall("".join([*between, text[at:]])) if WORD.search(it)]
     above = BEGIN.match(text)
     directives = [("directives", it.strip()) for it in DIRECTIVE.findall(above[0] if above else "")]
     lists = [it for it, value in reader.anchors.items() if isinstance(value, (dict, list))]

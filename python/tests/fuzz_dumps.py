@@ -1,13 +1,13 @@
 #!/usr/bin/env python3
-"""fuzz_dumps.py [--cases N] [--minutes M] [--seed S]: tries mutated dumps of all forms.
+"""fuzz_dumps.py [--minutes M] [--cases N] [--seed S] [--form NAME]: tries mutated dumps of all forms.
 
 Each of `many_forms` is mutated by chance, from a seed, so that a case can be tried again. Demanded is of each case that
-it is read or refused with a message, that it ends, that each host of a second reading is a host, and that each link is
-one of the second reading too; so k is not higher. Second readings are of a few lines here, or by networkx, yaml or
-Graphviz, as far as these are there. TAGZIRK_OVERLAY names the program overlay.
+it is read or refused with a message, within the bounds of any dump below 1 MB, that each host of a second reading is a
+host, and that each link is one of the second reading too; so k is not higher. Second readings are of a few lines here,
+or by networkx, yaml or Graphviz, as far as these are there. TAGZIRK_OVERLAY names the program overlay.
 
-By hand, `--minutes 10` goes on for so long. The status is 0 if all cases passed, and 1 if not; a case that failed is
-kept in the folder that is told.
+It goes on for half a minute, or for N cases. By hand, `--minutes 10` goes on for so long. The status is 0 if all cases
+passed, and 1 if not; a case that failed is kept in the folder that is told.
 """
 
 import argparse
@@ -28,11 +28,12 @@ from tagzirk.asked import Asked  # noqa: E402
 from tagzirk.dumps import Options, dump_of  # noqa: E402
 from tagzirk.errors import TagzirkError  # noqa: E402
 from tagzirk.graphs import in_file  # noqa: E402
+from tests.heavy_dumps import MOST_MEMORY, MOST_SECONDS  # noqa: E402
 from tests.many_forms import FORMS  # noqa: E402
 from tests.second_readings import READINGS  # noqa: E402
 
-# A case has so many seconds, of which it needs a fraction, and so many bytes.
-MOST_SECONDS, MOST_MEMORY = 60, 3_000_000_000
+# What hangs is ended after so many seconds, whatever it does.
+HANGING = 60
 # What is put into a dump: marks of many forms, names, numbers, and bytes that are no text.
 PIECES = [
     *'" \' , ; : | # % // { } [ ] ( ) < > = -- -> & * ! ? ~ \\ \n \r \t \0'.split(" "),
@@ -44,6 +45,12 @@ LATIN = b"\xff\xfe\x1f\x8b\xc3\x28"
 
 class TooLong(Exception):
     """A case did not end in time."""
+
+
+def used():
+    """The seconds of processor that this process took, and all programs that it began."""
+    both = (resource.getrusage(it) for it in (resource.RUSAGE_SELF, resource.RUSAGE_CHILDREN))
+    return sum(it.ru_utime + it.ru_stime for it in both)
 
 
 def mutated(data, chance):
@@ -118,18 +125,24 @@ CHANGES = (cut, cut, torn, repeated, filled, filled, strange, renamed, renamed, 
 
 @contextlib.contextmanager
 def within(seconds):
-    """Ends what takes longer, by an error."""
+    """Ends what takes more seconds of processor, or hangs, by an error."""
 
     def stop(*_):
         raise TooLong
 
-    before = signal.signal(signal.SIGALRM, stop)
-    signal.alarm(seconds)
+    signals = {signal.ITIMER_PROF: (signal.SIGPROF, seconds), signal.ITIMER_REAL: (signal.SIGALRM, HANGING)}
+    before, begun = {number: signal.signal(number, stop) for number, _ in signals.values()}, used()
+    for timer, (_, most) in signals.items():
+        signal.setitimer(timer, most)
     try:
         yield
+        if used() - begun > seconds:
+            raise TooLong
     finally:
-        signal.alarm(0)
-        signal.signal(signal.SIGALRM, before)
+        for timer in signals:
+            signal.setitimer(timer, 0)
+        for number, way in before.items():
+            signal.signal(number, way)
 
 
 def asked_of(form, chance):
@@ -150,7 +163,7 @@ def fault_of(form, data, options):
     except TagzirkError as why:
         return "" if str(why).strip() else "a refusal without a message"
     except TooLong:
-        return f"it takes longer than {MOST_SECONDS} seconds"
+        return f"it takes more than {MOST_SECONDS} seconds of processor, or hangs"
     except Exception:
         return traceback.format_exc()
     links = {frozenset((graph.names[a], graph.names[b])) for a, b in graph.pairs}
@@ -181,21 +194,28 @@ def tried(form, seed):
 KINDS = {}
 
 
-def main():
+def asked_for():
+    """What is asked for on the command line."""
     words = argparse.ArgumentParser(description=__doc__.split("\n", 1)[0])
-    words.add_argument("--cases", type=int, default=1500)
-    words.add_argument("--minutes", type=float, default=0.0)
+    words.add_argument("--minutes", type=float, default=0.5)
+    words.add_argument("--cases", type=int)
     words.add_argument("--seed", type=int, default=1)
-    given = words.parse_args()
-    resource.setrlimit(resource.RLIMIT_AS, (MOST_MEMORY, MOST_MEMORY))
-    forms = [it for it in FORMS if it.told is None]
+    words.add_argument("--form", default="", help="forms alone whose name has this text in it")
+    return words.parse_args()
+
+
+def main():
+    given = asked_for()
+    # an allocation of more fails, in this process or in a program that it begins
+    resource.setrlimit(resource.RLIMIT_DATA, (MOST_MEMORY, MOST_MEMORY))
+    forms = [it for it in FORMS if it.told is None and given.form in it.name]
     for it in forms:
         KINDS[it.name] = kind_of(dump_of(it.data, "net", asked_of(it, random.Random(0))))
         fault = fault_of(it, it.data, asked_of(it, random.Random(0)))
         if fault:
             sys.exit(f"{it.name}, as it is: {fault}")
     end, count, failed = time.monotonic() + given.minutes * 60, 0, 0
-    while count < given.cases or time.monotonic() < end:
+    while time.monotonic() < end if given.cases is None else count < given.cases:
         form = forms[count % len(forms)]
         data, fault = tried(form, f"{given.seed} {count}")
         count += 1

@@ -51,7 +51,13 @@ def of_words(text):
     return of_graph(line[:2] for line in lines if line)
 
 
+def of_weights(text):
+    """The same, where each line has a number too: other marks than # begin comments there, if a space follows."""
+    return of_words(re.sub(r"^\s*(//|%|;|--)([ \t].*)?$", "", text.replace(",", " "), flags=re.MULTILINE))
+
+
 def of_commas(text):
+    """The same, where a comma may stand between two words."""
     return of_words(text.replace(",", " "))
 
 
@@ -59,6 +65,8 @@ def of_rows(between, one, other):
     """The columns of these names in rows of CSV."""
 
     def read(text):
+        # what ends a line to Python's csv alone
+        assert not re.search("\r(?!\n)", text)
         rows = list(csv.reader(io.StringIO(text, newline=""), delimiter=between, skipinitialspace=True))
         head = [it.strip().lower() for it in rows[0]]
         places = head.index(one), head.index(other)
@@ -70,19 +78,20 @@ def of_rows(between, one, other):
 
 
 def of_drawn(text):
-    """The first two columns of a table that psql shows."""
-    rows = [[it.strip() for it in line.split("|")] for line in text.split("\n") if "|" in line]
-    return of_graph(row[:2] for row in rows[1:])
+    """The first two columns of a table that psql shows. A line of marks alone is a rule, and no row."""
+    lines = [line for line in text.split("\n") if "|" in line and not re.fullmatch(r"[-+|:\s]*-[-+|:\s]*", line)]
+    return of_graph([it.strip() for it in line.split("|")][:2] for line in lines[1:])
 
 
 def of_lists(text):
-    """Lines of a host, a colon, and those that it lists."""
+    """Lines of a host, a colon, and those that it lists. A comma in front of the colon is a part of the name."""
     hosts, pairs = set(), []
     for line in text.split("\n"):
-        words = re.sub(r"(^|\s)#.*", "", line).replace(",", " ").split()
-        if words:
-            hosts.add(words[0][:-1])
-            pairs += [(words[0][:-1], it) for it in words[1:]]
+        host, *others = re.sub(r"(^|\s)#.*", "", line).split(None, 1) or [""]
+        if host:
+            assert host.endswith(":")
+            hosts.add(host[:-1])
+            pairs += [(host[:-1], it) for rest in others for it in rest.replace(",", " ").split()]
     return of_graph(pairs, hosts)
 
 
@@ -150,8 +159,8 @@ def of_dot(text):
 def readings():
     """The readings that can be asked here, by the names of forms."""
     found = {
-        **dict.fromkeys(("pairs", "tabs", "comments by #", "weights", "SNAP", "NCOL"), of_words),
-        **dict.fromkeys(("commas", "weights behind commas"), of_commas),
+        **dict.fromkeys(("pairs", "tabs", "commas", "comments by #", "SNAP"), of_commas),
+        **dict.fromkeys(("weights", "NCOL", "weights behind commas"), of_weights),
         **dict.fromkeys(("CSV", "CSV in quotes", "two tables one behind the other"), of_rows(",", "source", "target")),
         "CSV of Gephi": of_rows(";", "source", "target"),
         "psql": of_drawn,

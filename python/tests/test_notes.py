@@ -10,6 +10,12 @@ from .test_states import Dumps, links_of
 
 RING = "".join(f"{a} {b}\n" for a, b in sorted(UP))
 NUMBERS = RING.replace("n", "")
+CHORDS = "n1 n3\nn2 n5\nn4 n6\n"
+
+
+def both_ways(text):
+    """Lines of two hosts, and each of them once more with its ends in the other order."""
+    return text + "".join(f"{b} {a}\n" for a, b in map(str.split, text.splitlines()))
 
 
 def renamed(old, new):
@@ -56,11 +62,22 @@ class Notes(Dumps):
             ("addresses.edges", RING.replace("n", "10.0.0.")),
             ("domains.edges", RING.replace("n", "host").replace(" ", ".net ").replace("\n", ".net\n")),
             ("alone.edges", "a b\n"),
+            # two hosts that are linked to each other alone, as a part of an overlay that is split
+            ("pair.edges", RING + "n7 n8\n" + CHORDS),
+            ("pair-last.edges", both_ways(RING.replace("n", "ams-") + "hel-1 hel-2\n")),
+            ("words.edges", "oslo rome\nrome bern\nbern oslo\nwien riga\nbern kiew\nkiew oslo\nrome kiew\n"),
+            ("host-of-a-word.edges", RING + "n1 peers\n"),
             ("none.json", '{"a": [], "b": []}'),
             ("hub.json", json.dumps({"hub": ["a", "b", "c"], **{it: ["hub"] for it in "abc"}})),
         ):
             with self.subTest(name):
                 self.assertEqual(self.read(self.put(name, text)).notes, ())
+
+    def test_a_pair_by_itself_is_no_header(self):
+        """Also where how often a link stands there is told."""
+        for text in RING + "n7 n8\n" + RING, RING.replace("n", "ams-") + both_ways("hel-1 hel-2\n"):
+            (told,) = self.read(self.put("pair.edges", text)).notes
+            self.assertRegex(told, r"^not read as states: of \d+ links stands there \(")
 
     def test_what_is_listed_without_an_entry_is_told_once(self):
         dump = self.read(self.put("dead.json", '{"a": ["b", "dead"], "b": ["a"]}'))

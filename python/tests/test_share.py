@@ -79,7 +79,7 @@ class Rules(Commands):
     def test_metrics_that_are_named_are_written(self):
         for place in RULES, SHARE / "grafana" / "tagzirk.json":
             named = set(re.findall(r"\btagzirk_\w+", place.read_text()))
-            self.assertLessEqual({"tagzirk_connectivity", "tagzirk_dump_read"}, named)
+            self.assertLessEqual({"tagzirk_connectivity", "tagzirk_dump_read", "tagzirk_doubts"}, named)
             self.assertLessEqual(named, set(HELP), place)
 
     def test_panels_do_not_overlap(self):
@@ -111,7 +111,7 @@ class Units(Commands):
         """What systemd would run, with its variables filled in."""
         unit = (SHARE / "systemd" / "tagzirk-metrics@.service").read_text()
         (line,) = re.findall(r"^ExecStart=\S+ (.*)$", unit, re.MULTILINE)
-        values = {"${DUMP}": str(DUMPS / "cluster.json"), "$OPTIONS": "--entries", "${TEXTFILES}": str(self.room)}
+        values = {"${DUMP}": str(DUMPS / "cluster.json"), "$OPTIONS": "--all", "${TEXTFILES}": str(self.room)}
         for name, value in values.items():
             line = line.replace(name, value)
         self.assertEqual(self.tagzirk(*line.replace("%i", "prod").split())[1:], ("", 0))

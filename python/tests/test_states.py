@@ -223,6 +223,24 @@ class Ups(Dumps):
         with self.assertRaisesRegex(BadDump, "no object has the field active, that --peers asks"):
             self.read(place, Asked(peers="active"))
 
+    def test_what_is_rare_is_told_first(self):
+        """Of more values or fields than have room the rare ones are told first, each with how often it is there."""
+        words = ["Idle"] * 2 + ["Active"]
+        numbers = [str(4 + at % 9) for at in range(30)]
+        many = [f"w{at}" for at in range(7) for _ in range(at + 1)]
+        few_down = [["up" if at != 33 and row % 2 or at == 33 and row else "down" for at in range(41)]
+                    for row in range(40)]
+        for rows, names, told in (
+            ([[it] for it in numbers + words], ["pfxrcd"], r"pfxrcd is Active \(1\), Idle \(2\) or 4 to 12 \(30\);"),
+            ([[it] for it in words + numbers], ["pfxrcd"], r"pfxrcd is Active \(1\), Idle \(2\) or 4 to 12 \(30\);"),
+            ([[it] for it in many], ["state"], r"w0 \(1\), w1 \(2\), w2 \(3\), w3 \(4\), w6 \(7\) and 2 more values"),
+            (few_down, [f"up{at}" for at in range(41)], r"of 40 links up33 is up \(39\) or down \(1\); up0 is"),
+        ):
+            lines = [["source", "target", *names], *([f"a{at}", f"b{at}", *row] for at, row in enumerate(rows))]
+            place = self.put("net.csv", "".join(",".join(it) + "\n" for it in lines))
+            with self.assertRaisesRegex(BadDump, told):
+                self.read(place)
+
     def test_columns_by_their_numbers(self):
         for name, header in ("nameless.csv", "source,target,"), ("twice.csv", "source,target,target"):
             place = self.put(name, f"{header}\na,b,yes\nb,c,no\n")

@@ -67,7 +67,7 @@ const INTO: &str = "`> FILE` behind the command writes what it prints into a fil
 const TAGZIRK: &str = "`tagzirk` has it, a command of its own: `tagzirk --help` says more";
 
 /// The rows with `TAGZIRK` are the commands and options that `tagzirk` has and `overlay` has not.
-static MEANT: [Meant; 47] = [
+static MEANT: [Meant; 48] = [
     Meant("", "version", "`overlay --version` prints the version"),
     Meant("", "check", CHECK),
     Meant("", "verify", CHECK),
@@ -100,6 +100,7 @@ static MEANT: [Meant; 47] = [
     Meant(EACH, "--up", TAGZIRK),
     Meant(EACH, "--skip", TAGZIRK),
     Meant(EACH, "--all", TAGZIRK),
+    Meant(EACH, "--no-entries", TAGZIRK),
     Meant(EACH, "--only", TAGZIRK),
     Meant(EACH, "--site", TAGZIRK),
     Meant(EACH, "--json", TAGZIRK),
