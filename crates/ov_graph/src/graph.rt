@@ -5,39 +5,40 @@ ghost use Rattle.ov_graph.specs.Changes.{GainsNode, LosesNode, GainsLink, LosesL
 ghost use Rattle.ov_graph.specs.Faults.{GraphJudged};
 ghost use Rattle.ov_graph.specs.Paths.{node_at};
 ghost use Rattle.ov_graph.specs.Row.{HasBit, AreWordsFor};
-ghost use Rattle.ov_graph.specs.Code.Kept.{IsMarked};
 ghost use Rattle.ov_graph.specs.declared.fault.GraphFault.TheVariants.{OutOfMemory as out_of_memory};
 ghost use Rattle.ov_ids.specs.FaultOrder.{IsRefusedBy};
 ghost use Rattle.ov_ids.specs.Members.{Has};
 
-use crate::bit_rows::{Row, WORDS, has, words_for};
-use crate::bit_rows_from_links::rows_of;
-use crate::changing::{join, part, put_in, take_out};
+use crate::bit_rows::WORDS;
 use crate::fault::GraphFault;
 use crate::graph_judging::first_fault;
-use crate::id_and_row_equality::{are_equal, have_same_rows};
 use crate::link_iterators::{Links, Neighbours};
-use crate::node_places_by_id::{are_nodes, place_in, place_of};
+use crate::node_places_by_id::{are_nodes, place_of};
+use crate::row_graph::RowGraph;
 use ov_ids::{NodeId, OutOfMemory, is_ascending};
-use std::alloc::{AllocError, Global};
+use std::alloc::Global;
 use std::marker::Model;
 
 /// A simple undirected graph. Contracts see its nodes and its links, both ascending.
 #[derive(Drop)]
 pub struct Graph {
-    nodes: Vec<NodeId>,
-    rows: Vec<Row>,
+    kept: Kept,
+}
+
+/// How a graph is kept.
+#[derive(Drop)]
+enum Kept {
+    Rows(RowGraph),
 }
 
 impl Model for Graph {
     ghost use Rattle.ov_graph.specs.Links.{LinkGraph};
-    ghost use Rattle.ov_graph.specs.Code.Kept.{graph_kept, IsKept};
 
     ghost Value = { LinkGraph };
 
-    ghost view = { λ g. graph_kept g.nodes.items g.rows.items };
+    ghost use Rattle.ov_graph.specs.Code.Dispatched.{graph_of};
 
-    ghost invariant = { λ g. IsKept g.nodes.items g.rows.items };
+    ghost view = { λ g. graph_of g.kept };
 }
 
 impl Graph {
@@ -62,8 +63,10 @@ impl Graph {
         if let Some(fault) = first_fault(nodes, links) {
             return Err(fault);
         }
-        match kept(alloc, nodes, links) {
-            Ok((nodes, rows)) => Ok(Graph { nodes, rows }),
+        match RowGraph::of(alloc, nodes, links) {
+            Ok(rows) => Ok(Graph {
+                kept: Kept::Rows(rows),
+            }),
             Err(_) => Err(GraphFault::OutOfMemory),
         }
     }
@@ -73,8 +76,7 @@ impl Graph {
         ensures { result ≡ record { nodes = []; links = [] } }
     {
         Graph {
-            nodes: Vec::new(alloc),
-            rows: Vec::new(alloc),
+            kept: Kept::Rows(RowGraph::empty(alloc)),
         }
     }
 
@@ -84,7 +86,9 @@ impl Graph {
         ensures graph { IsGraph self.now }
         ensures within { IsWithinLimit self.now }
     {
-        &self.nodes
+        match &self.kept {
+            Kept::Rows(rows) => rows.nodes(),
+        }
     }
 
     /// The links, ascending, each with its lower node first.
@@ -92,7 +96,9 @@ impl Graph {
         ensures links { result ≡ self.now.links }
         ensures graph { IsGraph self.now }
     {
-        Links::new(&self.nodes, &self.rows)
+        match &self.kept {
+            Kept::Rows(rows) => Links::of_rows(rows.links()),
+        }
     }
 
     /// Whether two nodes are linked. An id that is no node has no links, and no node is linked to itself.
@@ -113,7 +119,9 @@ impl Graph {
         ensures linked { IsTrue result ↔ Linked self.now (node_at self.now p) (node_at self.now q) }
         ensures graph { IsGraph self.now }
     {
-        has(&self.rows[p], q)
+        match &self.kept {
+            Kept::Rows(rows) => rows.linked_at(p, q),
+        }
     }
 
     /// The place of a node, counted from 0, in the order of ids. An id that is no node has none.
@@ -123,7 +131,7 @@ impl Graph {
         ensures graph { IsGraph self.now }
         ensures within { IsWithinLimit self.now }
     {
-        place_of(&self.nodes, a)
+        place_of(self.nodes(), a)
     }
 
     /// The row of a node: bit `p` is set if it is linked to the node at place `p`.
@@ -133,7 +141,9 @@ impl Graph {
             ↔ ((p < length self.now.nodes) × Linked self.now a (node_at self.now p)) }
         ensures graph { IsGraph self.now }
     {
-        &self.rows[place_in(&self.nodes, a)]
+        match &self.kept {
+            Kept::Rows(rows) => rows.row(a),
+        }
     }
 
     /// The row of the node at a place: bit `q` is set if it is linked to the node at place `q`.
@@ -143,7 +153,9 @@ impl Graph {
             ↔ ((q < length self.now.nodes) × Linked self.now (node_at self.now p) (node_at self.now q)) }
         ensures graph { IsGraph self.now }
     {
-        &self.rows[p]
+        match &self.kept {
+            Kept::Rows(rows) => rows.row_at(p),
+        }
     }
 
     /// How many words of the rows are in use. No row has a bit beyond them.
@@ -151,7 +163,9 @@ impl Graph {
         ensures words { AreWordsFor (length self.now.nodes) result }
         ensures fits { result ≤ WORDS }
     {
-        words_for(self.nodes.len())
+        match &self.kept {
+            Kept::Rows(rows) => rows.words(),
+        }
     }
 
     /// The neighbours of a node, ascending.
@@ -160,7 +174,9 @@ impl Graph {
         ensures neighbours { AreNeighbours self.now a result }
         ensures graph { IsGraph self.now }
     {
-        Neighbours::new(&self.nodes, self.row(a))
+        match &self.kept {
+            Kept::Rows(rows) => Neighbours::of_rows(rows.neighbours(a)),
+        }
     }
 
     /// Whether these ids are a group: one or more nodes, ascending.
@@ -173,17 +189,16 @@ impl Graph {
         if !is_ascending(group) {
             return false;
         }
-        are_nodes(&self.nodes, group)
+        are_nodes(self.nodes(), group)
     }
 
     /// Whether two graphs have the same nodes and the same links.
     pub fn is_same(&self, other: &Graph) -> bool
         ensures { IsTrue result ↔ self.now ≡ other.now }
     {
-        if !are_equal(&self.nodes, &other.nodes) {
-            return false;
+        match (&self.kept, &other.kept) {
+            (Kept::Rows(rows), Kept::Rows(others)) => rows.is_same(others),
         }
-        have_same_rows(&self.rows, &other.rows, self.words())
     }
 
     /// Adds a node without links. Out of memory (99) leaves the graph as it was.
@@ -194,7 +209,9 @@ impl Graph {
         ensures err { OnErr result (self.new ≡ self.old) }
         ensures graph { IsGraph self.new }
     {
-        put_in(&mut self.nodes, &mut self.rows, id)
+        match &mut self.kept {
+            Kept::Rows(rows) => rows.add_node(id),
+        }
     }
 
     /// Removes a node and its links. Nothing changes if the id is no node. Nothing is allocated.
@@ -202,8 +219,8 @@ impl Graph {
         ensures node { LosesNode self.old id self.new }
         ensures graph { IsGraph self.new }
     {
-        if let Some(p) = self.place(id) {
-            take_out(&mut self.nodes, &mut self.rows, p);
+        match &mut self.kept {
+            Kept::Rows(rows) => rows.remove_node(id),
         }
     }
 
@@ -215,7 +232,9 @@ impl Graph {
         ensures link { GainsLink self.old a b self.new }
         ensures graph { IsGraph self.new }
     {
-        join(&self.nodes, &mut self.rows, a, b);
+        match &mut self.kept {
+            Kept::Rows(rows) => rows.link(a, b),
+        }
     }
 
     /// Removes the link between two different nodes. Nothing changes if they are not linked. Nothing is allocated.
@@ -226,30 +245,19 @@ impl Graph {
         ensures link { LosesLink self.old a b self.new }
         ensures graph { IsGraph self.new }
     {
-        part(&self.nodes, &mut self.rows, a, b);
+        match &mut self.kept {
+            Kept::Rows(rows) => rows.unlink(a, b),
+        }
     }
 
     /// An equal graph. OutOfMemory (99) if an allocation is refused.
     pub fn copy(&self) -> Result<Graph, OutOfMemory>
         ensures { IfOk result (λ g. g ≡ self.now) }
     {
-        Ok(Graph {
-            nodes: self.nodes.clone()?,
-            rows: self.rows.clone()?,
-        })
+        match &self.kept {
+            Kept::Rows(rows) => Ok(Graph {
+                kept: Kept::Rows(rows.copy()?),
+            }),
+        }
     }
-}
-
-fn kept(
-    alloc: Global,
-    nodes: &[NodeId],
-    links: &[(NodeId, NodeId)],
-) -> Result<(Vec<NodeId>, Vec<Row>), AllocError>
-    requires graph { IsGraph (record { nodes = nodes.now; links = links.now }) }
-    requires few { length nodes.now ≤ most_nodes }
-    ensures { IfOk result (λ v. (v.0.items ≡ nodes.now) × IsMarked nodes.now links.now v.1.items) }
-{
-    let kept = Vec::from_slice(alloc, nodes)?;
-    let rows = rows_of(alloc, nodes, links)?;
-    Ok((kept, rows))
 }

@@ -18,6 +18,8 @@ mod layered_search;
 mod link_iterators;
 mod node_places_by_id;
 mod row_counts;
+mod row_graph;
+mod row_link_iterators;
 mod row_place_shifting;
 
 pub use even_test_and_unique_number::{even_suffices, one_number};
