@@ -1,8 +1,9 @@
 ghost use Rattle.std.specs.Prelude.{◌≡◌, ◌≢◌, ◌↔◌, ℕ, ◌<◌, ◌≤◌, [], length, Some, None, IsTrue};
 ghost use Rattle.std.specs.Prelude.{IfOk, IfSome, IfNone, MatchResult, OnOk, OnErr};
-ghost use Rattle.ov_graph.specs.Links.{LinkGraph, IsGraph, IsWithinLimit, Linked, AreNeighbours, IsGroup, most_nodes};
+ghost use Rattle.ov_graph.specs.Links.{LinkGraph, IsGraph, IsSmall, IsWithinLimit, Linked, AreNeighbours, IsGroup};
+ghost use Rattle.ov_graph.specs.Links.{most_nodes, most_of_any_graph};
 ghost use Rattle.ov_graph.specs.Changes.{GainsNode, LosesNode, GainsLink, LosesLink};
-ghost use Rattle.ov_graph.specs.Faults.{GraphJudged};
+ghost use Rattle.ov_graph.specs.Faults.{GraphJudged, LargeGraphJudged};
 ghost use Rattle.ov_graph.specs.Paths.{node_at};
 ghost use Rattle.ov_graph.specs.Row.{HasBit, AreWordsFor};
 ghost use Rattle.ov_graph.specs.declared.fault.GraphFault.TheVariants.{OutOfMemory as out_of_memory};
@@ -13,6 +14,7 @@ use crate::bit_rows::WORDS;
 use crate::fault::GraphFault;
 use crate::graph_judging::first_fault;
 use crate::link_iterators::{Links, Neighbours};
+use crate::list_graph::ListGraph;
 use crate::node_places_by_id::{are_nodes, place_of};
 use crate::row_graph::RowGraph;
 use ov_ids::{NodeId, OutOfMemory, is_ascending};
@@ -25,10 +27,11 @@ pub struct Graph {
     kept: Kept,
 }
 
-/// How a graph is kept.
+/// How a graph is kept: as rows of bits, or, if it has more than 1,024 nodes, as lists.
 #[derive(Drop)]
 enum Kept {
     Rows(RowGraph),
+    Lists(ListGraph),
 }
 
 impl Model for Graph {
@@ -36,14 +39,19 @@ impl Model for Graph {
 
     ghost Value = { LinkGraph };
 
-    ghost use Rattle.ov_graph.specs.Code.Dispatched.{graph_of};
+    ghost use Rattle.ov_graph.specs.Code.Dispatched.{graph_of, HasItsSize};
 
     ghost view = { λ g. graph_of g.kept };
+
+    ghost invariant = { λ g. HasItsSize g.kept };
 }
 
 impl Graph {
-    /// The most nodes that a graph may have: 1,024.
+    /// The most nodes that a graph may have which is made by `new`: 1,024.
     pub const MOST_NODES: usize = 64 * WORDS;
+
+    /// The most nodes that any graph may have: 32,768.
+    pub const MOST_OF_ANY: usize = 1 << 15;
 
     /// The graph of these nodes and links, or the first fault. The faults in order: more than 1,024 nodes; a node that
     /// is not above the node before it; then for each link that its second id is not above its first, that its first
@@ -56,19 +64,57 @@ impl Graph {
     ) -> Result<Graph, GraphFault>
         ensures graph { IfOk result (λ g. g ≡ record { nodes = nodes.now; links = links.now }) }
         ensures is_graph { IfOk result IsGraph }
-        ensures within { IfOk result IsWithinLimit }
+        ensures small { IfOk result IsSmall }
         ensures judged { MatchResult result (λ _. GraphJudged nodes.now links.now None)
             (IsRefusedBy out_of_memory (GraphJudged nodes.now links.now)) }
     {
-        if let Some(fault) = first_fault(nodes, links) {
+        if let Some(fault) = first_fault(nodes, links, Graph::MOST_NODES) {
             return Err(fault);
         }
-        match RowGraph::of(alloc, nodes, links) {
-            Ok(rows) => Ok(Graph {
-                kept: Kept::Rows(rows),
-            }),
+        match Graph::of(alloc, nodes, links) {
+            Ok(graph) => Ok(graph),
             Err(_) => Err(GraphFault::OutOfMemory),
         }
+    }
+
+    /// The graph of these nodes and links, of which there may be 32,768 nodes, or the first fault. The other faults and
+    /// their order are those of `new`.
+    pub fn large(
+        alloc: Global,
+        nodes: &[NodeId],
+        links: &[(NodeId, NodeId)],
+    ) -> Result<Graph, GraphFault>
+        ensures graph { IfOk result (λ g. g ≡ record { nodes = nodes.now; links = links.now }) }
+        ensures is_graph { IfOk result IsGraph }
+        ensures within { IfOk result IsWithinLimit }
+        ensures judged { MatchResult result (λ _. LargeGraphJudged nodes.now links.now None)
+            (IsRefusedBy out_of_memory (LargeGraphJudged nodes.now links.now)) }
+    {
+        if let Some(fault) = first_fault(nodes, links, Graph::MOST_OF_ANY) {
+            return Err(fault);
+        }
+        match Graph::of(alloc, nodes, links) {
+            Ok(graph) => Ok(graph),
+            Err(_) => Err(GraphFault::OutOfMemory),
+        }
+    }
+
+    /// The graph of these nodes and links, kept as its size asks.
+    fn of(alloc: Global, nodes: &[NodeId], links: &[(NodeId, NodeId)]) -> Result<Graph, OutOfMemory>
+        requires graph { IsGraph (record { nodes = nodes.now; links = links.now }) }
+        requires few { length nodes.now ≤ most_of_any_graph }
+        ensures { IfOk result (λ g. g ≡ record { nodes = nodes.now; links = links.now }) }
+    {
+        if nodes.len() > Graph::MOST_NODES {
+            let lists = ListGraph::of(alloc, nodes, links)?;
+            return Ok(Graph {
+                kept: Kept::Lists(lists),
+            });
+        }
+        let rows = RowGraph::of(alloc, nodes, links)?;
+        Ok(Graph {
+            kept: Kept::Rows(rows),
+        })
     }
 
     /// The graph without nodes. Nothing is allocated.
@@ -88,6 +134,7 @@ impl Graph {
     {
         match &self.kept {
             Kept::Rows(rows) => rows.nodes(),
+            Kept::Lists(lists) => lists.nodes(),
         }
     }
 
@@ -98,6 +145,7 @@ impl Graph {
     {
         match &self.kept {
             Kept::Rows(rows) => Links::of_rows(rows.links()),
+            Kept::Lists(lists) => Links::of_lists(lists.links()),
         }
     }
 
@@ -121,6 +169,7 @@ impl Graph {
     {
         match &self.kept {
             Kept::Rows(rows) => rows.linked_at(p, q),
+            Kept::Lists(lists) => lists.linked_at(p, q),
         }
     }
 
@@ -136,35 +185,41 @@ impl Graph {
 
     /// The row of a node: bit `p` is set if it is linked to the node at place `p`.
     pub fn row(&self, a: NodeId) -> &[u64; WORDS]
-        requires { Has self.now.nodes a }
+        requires small { IsSmall self.now }
+        requires node { Has self.now.nodes a }
         ensures bits { (p : ℕ) → HasBit result.now p
             ↔ ((p < length self.now.nodes) × Linked self.now a (node_at self.now p)) }
         ensures graph { IsGraph self.now }
     {
         match &self.kept {
             Kept::Rows(rows) => rows.row(a),
+            Kept::Lists(_) => unreachable!(),
         }
     }
 
     /// The row of the node at a place: bit `q` is set if it is linked to the node at place `q`.
     pub fn row_at(&self, p: usize) -> &[u64; WORDS]
-        requires { p < length self.now.nodes }
+        requires small { IsSmall self.now }
+        requires place { p < length self.now.nodes }
         ensures bits { (q : ℕ) → HasBit result.now q
             ↔ ((q < length self.now.nodes) × Linked self.now (node_at self.now p) (node_at self.now q)) }
         ensures graph { IsGraph self.now }
     {
         match &self.kept {
             Kept::Rows(rows) => rows.row_at(p),
+            Kept::Lists(_) => unreachable!(),
         }
     }
 
     /// How many words of the rows are in use. No row has a bit beyond them.
     pub fn words(&self) -> usize
+        requires { IsSmall self.now }
         ensures words { AreWordsFor (length self.now.nodes) result }
         ensures fits { result ≤ WORDS }
     {
         match &self.kept {
             Kept::Rows(rows) => rows.words(),
+            Kept::Lists(_) => unreachable!(),
         }
     }
 
@@ -176,6 +231,7 @@ impl Graph {
     {
         match &self.kept {
             Kept::Rows(rows) => Neighbours::of_rows(rows.neighbours(a)),
+            Kept::Lists(lists) => Neighbours::of_lists(lists.neighbours(a)),
         }
     }
 
@@ -198,6 +254,15 @@ impl Graph {
     {
         match (&self.kept, &other.kept) {
             (Kept::Rows(rows), Kept::Rows(others)) => rows.is_same(others),
+            (Kept::Lists(lists), Kept::Lists(others)) => lists.is_same(others),
+            (Kept::Rows(rows), Kept::Lists(_)) => {
+                prove!(rows.nodes().len() <= Graph::MOST_NODES);
+                false
+            }
+            (Kept::Lists(_), Kept::Rows(rows)) => {
+                prove!(rows.nodes().len() <= Graph::MOST_NODES);
+                false
+            }
         }
     }
 
@@ -211,21 +276,25 @@ impl Graph {
     {
         match &mut self.kept {
             Kept::Rows(rows) => rows.add_node(id),
+            Kept::Lists(_) => unreachable!(),
         }
     }
 
     /// Removes a node and its links. Nothing changes if the id is no node. Nothing is allocated.
     pub fn remove_node(&mut self, id: NodeId)
+        requires { IsSmall self.old }
         ensures node { LosesNode self.old id self.new }
         ensures graph { IsGraph self.new }
     {
         match &mut self.kept {
             Kept::Rows(rows) => rows.remove_node(id),
+            Kept::Lists(_) => unreachable!(),
         }
     }
 
     /// Links two different nodes. Nothing changes if they are linked already. Nothing is allocated.
     pub fn link(&mut self, a: NodeId, b: NodeId)
+        requires small { IsSmall self.old }
         requires a { Has self.old.nodes a }
         requires b { Has self.old.nodes b }
         requires differ { a ≢ b }
@@ -234,11 +303,13 @@ impl Graph {
     {
         match &mut self.kept {
             Kept::Rows(rows) => rows.link(a, b),
+            Kept::Lists(_) => unreachable!(),
         }
     }
 
     /// Removes the link between two different nodes. Nothing changes if they are not linked. Nothing is allocated.
     pub fn unlink(&mut self, a: NodeId, b: NodeId)
+        requires small { IsSmall self.old }
         requires a { Has self.old.nodes a }
         requires b { Has self.old.nodes b }
         requires differ { a ≢ b }
@@ -247,6 +318,7 @@ impl Graph {
     {
         match &mut self.kept {
             Kept::Rows(rows) => rows.unlink(a, b),
+            Kept::Lists(_) => unreachable!(),
         }
     }
 
@@ -257,6 +329,9 @@ impl Graph {
         match &self.kept {
             Kept::Rows(rows) => Ok(Graph {
                 kept: Kept::Rows(rows.copy()?),
+            }),
+            Kept::Lists(lists) => Ok(Graph {
+                kept: Kept::Lists(lists.copy()?),
             }),
         }
     }

@@ -1,6 +1,7 @@
 ghost use Rattle.std.specs.Prelude.{◌≡◌};
 ghost use Rattle.std.specs.Iterator.{YieldsFirst, item_count};
 
+use crate::listed_link_iterators::{ListedLinks, ListedNeighbours};
 use crate::row_link_iterators::{RowLinks, RowNeighbours};
 use ov_ids::NodeId;
 use std::marker::Model;
@@ -15,6 +16,7 @@ pub struct Neighbours<'a> {
 #[derive(Drop)]
 enum NeighboursLeft<'a> {
     Rows(RowNeighbours<'a>),
+    Lists(ListedNeighbours<'a>),
 }
 
 impl<'a> Model for Neighbours<'a> {
@@ -35,6 +37,14 @@ impl<'a> Neighbours<'a> {
             left: NeighboursLeft::Rows(rows),
         }
     }
+
+    pub(crate) fn of_lists(lists: ListedNeighbours<'a>) -> Neighbours<'a>
+        ensures { result ≡ lists.entry }
+    {
+        Neighbours {
+            left: NeighboursLeft::Lists(lists),
+        }
+    }
 }
 
 impl Iterator for Neighbours<'_> {
@@ -47,6 +57,7 @@ impl Iterator for Neighbours<'_> {
     fn next(&mut self) -> Option<NodeId> {
         match &mut self.left {
             NeighboursLeft::Rows(rows) => rows.next(),
+            NeighboursLeft::Lists(lists) => lists.next(),
         }
     }
 }
@@ -61,6 +72,7 @@ pub struct Links<'a> {
 #[derive(Drop)]
 enum LinksLeft<'a> {
     Rows(RowLinks<'a>),
+    Lists(ListedLinks<'a>),
 }
 
 impl<'a> Model for Links<'a> {
@@ -81,6 +93,14 @@ impl<'a> Links<'a> {
             left: LinksLeft::Rows(rows),
         }
     }
+
+    pub(crate) fn of_lists(lists: ListedLinks<'a>) -> Links<'a>
+        ensures { result ≡ lists.entry }
+    {
+        Links {
+            left: LinksLeft::Lists(lists),
+        }
+    }
 }
 
 impl Iterator for Links<'_> {
@@ -93,6 +113,7 @@ impl Iterator for Links<'_> {
     fn next(&mut self) -> Option<(NodeId, NodeId)> {
         match &mut self.left {
             LinksLeft::Rows(rows) => rows.next(),
+            LinksLeft::Lists(lists) => lists.next(),
         }
     }
 }

@@ -1,6 +1,6 @@
 ghost use Rattle.std.specs.Prelude.{◌≡◌, ◌≢◌, ◌↔◌, ℕ, ◌<◌, ◌≤◌, [], length, Some, IsTrue};
 ghost use Rattle.std.specs.Prelude.{IfOk, OnOk, OnErr};
-ghost use Rattle.ov_graph.specs.Links.{LinkGraph, IsGraph, IsWithinLimit, Linked, AreNeighbours, most_nodes};
+ghost use Rattle.ov_graph.specs.Links.{LinkGraph, IsGraph, IsSmall, Linked, AreNeighbours, most_nodes};
 ghost use Rattle.ov_graph.specs.Changes.{GainsNode, LosesNode, GainsLink, LosesLink};
 ghost use Rattle.ov_graph.specs.Paths.{node_at};
 ghost use Rattle.ov_graph.specs.Row.{HasBit, AreWordsFor};
@@ -65,7 +65,7 @@ impl RowGraph {
     pub(crate) fn nodes(&self) -> &[NodeId]
         ensures nodes { result.now ≡ self.now.nodes }
         ensures graph { IsGraph self.now }
-        ensures within { IsWithinLimit self.now }
+        ensures small { IsSmall self.now }
     {
         &self.nodes
     }

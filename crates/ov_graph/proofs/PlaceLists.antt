@@ -1,0 +1,3 @@
+-- Links kept as lists of places.
+pub mod Growing
+pub mod Reading
