@@ -16,6 +16,7 @@ mod graph_shape;
 mod id_and_row_equality;
 mod layered_search;
 mod link_iterators;
+mod neighbour_places;
 mod node_places_by_id;
 mod row_counts;
 mod row_place_shifting;
