@@ -1,11 +1,12 @@
-ghost use Rattle.std.specs.Prelude.{◌≡◌, ◌≢◌, ◌↔◌, ℕ, ◌<◌, ◌≤◌, [], length, Some, None, IsTrue};
+ghost use Rattle.std.specs.Prelude.{◌≡◌, ◌≢◌, ◌↔◌, ℕ, ◌<◌, ◌≤◌, ◌*◌, [], length, Some, None, IsTrue};
 ghost use Rattle.std.specs.Prelude.{IfOk, IfSome, IfNone, MatchResult, OnOk, OnErr};
 ghost use Rattle.ov_graph.specs.Links.{LinkGraph, IsGraph, IsSmall, IsWithinLimit, Linked, AreNeighbours, IsGroup};
 ghost use Rattle.ov_graph.specs.Links.{most_nodes, most_of_any_graph};
 ghost use Rattle.ov_graph.specs.Changes.{GainsNode, LosesNode, GainsLink, LosesLink};
 ghost use Rattle.ov_graph.specs.Faults.{GraphJudged, LargeGraphJudged};
 ghost use Rattle.ov_graph.specs.Paths.{node_at};
-ghost use Rattle.ov_graph.specs.Row.{HasBit, AreWordsFor};
+ghost use Rattle.ov_graph.specs.Row.{HasBit, AreWordsFor, word_bits};
+ghost use Rattle.ov_graph.specs.Neighbours.{IsFirst, HoldsNoMore, AreLinkedAt, IsOutside, IsWithin};
 ghost use Rattle.ov_graph.specs.declared.fault.GraphFault.TheVariants.{OutOfMemory as out_of_memory};
 ghost use Rattle.ov_ids.specs.FaultOrder.{IsRefusedBy};
 ghost use Rattle.ov_ids.specs.Members.{Has};
@@ -208,6 +209,59 @@ impl Graph {
         match &self.kept {
             Kept::Rows(rows) => rows.row_at(p),
             Kept::Lists(_) => unreachable!(),
+        }
+    }
+
+    /// The first place from `after` on of a neighbour of the node at place `p`, outside a set of places. The set is a
+    /// row of bits.
+    pub fn next_outside<const W: usize>(
+        &self,
+        p: usize,
+        set: &[u64; W],
+        after: usize,
+    ) -> Option<usize>
+        requires p { p < length self.now.nodes }
+        requires room { length self.now.nodes ≤ word_bits * W }
+        ensures some { IfSome result (IsFirst (IsOutside self.now p set.now) after) }
+        ensures none { IfNone result (HoldsNoMore (IsOutside self.now p set.now) after) }
+        ensures graph { IsGraph self.now }
+    {
+        match &self.kept {
+            Kept::Rows(rows) => rows.next_outside(p, set, after),
+            Kept::Lists(lists) => lists.next_outside(p, set, after),
+        }
+    }
+
+    /// The first place from `after` on of a neighbour of the node at place `p`, within a set of places. The set is a
+    /// row of bits.
+    pub fn next_within<const W: usize>(
+        &self,
+        p: usize,
+        set: &[u64; W],
+        after: usize,
+    ) -> Option<usize>
+        requires p { p < length self.now.nodes }
+        requires room { length self.now.nodes ≤ word_bits * W }
+        ensures some { IfSome result (IsFirst (IsWithin self.now p set.now) after) }
+        ensures none { IfNone result (HoldsNoMore (IsWithin self.now p set.now) after) }
+        ensures graph { IsGraph self.now }
+    {
+        match &self.kept {
+            Kept::Rows(rows) => rows.next_within(p, set, after),
+            Kept::Lists(lists) => lists.next_within(p, set, after),
+        }
+    }
+
+    /// The set of the places of the neighbours of the node at place `p`, as a row of `W` words of bits.
+    pub fn neighbour_set<const W: usize>(&self, p: usize) -> [u64; W]
+        requires p { p < length self.now.nodes }
+        requires room { length self.now.nodes ≤ word_bits * W }
+        ensures set { (q : ℕ) → HasBit result q ↔ AreLinkedAt self.now p q }
+        ensures graph { IsGraph self.now }
+    {
+        match &self.kept {
+            Kept::Rows(rows) => rows.neighbour_set(p),
+            Kept::Lists(lists) => lists.neighbour_set(p),
         }
     }
 

@@ -18,6 +18,8 @@ mod layered_search;
 mod link_iterators;
 mod list_graph;
 mod listed_link_iterators;
+mod listed_neighbour_places;
+mod neighbour_places;
 mod node_places_by_id;
 mod place_list;
 mod place_lists_from_links;

@@ -1,11 +1,14 @@
-ghost use Rattle.std.specs.Prelude.{◌≡◌, ◌↔◌, ◌<◌, ◌≤◌, length, IsTrue, IfOk};
+ghost use Rattle.std.specs.Prelude.{◌≡◌, ◌↔◌, ℕ, ◌<◌, ◌≤◌, ◌*◌, length, IsTrue, IfOk, IfSome, IfNone};
 ghost use Rattle.ov_graph.specs.Links.{LinkGraph, IsGraph, IsWithinLimit, Linked, AreNeighbours};
 ghost use Rattle.ov_graph.specs.Links.{most_of_any_graph};
+ghost use Rattle.ov_graph.specs.Neighbours.{IsFirst, HoldsNoMore, AreLinkedAt, IsOutside, IsWithin};
 ghost use Rattle.ov_graph.specs.Paths.{node_at};
+ghost use Rattle.ov_graph.specs.Row.{HasBit, word_bits};
 ghost use Rattle.ov_ids.specs.Members.{Has};
 
 use crate::id_and_row_equality::{are_equal, have_same_links};
 use crate::listed_link_iterators::{ListedLinks, ListedNeighbours};
+use crate::listed_neighbour_places::{first_outside_of, first_within_of, set_of};
 use crate::node_places_by_id::place_in;
 use crate::place_list::PlaceList;
 use crate::place_lists_from_links::lists_of;
@@ -87,6 +90,48 @@ impl ListGraph {
     {
         let p = place_in(&self.nodes, a);
         ListedNeighbours::new(&self.nodes, self.lists[p].as_slice())
+    }
+
+    /// The first place from `after` on of a neighbour of the node at place `p`, outside a set of places.
+    pub(crate) fn next_outside<const W: usize>(
+        &self,
+        p: usize,
+        set: &[u64; W],
+        after: usize,
+    ) -> Option<usize>
+        requires p { p < length self.now.nodes }
+        requires room { length self.now.nodes ≤ word_bits * W }
+        ensures some { IfSome result (IsFirst (IsOutside self.now p set.now) after) }
+        ensures none { IfNone result (HoldsNoMore (IsOutside self.now p set.now) after) }
+        ensures graph { IsGraph self.now }
+    {
+        first_outside_of(self.lists[p].from(after), set)
+    }
+
+    /// The first place from `after` on of a neighbour of the node at place `p`, within a set of places.
+    pub(crate) fn next_within<const W: usize>(
+        &self,
+        p: usize,
+        set: &[u64; W],
+        after: usize,
+    ) -> Option<usize>
+        requires p { p < length self.now.nodes }
+        requires room { length self.now.nodes ≤ word_bits * W }
+        ensures some { IfSome result (IsFirst (IsWithin self.now p set.now) after) }
+        ensures none { IfNone result (HoldsNoMore (IsWithin self.now p set.now) after) }
+        ensures graph { IsGraph self.now }
+    {
+        first_within_of(self.lists[p].from(after), set)
+    }
+
+    /// The set of the places of the neighbours of the node at place `p`.
+    pub(crate) fn neighbour_set<const W: usize>(&self, p: usize) -> [u64; W]
+        requires p { p < length self.now.nodes }
+        requires room { length self.now.nodes ≤ word_bits * W }
+        ensures set { (q : ℕ) → HasBit result q ↔ AreLinkedAt self.now p q }
+        ensures graph { IsGraph self.now }
+    {
+        set_of(self.lists[p].as_slice())
     }
 
     /// Whether two graphs have the same nodes and the same links.

@@ -1,7 +1,9 @@
-ghost use Rattle.std.specs.Prelude.{◌≡◌, ◌↔◌, ◌<◌, ◌++◌, ◌∷◌, [], IsTrue, OnOk};
+ghost use Rattle.std.specs.Prelude.{◌≡◌, ◌↔◌, ℕ, ◌<◌, ◌++◌, ◌∷◌, [], IsTrue, OnOk};
 ghost use Rattle.ov_ids.specs.Members.{Has, Ascends};
 ghost use Rattle.ov_graph.specs.Links.{most_of_any_graph};
+ghost use Rattle.ov_graph.specs.Code.Listed.{AreFrom};
 
+use crate::graph::Graph;
 use ov_ids::OutOfMemory;
 use std::alloc::Global;
 use std::marker::Model;
@@ -46,6 +48,22 @@ impl PlaceList {
         ensures { IsTrue result ↔ Has self.now place }
     {
         self.places.binary_search(&(place as u16)).is_ok()
+    }
+
+    /// The places from `after` on, in order.
+    pub(crate) fn from(&self, after: usize) -> &[u16]
+        requires ascend { Ascends self.now }
+        requires fit { (p : ℕ) → Has self.now p → p < most_of_any_graph }
+        ensures { AreFrom self.now after result.now }
+    {
+        if after >= Graph::MOST_OF_ANY {
+            return &self.places[self.places.len()..];
+        }
+        let start = match self.places.binary_search(&(after as u16)) {
+            Ok(place) => place,
+            Err(place) => place,
+        };
+        &self.places[start..]
     }
 
     /// The places in order.

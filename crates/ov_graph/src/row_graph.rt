@@ -1,9 +1,10 @@
-ghost use Rattle.std.specs.Prelude.{◌≡◌, ◌≢◌, ◌↔◌, ℕ, ◌<◌, ◌≤◌, [], length, Some, IsTrue};
-ghost use Rattle.std.specs.Prelude.{IfOk, OnOk, OnErr};
+ghost use Rattle.std.specs.Prelude.{◌≡◌, ◌≢◌, ◌↔◌, ℕ, ◌<◌, ◌≤◌, ◌*◌, [], length, Some, IsTrue};
+ghost use Rattle.std.specs.Prelude.{IfOk, IfSome, IfNone, OnOk, OnErr};
 ghost use Rattle.ov_graph.specs.Links.{LinkGraph, IsGraph, IsSmall, Linked, AreNeighbours, most_nodes};
 ghost use Rattle.ov_graph.specs.Changes.{GainsNode, LosesNode, GainsLink, LosesLink};
 ghost use Rattle.ov_graph.specs.Paths.{node_at};
-ghost use Rattle.ov_graph.specs.Row.{HasBit, AreWordsFor};
+ghost use Rattle.ov_graph.specs.Row.{HasBit, AreWordsFor, word_bits};
+ghost use Rattle.ov_graph.specs.Neighbours.{IsFirst, HoldsNoMore, AreLinkedAt, IsOutside, IsWithin};
 ghost use Rattle.ov_graph.specs.Code.Kept.{IsMarked};
 ghost use Rattle.ov_ids.specs.Members.{Has};
 
@@ -11,6 +12,7 @@ use crate::bit_rows::{Row, WORDS, has, words_for};
 use crate::bit_rows_from_links::rows_of;
 use crate::changing::{join, part, put_in, take_out};
 use crate::id_and_row_equality::{are_equal, have_same_rows};
+use crate::neighbour_places::{first_outside, first_within, widened};
 use crate::node_places_by_id::{place_in, place_of};
 use crate::row_link_iterators::{RowLinks, RowNeighbours};
 use ov_ids::{NodeId, OutOfMemory};
@@ -108,12 +110,54 @@ impl RowGraph {
         &self.rows[p]
     }
 
+    /// The first place from `after` on of a neighbour of the node at place `p`, outside a set of places.
+    pub(crate) fn next_outside<const W: usize>(
+        &self,
+        p: usize,
+        set: &[u64; W],
+        after: usize,
+    ) -> Option<usize>
+        requires p { p < length self.now.nodes }
+        requires room { length self.now.nodes ≤ word_bits * W }
+        ensures some { IfSome result (IsFirst (IsOutside self.now p set.now) after) }
+        ensures none { IfNone result (HoldsNoMore (IsOutside self.now p set.now) after) }
+        ensures graph { IsGraph self.now }
+    {
+        first_outside(self.row_at(p), set, after, self.words())
+    }
+
+    /// The first place from `after` on of a neighbour of the node at place `p`, within a set of places.
+    pub(crate) fn next_within<const W: usize>(
+        &self,
+        p: usize,
+        set: &[u64; W],
+        after: usize,
+    ) -> Option<usize>
+        requires p { p < length self.now.nodes }
+        requires room { length self.now.nodes ≤ word_bits * W }
+        ensures some { IfSome result (IsFirst (IsWithin self.now p set.now) after) }
+        ensures none { IfNone result (HoldsNoMore (IsWithin self.now p set.now) after) }
+        ensures graph { IsGraph self.now }
+    {
+        first_within(self.row_at(p), set, after, self.words())
+    }
+
+    /// The set of the places of the neighbours of the node at place `p`.
+    pub(crate) fn neighbour_set<const W: usize>(&self, p: usize) -> [u64; W]
+        requires p { p < length self.now.nodes }
+        requires room { length self.now.nodes ≤ word_bits * W }
+        ensures set { (q : ℕ) → HasBit result q ↔ AreLinkedAt self.now p q }
+        ensures graph { IsGraph self.now }
+    {
+        widened(self.row_at(p), self.words())
+    }
+
     /// How many words of the rows are in use. No row has a bit beyond them.
     pub(crate) fn words(&self) -> usize
         ensures words { AreWordsFor (length self.now.nodes) result }
         ensures fits { result ≤ WORDS }
     {
-        words_for(self.nodes.len())
+        words_for::<WORDS>(self.nodes.len())
     }
 
     /// The neighbours of a node, ascending.

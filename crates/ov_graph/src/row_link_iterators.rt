@@ -3,7 +3,7 @@ ghost use Rattle.std.specs.Iterator.{YieldsFirst, item_count};
 ghost use Rattle.ov_graph.specs.Row.{picked};
 ghost use Rattle.ov_graph.specs.Code.Kept.{links_read, IsRowOf, IsKept};
 
-use crate::bit_rows::{Row, first_from, words_for};
+use crate::bit_rows::{Row, WORDS, first_from, words_for};
 use ov_ids::NodeId;
 use std::marker::Model;
 
@@ -37,7 +37,7 @@ impl<'a> RowNeighbours<'a> {
         RowNeighbours {
             nodes,
             row,
-            words: words_for(nodes.len()),
+            words: words_for::<WORDS>(nodes.len()),
             next: 0,
         }
     }
@@ -87,7 +87,7 @@ impl<'a> RowLinks<'a> {
         RowLinks {
             nodes,
             rows,
-            words: words_for(nodes.len()),
+            words: words_for::<WORDS>(nodes.len()),
             lower: 0,
             next: 1,
         }

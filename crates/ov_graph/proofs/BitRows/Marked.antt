@@ -1,16 +1,16 @@
 -- Rows with the bits of links.
 use Rattle.std.proofs.Common.{◌≡◌, ◌≢◌, ◌∙◌, ◌↔◌, ◌⊎◌, ℕ, ◌+◌, ◌<◌, ◌≤◌, List, [], ◌∷◌, ◌++◌, length, replicate, set}
-use Rattle.std.proofs.Common.{slice_index, inl, inr, refl, sym, ap, ap₂, subst, arith}
+use Rattle.std.proofs.Common.{slice_index, inl, inr, refl, sym, ap, subst, arith}
 use Rattle.std.proofs.lemmas.Bool.{cases_order, cases_eq, cases_lt}
 use Rattle.std.proofs.lemmas.List.{get_or-set_same, get_or-set_other, get_or-replicate, length-replicate, get_or_past}
 use Rattle.ov_ids.specs.Members.{Has, Ascends}
-use Rattle.ov_ids.proofs.Members.{has_append_left, has_append_right, has_append_cases, place_of, ordered_at}
+use Rattle.ov_ids.proofs.Members.{place_of, ordered_at}
 use Rattle.ov_ids.proofs.Members.{same_ordered}
 use Rattle.ov_graph.specs.Links.{LinkGraph, IsGraph, Precedes, Linked, most_nodes}
 use Rattle.ov_graph.specs.Row.{HasBit}
 use Rattle.ov_graph.specs.Code.Kept.{row_at, links_read, graph_kept, IsKept, IsMarked}
 use Rattle.ov_graph.proofs.BitRows.Bits.{bit_moved, no_row}
-use Rattle.ov_graph.proofs.BitRows.Read.{has_read, in_read, ordered_read, one_place, row_below}
+use Rattle.ov_graph.proofs.BitRows.Read.{has_read, in_read, ordered_read, row_below}
 use Rattle.ov_graph.proofs.EvenTest.Walks.{linked_sym}
 use Rattle.ov_graph.proofs.GraphValues.OneGraph.{not_self}
 use Rattle.ov_graph.proofs.GraphValues.OneMoreLink.{more_joined}

@@ -1,9 +1,8 @@
 -- What lists of places say of a graph.
-use Rattle.std.proofs.Common.{◌≡◌, ◌∙◌, ◌↔◌, ℕ, ◌<◌, ◌≤◌, List, [], ◌∷◌, Bool, IsTrue, length, map, get_or, slice_index}
+use Rattle.std.proofs.Common.{◌≡◌, ◌∙◌, ◌↔◌, ℕ, ◌<◌, List, [], ◌∷◌, IsTrue, length, get_or, slice_index}
 use Rattle.std.proofs.Common.{◌-◌, Option, Some, None, take, drop, eqb, ◌&&◌, eq-eqb, eqb-true, Result, Ok, Err, inl, inr, refl, sym, ap, ap₂, subst, arith}
 use Rattle.std.specs.Result.{is_ok}
 use Rattle.std.specs.Ordering.{nat_cmp}
-use Rattle.std.specs.List.{AllByRecursion}
 use Rattle.std.specs.List.Sorted.{IsBinarySearchResult}
 use Rattle.std.proofs.lemmas.Bool.{cases_lt, and_parts, and_from}
 use Rattle.std.specs.Prelude.{slice_get}
@@ -11,7 +10,7 @@ use Rattle.std.proofs.lemmas.List.{get_or_default, take_all}
 use Rattle.std.proofs.lemmas.List.Sorted.{searched}
 use Rattle.ov_ids.specs.Members.{Has, Ascends}
 use Rattle.ov_ids.proofs.Members.{has_place, place_of, ordered_at, all_from_members, all_member}
-use Rattle.ov_graph.specs.Links.{LinkGraph, IsGraph, Linked, AreNeighbours}
+use Rattle.ov_graph.specs.Links.{LinkGraph, Linked, AreNeighbours}
 use Rattle.ov_graph.specs.Code.Listed.{listed_at, nodes_at, AreListed, IsListed}
 use Rattle.ov_graph.proofs.BitRows.Halving.{never_falls}
 use Rattle.ov_graph.proofs.EvenTest.Filtered.{linked_node}

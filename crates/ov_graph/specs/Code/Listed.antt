@@ -2,7 +2,7 @@
 -- neighbours.
 use Rattle.std.specs.Prelude.{◌≡◌, ◌↔◌, ℕ, ◌<◌, ◌≤◌, List, [], length, map, get_or, slice_index}
 use Rattle.ov_ids.specs.Members.{Has, Ascends}
-use Rattle.ov_graph.specs.Links.{LinkGraph, IsGraph, Linked, most_of_any_graph}
+use Rattle.ov_graph.specs.Links.{IsGraph, Linked, most_of_any_graph}
 
 -- the list of the node at a place
 abbrev pub listed_at : List (List ℕ) → ℕ → List ℕ
@@ -21,6 +21,17 @@ pub record IsListed (nodes : List ℕ) (links : List (ℕ × ℕ)) (lists : List
   pub few : length nodes ≤ most_of_any_graph
   pub graph : IsGraph (record { nodes = nodes; links = links })
   pub listed : AreListed nodes links lists
+
+-- these are the places of xs from `after` on
+pub record AreFrom (xs : List ℕ) (after : ℕ) (rest : List ℕ) : Type 0 where
+  pub ascend : Ascends rest
+  pub each : (q : ℕ) → Has rest q ↔ ((after ≤ q) × Has xs q)
+
+-- p is the first of these places for which P holds
+pub record IsFirstOf (P : ℕ → Type 0) (places : List ℕ) (p : ℕ) : Type 0 where
+  pub among : Has places p
+  pub holds : P p
+  pub first : (q : ℕ) → Has places q → q < p → ¬ P q
 
 -- the nodes at these places
 abbrev pub nodes_at : List ℕ → List ℕ → List ℕ

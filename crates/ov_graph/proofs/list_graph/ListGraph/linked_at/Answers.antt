@@ -1,5 +1,5 @@
 -- The list at one place says whether the two are linked.
-use Rattle.std.proofs.Common.{◌≡◌, ◌<◌, ◌↔◌, List, ℕ, IsTrue, length, slice_index, sym, subst, arith}
+use Rattle.std.proofs.Common.{◌<◌, ◌↔◌, List, ℕ, IsTrue, length, slice_index, sym, subst, arith}
 use Rattle.ov_ids.specs.Members.{Has, Ascends}
 use Rattle.ov_graph.specs.Links.{LinkGraph, Linked}
 use Rattle.ov_graph.proofs.PlaceLists.Reading.{list_lent, listed_linked}

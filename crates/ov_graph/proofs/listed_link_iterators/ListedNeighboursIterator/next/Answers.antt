@@ -1,5 +1,5 @@
 -- The neighbours still to come, step by step.
-use Rattle.std.proofs.Common.{◌∙◌, sym, rules}
+use Rattle.std.proofs.Common.{◌∙◌, sym}
 use Rattle.ov_graph.proofs.PlaceLists.Reading.{one_node_taken, first_taken, rest_taken}
 use Rattle.ov_graph.proofs.listed_link_iterators.ListedNeighboursIterator.next.Goals as goal
 

@@ -9,7 +9,8 @@ use Rattle.ov_graph.proofs.row_link_iterators.RowLinksIterator.next.Goals as goa
 pub first_from-requires : goal.first_from-requires
 first_from-requires c =
     let s = c.loop-self.self-inside in
-    few_words (length s.nodes.now) s.words c.loop-self.invariant.kept.few c.loop-self.invariant.words
+    let fits = few_words (length s.nodes.now) s.words c.loop-self.invariant.kept.few c.loop-self.invariant.words in
+    (omega arith, (fits, omega (arith, fits)))
 
 pub returns-in-Some-clause-steps : goal.returns-in-Some-clause-steps
 returns-in-Some-clause-steps c =

@@ -5,8 +5,10 @@ use Rattle.ov_graph.proofs.BitRows.Read.{next_picked, none_picked}
 use Rattle.ov_graph.proofs.row_link_iterators.RowNeighboursIterator.next.Goals as goal
 
 pub first_from-requires : goal.first_from-requires
-first_from-requires c = few_words (length c.self.inside.nodes.now)
-    c.self.inside.words c.self.invariant.0.few c.self.invariant.1
+first_from-requires c =
+    let s = c.self.inside in
+    let fits = few_words (length s.nodes.now) s.words c.self.invariant.0.few c.self.invariant.1 in
+    (omega arith, (fits, omega (arith, fits)))
 
 pub returns-in_err-place-clause-steps : goal.returns-in_err-place-clause-steps
 returns-in_err-place-clause-steps c =
