@@ -28,7 +28,8 @@ IsFew version g = length g.nodes ≤ most_nodes_of version
 -- a graph within the limit of all graphs and of the version has no fault
 graph_judged : (version : Version) (g : LinkGraph) → IsGraph g → length g.nodes ≤ most_nodes → IsFew version g
     → FileGraphJudged version g None
-graph_judged version g graph within few = inl (few, passed g.nodes g.links (no_fault_found g graph within))
+graph_judged version g graph within few =
+    inl (few, passed most_nodes g.nodes g.links (no_fault_found most_nodes g graph within))
 
 one_linked_met : (k m : ℕ) (g : LinkGraph) (q : List ℕ) → GraphReadsBack g → CertReadsBack (cert.Linked k)
     → moment_in (whole_data m) ≡ Some m → first_unmet (demands (data_in One (cert.Linked k) g q m)) ≡ None
