@@ -5,11 +5,11 @@ use Rattle.ov_graph.specs.Row.{picked}
 use Rattle.ov_lists.specs.Building.{Building}
 use Rattle.ov_components.specs.Components.{AreComponents}
 use Rattle.ov_components.proofs.Divided.{IsDivided, divided_whole, divided_past, divided_more, divided_all}
-use Rattle.ov_components.proofs.components_after_crash.components_without.Goals as goal
-use Rattle.ov_components.proofs.components_after_crash.components_without.Goals.{then-has+in_ok-push_component, else-has}
+use Rattle.ov_components.proofs.components_after_crash.components_by.Goals as goal
+use Rattle.ov_components.proofs.components_after_crash.components_by.Goals.{then-has+in_ok-push_component, else-has}
 
 pub push_component-requires-clause-within : goal.push_component-requires-clause-within
-push_component-requires-clause-within c p h =
+push_component-requires-clause-within v c p h =
     let g = c.args.graph.now in
     let cut = c.args.cut.now in
     let whole = divided_whole g cut c.loop-start.lists.paths c.loop-start.left c.loop-start.start
@@ -17,7 +17,7 @@ push_component-requires-clause-within c p h =
     (((c.take_component-component.ensures.taken cut whole).component p).0 h).0
 
 pub loop-start-preserved : goal.loop-start-preserved
-loop-start-preserved c =
+loop-start-preserved v c =
     let g = c.args.graph.now in
     let cut = c.args.cut.now in
     let start = c.loop-start.start in
@@ -51,7 +51,7 @@ loop-start-preserved c =
     ]
 
 pub returns : goal.returns
-returns c =
+returns v c =
     let g = c.args.graph.now in
     let end : length g.nodes ≤ c.loop-start.start =
     subst (λ (xs : List ℕ). length xs ≤ c.loop-start.start) c.nodes-count.ensures.nodes c.loop-start-test.false in
