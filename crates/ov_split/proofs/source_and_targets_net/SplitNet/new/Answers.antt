@@ -17,7 +17,7 @@ returns-clause-net g c =
       targets = picked c.args.targets 0 graph.nodes;
     } in
     let kept = kept_of graph row c.args.source c.args.targets c.args.avoided c.nodes.ensures.graph c.requires.source
-    c.requires.avoided.words c.requires.targets.words c.row_of-avoided.ensures in
+    c.requires.avoided c.requires.targets c.row_of-avoided.ensures in
     ap of (one_picked graph row c.args.avoided c.nodes.ensures.graph kept.avoided_below c.row_of-avoided.ensures)
 
 pub returns-clause-is_net : goal.returns-clause-is_net
@@ -25,4 +25,4 @@ returns-clause-is_net g c =
     let row = c.row_of-avoided.result in
     net_of c.args.graph.now row c.args.source c.args.targets
     (kept_of c.args.graph.now row c.args.source c.args.targets c.args.avoided c.nodes.ensures.graph c.requires.source
-    c.requires.avoided.words c.requires.targets.words c.row_of-avoided.ensures)
+    c.requires.avoided c.requires.targets c.row_of-avoided.ensures)
