@@ -1,5 +1,5 @@
 -- What is held is a table, and the walk leads to the last node that is reached.
-use Rattle.std.proofs.Common.{◌≡◌, ◌∙◌, ◌-◌, ℕ, List, Option, length, get_or, subst, arith}
+use Rattle.std.proofs.Common.{rules, ◌≡◌, ◌∙◌, ◌-◌, ℕ, List, Option, length, get_or, subst, arith}
 use Rattle.std.proofs.lemmas.List.{get_or_read}
 use Rattle.ov_split.specs.Places.{net_by_place}
 use Rattle.ov_flow.specs.Code.Reached.{IsGrown}
@@ -9,13 +9,13 @@ use Rattle.ov_flow.proofs.Reaching.{tree_bound}
 use Rattle.ov_flow.proofs.augmenting_paths.augment.Goals as goal
 
 pub search-requires : goal.search-requires
-search-requires g c = (omega arith,
+search-requires g c = (omega arith, (omega arith,
     (c.requires.ready,
     ((let w = c.args.work.now in
     rw c.deref.ensures.value
     (flow_table (net_by_place c.args.net.now) (length c.args.net.now.graph.nodes) w.from.items w.ends.items
     c.requires.ready.placed c.requires.work.room.from c.requires.work.flow)),
-    search rules)))
+    search rules))))
 
 pub walk_back-requires : goal.walk_back-requires
 walk_back-requires g c = (omega arith,

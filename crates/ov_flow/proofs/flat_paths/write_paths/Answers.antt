@@ -1,5 +1,5 @@
 -- Path by path, and then read again.
-use Rattle.std.proofs.Common.{ℕ, List, take, take_all, get_or, subst, arith}
+use Rattle.std.proofs.Common.{rules, ℕ, List, take, take_all, get_or, subst, arith}
 use Rattle.std.proofs.lemmas.List.{take_more}
 use Rattle.ov_ids.specs.Members.{Has}
 use Rattle.ov_ids.proofs.Members.{has_place, has_from_take}

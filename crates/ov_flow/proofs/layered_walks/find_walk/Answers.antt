@@ -1,5 +1,5 @@
 -- Each step goes to a node that was not visited, and a step that leads nowhere is dropped.
-use Rattle.std.proofs.Common.{◌≡◌, ◌∙◌, ℕ, List, length, sym, ap, subst, arith, option_to_list}
+use Rattle.std.proofs.Common.{rules, ◌≡◌, ◌∙◌, ℕ, List, length, sym, ap, subst, arith, option_to_list}
 use Rattle.ov_split.specs.Places.{net_by_place}
 use Rattle.ov_flow.specs.Code.Walked.{table_of, end_of, IsNextHop}
 use Rattle.ov_flow.proofs.Seeking.{IsSought, sought_at, sought_room, sought_walk, sought_more, sought_less}
@@ -7,7 +7,7 @@ use Rattle.ov_flow.proofs.layered_walks.find_walk.Goals.{in-Some+else-has, in-No
 use Rattle.ov_flow.proofs.layered_walks.find_walk.Goals as goal
 
 pub next_hop-requires : goal.next_hop-requires
-next_hop-requires g c = (omega arith,
+next_hop-requires g c = (omega arith, (omega arith,
     (c.requires.ready,
     (search rules,
     (let n = net_by_place c.args.net.now in
@@ -17,7 +17,7 @@ next_hop-requires g c = (omega arith,
     ∙ ap (λ (a : ℕ). end_of a hops) c.source-source.ensures.place in
     let b = sought_at n (length c.args.net.now.graph.nodes) c.requires.ready.placed (table_of c.args.from.now) hops
     c.loop-turn.layers.visited c.loop-turn.invariant.sought in
-    omega (arith, e, b)))))
+    omega (arith, e, b))))))
 
 pub push_reserved-requires : goal.push_reserved-requires
 push_reserved-requires g c =

@@ -12,7 +12,7 @@ next_outside-requires g c =
     let l = read_below (net_by_place c.args.net.now) (length c.args.net.now.graph.nodes) (table_of c.args.from.now)
     t.order.items t.parents.items t.ways.items c.args.at c.index.result.now c.requires.ready.placed
     c.requires.grown.is_tree c.requires.at c.index.ensures in
-    (omega arith, l)
+    (omega arith, (omega arith, l))
 
 pub tip-node-requires : goal.tip-node-requires
 tip-node-requires g c =

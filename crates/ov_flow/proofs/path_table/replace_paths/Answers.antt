@@ -1,6 +1,7 @@
 -- The walk opens one more end. Where it met paths, the paths are copied.
-use Rattle.std.proofs.Common.{◌≡◌, ◌∙◌, Option, ℕ, List, length, drop, sym, subst}
+use Rattle.std.proofs.Common.{rules, arith, ◌≡◌, ◌∙◌, Option, ℕ, List, length, drop, sym, subst}
 use Rattle.std.proofs.lemmas.List.{take_at}
+use Rattle.std.proofs.lemmas.Grind.{common_steps}
 use Rattle.ov_split.specs.Places.{net_by_place}
 use Rattle.ov_split.specs.Code.Residual.{AreHeld, IsFlow}
 use Rattle.ov_flow.specs.Code.Walked.{table_of, IsFlowBefore}
@@ -11,8 +12,8 @@ use Rattle.ov_flow.proofs.path_table.replace_paths.Goals as goal
 pub keep_paths-requires : goal.keep_paths-requires
 keep_paths-requires g c = (omega arith,
     (c.requires.ready,
-    (search rules,
-    (search rules,
+    (grind (arith, common_steps),
+    (grind (arith, common_steps),
     ((let n = net_by_place c.args.net.now in
     let target = c.args.target in
     let ends = c.args.ends.now in

@@ -1,5 +1,5 @@
 -- Path by path.
-use Rattle.std.proofs.Common.{◌∙◌, ◌≢◌, take, take_all, get_or, subst}
+use Rattle.std.proofs.Common.{rules, arith, ◌∙◌, ◌≢◌, take, take_all, get_or, subst}
 use Rattle.std.proofs.lemmas.List.{take_more}
 use Rattle.ov_ids.specs.Members.{Has}
 use Rattle.ov_ids.proofs.Members.{has_place}

@@ -8,12 +8,27 @@ use Rattle.ov_flow.proofs.two_link_paths.take_two_links.Goals.{in-Some-target_ov
 use Rattle.ov_flow.proofs.two_link_paths.take_two_links.Goals as goal
 
 pub target_over-requires : goal.target_over-requires
-target_over-requires g c = (omega arith,
-    (c.requires.ready,
-    (let n = net_by_place c.args.net.now in
-    let u = c.in-Some.u in
-    (c.requires.ready.placed.nodes u).0 (linked_node n.graph c.source-source.result u c.requires.ready.placed.net.graph
-    c.in-Some.ensures.some.holds.0))))
+target_over-requires g c =
+    let n = net_by_place c.args.net.now in
+    let up = (c.requires.ready.placed.nodes c.in-Some.u).0 (linked_node n.graph c.source-source.result c.in-Some.u
+    c.requires.ready.placed.net.graph c.in-Some.ensures.some.holds.0) in
+    (omega arith, (omega arith, (c.requires.ready, up)))
+
+pub overflow_add-after : goal.overflow_add-after
+overflow_add-after g c =
+    let n = net_by_place c.args.net.now in
+    let up = (c.requires.ready.placed.nodes c.in-Some.u).0 (linked_node n.graph c.source-source.result c.in-Some.u
+    c.requires.ready.placed.net.graph c.in-Some.ensures.some.holds.0) in
+    let few = c.requires.ready.placed.few in
+    omega (arith, up, few)
+
+pub loop-u-smaller : goal.loop-u-smaller
+loop-u-smaller g c =
+    let n = net_by_place c.args.net.now in
+    let up = (c.requires.ready.placed.nodes c.in-Some.u).0 (linked_node n.graph c.source-source.result c.in-Some.u
+    c.requires.ready.placed.net.graph c.in-Some.ensures.some.holds.0) in
+    let reached = c.in-Some.ensures.some.reached in
+    omega (arith, up, reached)
 
 pub loop-u-init : goal.loop-u-init
 loop-u-init g c =
@@ -22,7 +37,7 @@ loop-u-init g c =
       work = c.requires.work;
       few = c.requires.few;
       targets = λ t b.
-          let far = (c.far_targets.ensures t).0 b in
+          let far = (c.far_targets-free.ensures t).0 b in
           record { target = far.target; off = far.off; unused = λ a e. far.far (c.requires.one t a e).0 };
       behind = λ v a e. inl (c.requires.one v a e).1;
       fits = omega arith;
