@@ -14,7 +14,11 @@ use ov_graph::bit_rows::{first_from, without, words_for};
 use ov_ids::NodeId;
 
 /// The lowest target of a piece that is not in a cut. The cut has fewer nodes than the level, so there is one.
-pub(crate) fn far_of<const W: usize>(group: &SettlerGroup<'_, W>, piece: Piece, cut: &[u64; W]) -> NodeId
+pub(crate) fn far_of<const W: usize>(
+    group: &SettlerGroup<'_, W>,
+    piece: Piece,
+    cut: &[u64; W],
+) -> NodeId
     requires piece { IsPiece group.now.graph group.now.members piece }
     requires cut { IsCut group.now.graph group.now.members piece (picked cut.now 0 group.now.graph.nodes) }
     requires few { length (picked cut.now 0 group.now.graph.nodes) < level_of piece }

@@ -81,7 +81,11 @@ pub(crate) fn augment<const W: usize>(net: &SplitNet<'_, W>, work: &mut Work<W>)
 
 /// Starts again, and searches for `level` paths. After each search that finds one, more walks are taken through its
 /// layers. True: this many are held.
-pub(crate) fn settle<const W: usize>(net: &SplitNet<'_, W>, level: usize, work: &mut Work<W>) -> bool
+pub(crate) fn settle<const W: usize>(
+    net: &SplitNet<'_, W>,
+    level: usize,
+    work: &mut Work<W>,
+) -> bool
     requires ready { IsReady W net.now }
     requires room { HasWorkRoom (length net.now.graph.nodes) work.old }
     ensures work { IsWorkOf net.now work.new }

@@ -189,7 +189,12 @@ fn may_take<const W: usize>(net: &SplitNet<'_, W>, w: usize) -> bool
 }
 
 /// The step back along a path.
-fn next_back<const W: usize>(net: &SplitNet<'_, W>, from: &[Option<u16>], at: u16, layers: &mut Layers<W>) -> Option<Hop>
+fn next_back<const W: usize>(
+    net: &SplitNet<'_, W>,
+    from: &[Option<u16>],
+    at: u16,
+    layers: &mut Layers<W>,
+) -> Option<Hop>
     requires ready { IsReady W net.now }
     requires table { IsTable (length net.now.graph.nodes) from.now }
     requires at { at < length net.now.graph.nodes }

@@ -35,7 +35,12 @@ pub(crate) fn new_layers<const W: usize>(alloc: Global) -> Result<Layers<W>, All
 
 /// Writes the layers of a search that found a target. The walk to this target is taken already, so its nodes are
 /// visited. False: there are more layers than may be.
-pub(crate) fn set_layers<const W: usize>(net: &SplitNet<'_, W>, tree: &Tree<W>, ends: &[u16], layers: &mut Layers<W>) -> bool
+pub(crate) fn set_layers<const W: usize>(
+    net: &SplitNet<'_, W>,
+    tree: &Tree<W>,
+    ends: &[u16],
+    layers: &mut Layers<W>,
+) -> bool
     requires ready { IsReady W net.now }
     requires grown { IsTreeOf (net_by_place net.now) tree.now }
     requires ends { (e : ℕ) → Has ends.now e → Has (net_by_place net.now).targets e }
@@ -90,7 +95,13 @@ fn part<const W: usize>(net: &SplitNet<'_, W>, tree: &Tree<W>, layers: &mut Laye
 }
 
 /// Adds the step to the node at place `k` of the order, unless the node is visited.
-fn add_way<const W: usize>(net: &SplitNet<'_, W>, tree: &Tree<W>, k: usize, row: &mut [u64; W], layers: &mut Layers<W>)
+fn add_way<const W: usize>(
+    net: &SplitNet<'_, W>,
+    tree: &Tree<W>,
+    k: usize,
+    row: &mut [u64; W],
+    layers: &mut Layers<W>,
+)
     requires ready { IsReady W net.now }
     requires grown { IsTreeOf (net_by_place net.now) tree.now }
     requires later { 0 < k }

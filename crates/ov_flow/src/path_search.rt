@@ -56,7 +56,12 @@ fn visit_links<const W: usize>(
 
 /// Takes the step back from the node at place `at` of the order, if it is on a path: the path gives up its last step.
 /// True: the last node reached is a target.
-fn step_back<const W: usize>(net: &SplitNet<'_, W>, from: &[Option<u16>], tree: &mut Tree<W>, at: u16) -> bool
+fn step_back<const W: usize>(
+    net: &SplitNet<'_, W>,
+    from: &[Option<u16>],
+    tree: &mut Tree<W>,
+    at: u16,
+) -> bool
     requires ready { IsReady W net.now }
     requires table { IsTable (length net.now.graph.nodes) from.now }
     requires room { HasTreeRoom (length net.now.graph.nodes) tree.old }
@@ -79,7 +84,12 @@ fn step_back<const W: usize>(net: &SplitNet<'_, W>, from: &[Option<u16>], tree: 
 }
 
 /// Takes each step from the node at place `at` of the order. True: the last node reached is a target.
-fn visit<const W: usize>(net: &SplitNet<'_, W>, from: &[Option<u16>], tree: &mut Tree<W>, at: u16) -> bool
+fn visit<const W: usize>(
+    net: &SplitNet<'_, W>,
+    from: &[Option<u16>],
+    tree: &mut Tree<W>,
+    at: u16,
+) -> bool
     requires ready { IsReady W net.now }
     requires table { IsTable (length net.now.graph.nodes) from.now }
     requires room { HasTreeRoom (length net.now.graph.nodes) tree.old }
@@ -99,7 +109,11 @@ fn visit<const W: usize>(net: &SplitNet<'_, W>, from: &[Option<u16>], tree: &mut
 }
 
 /// Searches for a target. True: the last node reached is one.
-pub(crate) fn search<const W: usize>(net: &SplitNet<'_, W>, from: &[Option<u16>], tree: &mut Tree<W>) -> bool
+pub(crate) fn search<const W: usize>(
+    net: &SplitNet<'_, W>,
+    from: &[Option<u16>],
+    tree: &mut Tree<W>,
+) -> bool
     requires ready { IsReady W net.now }
     requires table { IsTable (length net.now.graph.nodes) from.now }
     requires room { HasTreeRoom (length net.now.graph.nodes) tree.old }

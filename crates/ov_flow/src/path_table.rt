@@ -60,7 +60,12 @@ fn copy_path<const W: usize>(
 }
 
 /// Copies the paths to the ends, and nothing else.
-fn retrace<const W: usize>(net: &SplitNet<'_, W>, from: &[Option<u16>], next: &mut [Option<u16>], ends: &[u16])
+fn retrace<const W: usize>(
+    net: &SplitNet<'_, W>,
+    from: &[Option<u16>],
+    next: &mut [Option<u16>],
+    ends: &[u16],
+)
     requires ready { IsReady W net.now }
     requires from { length from.now ≡ length net.now.graph.nodes }
     requires next { length next.old ≡ length net.now.graph.nodes }

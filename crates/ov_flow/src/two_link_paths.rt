@@ -15,7 +15,11 @@ use ov_split::SplitNet;
 /// Takes paths of two links from the source to targets, until `level` paths are held or no neighbour of the source is
 /// left. Each path goes over a neighbour that is no target, to the first free target that this one is linked to. Only
 /// paths of one link are held before.
-pub(crate) fn take_two_links<const W: usize>(net: &SplitNet<'_, W>, level: usize, work: &mut Work<W>)
+pub(crate) fn take_two_links<const W: usize>(
+    net: &SplitNet<'_, W>,
+    level: usize,
+    work: &mut Work<W>,
+)
     requires ready { IsReady W net.now }
     requires work { IsWorkOf net.now work.old }
     requires few { length work.old.ends.items ≤ level }

@@ -10,39 +10,54 @@ use Rattle.ov_fans.proofs.PieceNets.Settling.{cut_found, parted_of, full_in, sou
 use Rattle.ov_fans.proofs.settler_of_width.parting.Goals as goal
 
 pub nodes_of_row-requires : goal.nodes_of_row-requires
-nodes_of_row-requires g c = (omega arith, (
+nodes_of_row-requires g c = (
+  omega arith,
+  (
     (let m = c.args.group.now in
-    let f = full_in m.graph m.members c.args.piece c.args.held c.args.rows.now c.graph-graph.ensures.is_graph
-    c.requires.full in
-    subst (λ (g : LinkGraph). IsRowOf g.nodes c.args.rows.now.cut) (sym c.graph-graph.ensures.graph)
-    (record { few = c.graph-graph.ensures.within; within = f.cut_places })),
+        let f = full_in m.graph m.members c.args.piece c.args.held c.args.rows.now c.graph-graph.ensures.is_graph
+        c.requires.full in
+        subst (λ (g : LinkGraph). IsRowOf g.nodes c.args.rows.now.cut) (sym c.graph-graph.ensures.graph)
+        (record { few = c.graph-graph.ensures.within; within = f.cut_places })),
     subst (λ (h : LinkGraph). length h.nodes ≤ word_bits * g.row.W) (sym c.graph-graph.ensures.graph)
-    c.graph-graph.ensures.room))
+        c.graph-graph.ensures.room,
+  ),
+)
 
 pub nodes_of_row-requires-2 : goal.nodes_of_row-requires-2
-nodes_of_row-requires-2 g c = (omega arith, (
+nodes_of_row-requires-2 g c = (
+  omega arith,
+  (
     (let m = c.args.group.now in
-    let f = full_in m.graph m.members c.args.piece c.args.held c.args.rows.now c.graph-graph.ensures.is_graph
-    c.requires.full in
-    subst (λ (g : LinkGraph). IsRowOf g.nodes c.args.rows.now.side) (sym c.graph-graph.ensures.graph)
-    (record { few = c.graph-graph.ensures.within; within = f.side_places })),
+        let f = full_in m.graph m.members c.args.piece c.args.held c.args.rows.now c.graph-graph.ensures.is_graph
+        c.requires.full in
+        subst (λ (g : LinkGraph). IsRowOf g.nodes c.args.rows.now.side) (sym c.graph-graph.ensures.graph)
+        (record { few = c.graph-graph.ensures.within; within = f.side_places })),
     subst (λ (h : LinkGraph). length h.nodes ≤ word_bits * g.row.W) (sym c.graph-graph.ensures.graph)
-    c.graph-graph.ensures.room))
+        c.graph-graph.ensures.room,
+  ),
+)
 
 pub far_of-requires : goal.far_of-requires
-far_of-requires g c = (omega arith, (c.requires.piece, (
-    (let m = c.args.group.now in
-    let s = c.args.rows.now in
-    let f = full_in m.graph m.members c.args.piece c.args.held s c.graph-graph.ensures.is_graph c.requires.full in
-    let e = c.graph-graph.ensures in
-    (cut_found m.graph m.members c.args.piece c.args.held (picked s.cut 0 m.graph.nodes) (picked s.side 0 m.graph.nodes)
-    e.is_graph e.group c.requires.piece f.full c.requires.few).0),
-    (let m = c.args.group.now in
-    let s = c.args.rows.now in
-    let f = full_in m.graph m.members c.args.piece c.args.held s c.graph-graph.ensures.is_graph c.requires.full in
-    let e = c.graph-graph.ensures in
-    (cut_found m.graph m.members c.args.piece c.args.held (picked s.cut 0 m.graph.nodes) (picked s.side 0 m.graph.nodes)
-    e.is_graph e.group c.requires.piece f.full c.requires.few).1))))
+far_of-requires g c = (
+  omega arith,
+  (
+    c.requires.piece,
+    (
+      (let m = c.args.group.now in
+          let s = c.args.rows.now in
+          let f = full_in m.graph m.members c.args.piece c.args.held s c.graph-graph.ensures.is_graph c.requires.full in
+          let e = c.graph-graph.ensures in
+          (cut_found m.graph m.members c.args.piece c.args.held (picked s.cut 0 m.graph.nodes) (picked s.side 0 m.graph.nodes)
+          e.is_graph e.group c.requires.piece f.full c.requires.few).0),
+      (let m = c.args.group.now in
+          let s = c.args.rows.now in
+          let f = full_in m.graph m.members c.args.piece c.args.held s c.graph-graph.ensures.is_graph c.requires.full in
+          let e = c.graph-graph.ensures in
+          (cut_found m.graph m.members c.args.piece c.args.held (picked s.cut 0 m.graph.nodes) (picked s.side 0 m.graph.nodes)
+          e.is_graph e.group c.requires.piece f.full c.requires.few).1),
+    ),
+  ),
+)
 
 pub returns : goal.returns
 returns g c =

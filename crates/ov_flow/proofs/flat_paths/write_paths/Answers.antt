@@ -15,14 +15,24 @@ loop-end-init g c =
     c.in_ok-flat.ensures.items
 
 pub write_path-requires : goal.write_path-requires
-write_path-requires g c = (omega arith,
-    (c.requires.ready,
-    (search rules,
-    (search rules,
-    ((has_place c.args.ends.now c.loop-end.end-index 0 c.loop-end-test.true),
-    (λ e. let n = net_by_place c.args.net.now in
-    let h = has_place c.args.ends.now c.loop-end.end-index 0 c.loop-end-test.true in
-    c.requires.ready.placed.net.no_target (subst (Has n.targets) e (c.requires.flow.targets _ h))))))))
+write_path-requires g c = (
+  omega arith,
+  (
+    c.requires.ready,
+    (
+      search rules,
+      (
+        search rules,
+        (
+          (has_place c.args.ends.now c.loop-end.end-index 0 c.loop-end-test.true),
+          (λ e. let n = net_by_place c.args.net.now in
+              let h = has_place c.args.ends.now c.loop-end.end-index 0 c.loop-end-test.true in
+              c.requires.ready.placed.net.no_target (subst (Has n.targets) e (c.requires.flow.targets _ h))),
+        ),
+      ),
+    ),
+  ),
+)
 
 pub loop-end-preserved : goal.loop-end-preserved
 loop-end-preserved g c =

@@ -7,17 +7,26 @@ use Rattle.ov_flow.proofs.layered_walks.find_walk.Goals.{in-Some+else-has, in-No
 use Rattle.ov_flow.proofs.layered_walks.find_walk.Goals as goal
 
 pub next_hop-requires : goal.next_hop-requires
-next_hop-requires g c = (omega arith, (omega arith,
-    (c.requires.ready,
-    (search rules,
-    (let n = net_by_place c.args.net.now in
-    let hops = c.loop-turn.hops.items in
-    let e : c.last_node-at.result ≡ end_of n.source hops =
-    c.last_node-at.ensures ∙ ap (end_of c.source-source.result) c.deref.ensures.value
-    ∙ ap (λ (a : ℕ). end_of a hops) c.source-source.ensures.place in
-    let b = sought_at n (length c.args.net.now.graph.nodes) c.requires.ready.placed (table_of c.args.from.now) hops
-    c.loop-turn.layers.visited c.loop-turn.invariant.sought in
-    omega (arith, e, b))))))
+next_hop-requires g c = (
+  omega arith,
+  (
+    omega arith,
+    (
+      c.requires.ready,
+      (
+        search rules,
+        (let n = net_by_place c.args.net.now in
+            let hops = c.loop-turn.hops.items in
+            let e : c.last_node-at.result ≡ end_of n.source hops =
+            c.last_node-at.ensures ∙ ap (end_of c.source-source.result) c.deref.ensures.value
+            ∙ ap (λ (a : ℕ). end_of a hops) c.source-source.ensures.place in
+            let b = sought_at n (length c.args.net.now.graph.nodes) c.requires.ready.placed (table_of c.args.from.now) hops
+            c.loop-turn.layers.visited c.loop-turn.invariant.sought in
+            omega (arith, e, b)),
+      ),
+    ),
+  ),
+)
 
 pub push_reserved-requires : goal.push_reserved-requires
 push_reserved-requires g c =

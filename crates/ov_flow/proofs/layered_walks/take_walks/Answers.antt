@@ -5,12 +5,23 @@ use Rattle.ov_flow.proofs.Beginning.{held_table}
 use Rattle.ov_flow.proofs.layered_walks.take_walks.Goals as goal
 
 pub find_walk-requires : goal.find_walk-requires
-find_walk-requires g c = (omega arith, (omega arith,
-    (c.requires.ready,
-    ((let w = c.loop-work.work in
-    let i = c.loop-work.invariant.work in
-    rw c.deref.ensures.value
-    (held_table (net_by_place c.args.net.now) (length c.args.net.now.graph.nodes) w.from.items w.ends.items
-    c.requires.ready.placed i.room.from i.held)),
-    (search rules,
-    search rules)))))
+find_walk-requires g c = (
+  omega arith,
+  (
+    omega arith,
+    (
+      c.requires.ready,
+      (
+        (let w = c.loop-work.work in
+            let i = c.loop-work.invariant.work in
+            rw c.deref.ensures.value
+            (held_table (net_by_place c.args.net.now) (length c.args.net.now.graph.nodes) w.from.items w.ends.items
+            c.requires.ready.placed i.room.from i.held)),
+        (
+          search rules,
+          search rules,
+        ),
+      ),
+    ),
+  ),
+)

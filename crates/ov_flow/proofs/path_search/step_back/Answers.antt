@@ -32,10 +32,17 @@ reach-requires g c =
     let from = table_of c.args.from.now in
     let is : from c.index.result.now ≡ Some c.in-Some.before = c.in-Some.is in
     let told = c.requires.table.told c.index.result.now c.in-Some.before is in
-    let wide = c.requires.ready.room in
-    (omega arith, (c.requires.at, (omega (arith, told, wide),
-    node_room n (length c.args.net.now.graph.nodes) from c.args.tree.now c.in-Some.before c.requires.ready.placed
-    c.requires.grown c.requires.room ((c.requires.ready.placed.nodes c.in-Some.before).1 told))))
+    let wide = c.requires.ready.room in (
+      omega arith,
+      (
+        c.requires.at,
+        (
+          omega (arith, told, wide),
+          node_room n (length c.args.net.now.graph.nodes) from c.args.tree.now c.in-Some.before c.requires.ready.placed
+              c.requires.grown c.requires.room ((c.requires.ready.placed.nodes c.in-Some.before).1 told),
+        ),
+      ),
+    )
 
 pub returns-then-has-clause-room : goal.returns-then-has-clause-room
 returns-then-has-clause-room g c = c.reach.ensures.room (length c.args.net.now.graph.nodes) c.requires.room

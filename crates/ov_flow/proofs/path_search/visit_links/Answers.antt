@@ -39,11 +39,18 @@ reach-requires g c =
     let node = tip_below (length c.args.net.now.graph.nodes) c.args.from.now c.in-Some.w c.requires.table l in
     let is = c.tip-node.ensures in
     let longer = c.loop-w.invariant.visiting.more.order.0 in
-    let at = c.requires.at in
-    (omega arith, (omega (arith, longer, at), (omega (arith, node, is, room),
-    link_room (net_by_place c.args.net.now) (length c.args.net.now.graph.nodes) c.requires.ready.placed c.args.from.now
-    c.requires.table c.args.tree.now c.loop-w.tree c.args.at c.loop-w.after c.in-Some.w c.tip-node.result c.index.result.now c.index.ensures
-    c.loop-w.invariant.visiting c.requires.at c.in-Some.ensures.some c.tip-node.ensures c.loop-w.invariant.room)))
+    let at = c.requires.at in (
+      omega arith,
+      (
+        omega (arith, longer, at),
+        (
+          omega (arith, node, is, room),
+          link_room (net_by_place c.args.net.now) (length c.args.net.now.graph.nodes) c.requires.ready.placed c.args.from.now
+              c.requires.table c.args.tree.now c.loop-w.tree c.args.at c.loop-w.after c.in-Some.w c.tip-node.result c.index.result.now c.index.ensures
+              c.loop-w.invariant.visiting c.requires.at c.in-Some.ensures.some c.tip-node.ensures c.loop-w.invariant.room,
+        ),
+      ),
+    )
 
 pub put-requires : goal.put-requires
 put-requires g c =

@@ -10,25 +10,35 @@ use Rattle.ov_flow.proofs.Tidying.{targets_turned, open_before, flow_turned}
 use Rattle.ov_flow.proofs.path_table.replace_paths.Goals as goal
 
 pub keep_paths-requires : goal.keep_paths-requires
-keep_paths-requires g c = (omega arith,
-    (c.requires.ready,
-    (grind (arith, common_steps),
-    (grind (arith, common_steps),
-    ((let n = net_by_place c.args.net.now in
-    let target = c.args.target in
-    let ends = c.args.ends.now in
-    let old = c.deref_mut.result.now in
-    let new = c.take_hops.new.from in
-    let b : IsFlowBefore n (table_of old) ends target =
-    subst (λ (l : List (Option ℕ)). IsFlowBefore n (table_of l) ends target) (sym c.deref_mut.ensures.value)
-    c.requires.flow in
-    let long : length new ≡ c.args.from.now.len = c.take_hops.auto.from ∙ c.deref_mut.ensures.len in
-    let is = take_at new (drop (length new) c.args.from.now.items) c.args.from.now.len long in
-    subst (λ (l : List (Option ℕ)). AreHeld n (table_of l) ends) (sym is)
-    (subst (AreHeld n (table_of new)) (sym b.is) (held_turned n (table_of new) target b.before
-    (c.take_hops.ensures.held b.before (open_before n c.requires.ready.placed.net (table_of old) ends target b))))),
-    (targets_turned (net_by_place c.args.net.now) (table_of c.args.from.now.items) c.args.ends.now c.args.target
-    c.requires.flow c.requires.target))))))
+keep_paths-requires g c = (
+  omega arith,
+  (
+    c.requires.ready,
+    (
+      grind (arith, common_steps),
+      (
+        grind (arith, common_steps),
+        (
+          (let n = net_by_place c.args.net.now in
+              let target = c.args.target in
+              let ends = c.args.ends.now in
+              let old = c.deref_mut.result.now in
+              let new = c.take_hops.new.from in
+              let b : IsFlowBefore n (table_of old) ends target =
+              subst (λ (l : List (Option ℕ)). IsFlowBefore n (table_of l) ends target) (sym c.deref_mut.ensures.value)
+              c.requires.flow in
+              let long : length new ≡ c.args.from.now.len = c.take_hops.auto.from ∙ c.deref_mut.ensures.len in
+              let is = take_at new (drop (length new) c.args.from.now.items) c.args.from.now.len long in
+              subst (λ (l : List (Option ℕ)). AreHeld n (table_of l) ends) (sym is)
+              (subst (AreHeld n (table_of new)) (sym b.is) (held_turned n (table_of new) target b.before
+              (c.take_hops.ensures.held b.before (open_before n c.requires.ready.placed.net (table_of old) ends target b))))),
+          (targets_turned (net_by_place c.args.net.now) (table_of c.args.from.now.items) c.args.ends.now c.args.target
+              c.requires.flow c.requires.target),
+        ),
+      ),
+    ),
+  ),
+)
 
 pub returns-then-take_hops-clause-flow : goal.returns-then-take_hops-clause-flow
 returns-then-take_hops-clause-flow g c =

@@ -16,15 +16,27 @@ loop-end-init g c = record {
 }
 
 pub copy_path-requires : goal.copy_path-requires
-copy_path-requires g c = (omega arith,
-    (c.requires.ready,
-    (search rules,
-    (search rules,
-    (search rules,
-    ((has_place c.args.ends.now c.loop-end.end-index 0 c.loop-end-test.true),
-    (λ e. let n = net_by_place c.args.net.now in
-    let h = c.requires.targets _ (has_place c.args.ends.now c.loop-end.end-index 0 c.loop-end-test.true) in
-    c.requires.ready.placed.net.no_target (subst (Has n.targets) e h))))))))
+copy_path-requires g c = (
+  omega arith,
+  (
+    c.requires.ready,
+    (
+      search rules,
+      (
+        search rules,
+        (
+          search rules,
+          (
+            (has_place c.args.ends.now c.loop-end.end-index 0 c.loop-end-test.true),
+            (λ e. let n = net_by_place c.args.net.now in
+                let h = c.requires.targets _ (has_place c.args.ends.now c.loop-end.end-index 0 c.loop-end-test.true) in
+                c.requires.ready.placed.net.no_target (subst (Has n.targets) e h)),
+          ),
+        ),
+      ),
+    ),
+  ),
+)
 
 pub loop-end-preserved : goal.loop-end-preserved
 loop-end-preserved g c =
