@@ -7,11 +7,11 @@ use Rattle.ov_fans.specs.Group.{SettlerState}
 use Rattle.ov_fans.specs.Pieces.{IsPiece, IsGood, level_of, paths_of}
 use Rattle.ov_fans.specs.Code.Nets.{net_of}
 use Rattle.ov_fans.proofs.PieceNets.Routes.{asked_paths}
-use Rattle.ov_fans.proofs.piece_solver.Settler.nearest_cut.Goals as goal
-use Rattle.ov_fans.proofs.piece_solver.Settler.nearest_cut.Goals.{in-None, in-Some+in_ok-parting-in-Some}
+use Rattle.ov_fans.proofs.settler_of_width.WideSettler.nearest_cut.Goals as goal
+use Rattle.ov_fans.proofs.settler_of_width.WideSettler.nearest_cut.Goals.{in-None, in-Some+in_ok-parting-in-Some}
 
 pub returns-clause-none : goal.returns-clause-none
-returns-clause-none c =
+returns-clause-none g c =
     let m = c.self.inside.group in
     let p = c.args.piece in
     let e = c.seek.ensures in

@@ -11,11 +11,11 @@ use Rattle.ov_fans.specs.Cuts.{IsFoundFor, IsParted}
 use Rattle.ov_fans.specs.Code.Nets.{net_of}
 use Rattle.ov_fans.specs.declared.piece_result.Found.TheVariants.{Paths}
 use Rattle.ov_fans.proofs.PieceNets.Settling.{right_paths}
-use Rattle.ov_fans.proofs.piece_solver.Settler.sought.Goals as goal
-use Rattle.ov_fans.proofs.piece_solver.Settler.sought.Goals.{in-None+in_ok-paths-in-None, in-Some+in_ok-parting-in-Some}
+use Rattle.ov_fans.proofs.settler_of_width.WideSettler.sought.Goals as goal
+use Rattle.ov_fans.proofs.settler_of_width.WideSettler.sought.Goals.{in-None+in_ok-paths-in-None, in-Some+in_ok-parting-in-Some}
 
 pub returns-clause-found : goal.returns-clause-found
-returns-clause-found c =
+returns-clause-found g c =
     let m = c.self.inside.group in
     let p = c.args.piece in
     let e = c.seek.ensures in
@@ -42,4 +42,4 @@ returns-clause-found c =
     ]
 
 pub returns-clause-graph : goal.returns-clause-graph
-returns-clause-graph c = subst (λ (s : SettlerState). IsGraph s.graph) c.self.view_is c.seek.ensures.graph
+returns-clause-graph g c = subst (λ (s : SettlerState). IsGraph s.graph) c.self.view_is c.seek.ensures.graph
