@@ -47,7 +47,7 @@ impl<'g, const W: usize> SettlerGroup<'g, W> {
         requires room { length graph.now.nodes ≤ word_bits * W }
         ensures { IfOk result (λ m. m ≡ record { graph = graph.now; members = group.now }) }
     {
-        prove!(graph.nodes().len() <= Graph::MOST_NODES);
+        prove!(graph.nodes().len() <= Graph::MOST_OF_ANY);
         let mut places = Vec::with_capacity(alloc, group.len())?;
         let mut row = [0; W];
         for member in group {

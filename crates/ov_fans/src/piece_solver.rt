@@ -13,11 +13,21 @@ use ov_ids::{NodeId, OutOfMemory};
 use std::alloc::Global;
 use std::marker::Model;
 
+/// How many words a set of places has in any graph.
+const ALL_WORDS: usize = 512;
+
 /// Settles pieces of a graph and a group, one after another. The buffers of the search are allocated once. Contracts
 /// see the graph and the members.
 #[derive(Drop)]
 pub struct Settler<'g> {
-    rows: WideSettler<'g, WORDS>,
+    kept: Kept<'g>,
+}
+
+/// With sets of places that are as wide as a graph of up to 1,024 nodes asks, or as any graph does.
+#[derive(Drop)]
+enum Kept<'g> {
+    Few(WideSettler<'g, WORDS>),
+    Many(WideSettler<'g, ALL_WORDS>),
 }
 
 impl<'g> Model for Settler<'g> {
@@ -25,7 +35,9 @@ impl<'g> Model for Settler<'g> {
 
     ghost Value = { SettlerState };
 
-    ghost view = { λ s. s.rows };
+    ghost use Rattle.ov_fans.specs.Code.Dispatched.{settler_of};
+
+    ghost view = { λ s. settler_of s.kept };
 }
 
 impl<'g> Settler<'g> {
@@ -38,9 +50,16 @@ impl<'g> Settler<'g> {
         requires { IsGroup graph.now group.now }
         ensures { IfOk result (λ s. s ≡ record { graph = graph.now; members = group.now }) }
     {
-        prove!(graph.nodes().len() <= Graph::MOST_NODES);
+        if graph.nodes().len() <= Graph::MOST_NODES {
+            let few = WideSettler::new(alloc, graph, group)?;
+            return Ok(Settler {
+                kept: Kept::Few(few),
+            });
+        }
+        prove!(graph.nodes().len() <= Graph::MOST_OF_ANY);
+        let many = WideSettler::new(alloc, graph, group)?;
         Ok(Settler {
-            rows: WideSettler::new(alloc, graph, group)?,
+            kept: Kept::Many(many),
         })
     }
 
@@ -54,7 +73,10 @@ impl<'g> Settler<'g> {
         ensures good { IfOk result (λ s. IsGood self.old.graph self.old.members piece ↔ IsNoCut s.found) }
         ensures stays { self.new ≡ self.old }
     {
-        self.rows.settle(piece)
+        match &mut self.kept {
+            Kept::Few(few) => few.settle(piece),
+            Kept::Many(many) => many.settle(piece),
+        }
     }
 
     /// The nearest minimum cut of a piece, with its parting, or None if the piece is good (Menger, Fund. Math. 10,
@@ -67,7 +89,10 @@ impl<'g> Settler<'g> {
         ensures some { IfOk result (λ cut. IfSome cut (λ c. IsParted self.old.graph self.old.members piece c.value)) }
         ensures stays { self.new ≡ self.old }
     {
-        self.rows.nearest_cut(piece)
+        match &mut self.kept {
+            Kept::Few(few) => few.nearest_cut(piece),
+            Kept::Many(many) => many.nearest_cut(piece),
+        }
     }
 }
 

@@ -73,7 +73,8 @@ pub record IsFullIn {W : ℕ} (g : LinkGraph) (q : List ℕ) (p : Piece) (k : �
   pub cut_places : (i : ℕ) → HasBit s.cut i → i < length g.nodes
   pub side_places : (i : ℕ) → HasBit s.side i → i < length g.nodes
 
-pub full_in : {W : ℕ} (g : LinkGraph) (q : List ℕ) (p : Piece) (k : ℕ) (s : CutRows W) → IsGraph g → IsFullBy (net_of g q p) k s
+pub full_in : {W : ℕ} (g : LinkGraph) (q : List ℕ) (p : Piece) (k : ℕ) (s : CutRows W) → IsGraph g
+    → IsFullBy (net_of g q p) k s
     → IsFullIn g q p k s
 full_in g q (Pair level i j) k s graph f = record {
   full = full_picked (net_of g q (Pair level i j)) k s graph f;

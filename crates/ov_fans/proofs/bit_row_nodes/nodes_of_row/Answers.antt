@@ -30,6 +30,7 @@ returns g c =
     let e = c.nodes-nodes.ensures.nodes in
     let kept : IsRowOf nodes row = subst (λ (ns : List ℕ). IsRowOf ns row) (sym e) c.requires.row in
     c.new.ensures
-    ∙ found_all row nodes c.loop-place.found.items c.loop-place.next c.words_for-words.result kept c.words_for-words.ensures.words
+    ∙ found_all row nodes c.loop-place.found.items c.loop-place.next c.words_for-words.result kept
+    c.words_for-words.ensures.words
     c.in_default.ensures.none c.loop-place.invariant.found
     ∙ ap (λ (ns : List ℕ). picked row 0 ns) e

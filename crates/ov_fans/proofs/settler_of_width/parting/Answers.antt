@@ -47,13 +47,15 @@ far_of-requires g c = (
           let s = c.args.rows.now in
           let f = full_in m.graph m.members c.args.piece c.args.held s c.graph-graph.ensures.is_graph c.requires.full in
           let e = c.graph-graph.ensures in
-          (cut_found m.graph m.members c.args.piece c.args.held (picked s.cut 0 m.graph.nodes) (picked s.side 0 m.graph.nodes)
+          (cut_found m.graph m.members c.args.piece c.args.held (picked s.cut 0 m.graph.nodes) (picked s.side 0
+          m.graph.nodes)
           e.is_graph e.group c.requires.piece f.full c.requires.few).0),
       (let m = c.args.group.now in
           let s = c.args.rows.now in
           let f = full_in m.graph m.members c.args.piece c.args.held s c.graph-graph.ensures.is_graph c.requires.full in
           let e = c.graph-graph.ensures in
-          (cut_found m.graph m.members c.args.piece c.args.held (picked s.cut 0 m.graph.nodes) (picked s.side 0 m.graph.nodes)
+          (cut_found m.graph m.members c.args.piece c.args.held (picked s.cut 0 m.graph.nodes) (picked s.side 0
+          m.graph.nodes)
           e.is_graph e.group c.requires.piece f.full c.requires.few).1),
     ),
   ),

@@ -19,7 +19,8 @@ returns-clause-number g c =
     (subst (λ (x : LinkGraph). AreWordsFor (length x.nodes) c.words_for.result) own.graph
     (subst (λ (ns : List ℕ). AreWordsFor (length ns) c.words_for.result) c.nodes.ensures.nodes
     c.words_for.ensures.words))
-    (link_bits g h a c.place_in_graph.result row own.graph c.place_in_graph.ensures.there c.neighbour_set-set.ensures.set)
+    (link_bits g h a c.place_in_graph.result row own.graph c.place_in_graph.ensures.there
+    c.neighbour_set-set.ensures.set)
     (link_bits g h b c.place_in_graph-2.result other own.graph c.place_in_graph-2.ensures.there
     c.neighbour_set-other.ensures.set)
     c.shared_bits.ensures

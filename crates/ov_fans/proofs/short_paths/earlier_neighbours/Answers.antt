@@ -20,5 +20,6 @@ returns-clause-number g c =
     (subst (λ (x : LinkGraph). AreWordsFor (length x.nodes) c.words_for.result) own.graph
     (subst (λ (ns : List ℕ). AreWordsFor (length ns) c.words_for.result) c.nodes.ensures.nodes
     c.words_for.ensures.words))
-    at.below at.there (link_bits g c.graph-graph.result.now a source row own.graph at.there c.neighbour_set-set.ensures.set)
+    at.below at.there (link_bits g c.graph-graph.result.now a source row own.graph at.there
+    c.neighbour_set-set.ensures.set)
     c.row.ensures.row c.bits_below-before.ensures c.shared_bits.ensures

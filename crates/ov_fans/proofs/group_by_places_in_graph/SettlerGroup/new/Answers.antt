@@ -8,7 +8,8 @@ use Rattle.ov_fans.proofs.PieceNets.MemberPlaces.{AreMemberPlacesSoFar, places_n
 use Rattle.ov_fans.proofs.group_by_places_in_graph.SettlerGroup.new.Goals as goal
 
 pub loop-member-init : goal.loop-member-init
-loop-member-init g c = places_none c.args.graph.now c.in_ok-places.places.items _ c.in_ok-places.ensures.items (no_bits g.row.W)
+loop-member-init g c =
+    places_none c.args.graph.now c.in_ok-places.places.items _ c.in_ok-places.ensures.items (no_bits g.row.W)
 
 pub place_among-place-requires : goal.place_among-place-requires
 place_among-place-requires g c =
@@ -28,7 +29,8 @@ loop-member-preserved g c =
     let at = c.place_among-place.ensures in
     subst (λ (places : List ℕ). AreMemberPlacesSoFar graph (take (i + 1) q) places c.put.new.row)
     (sym c.in_ok-push.ensures.items)
-    (places_more graph q c.loop-member.places.items c.loop-member.row c.put.new.row i x c.place_among-place.result at.below
+    (places_more graph q c.loop-member.places.items c.loop-member.row c.put.new.row i x c.place_among-place.result
+    at.below
     at.there l e c.put.ensures c.loop-member.invariant)
 
 pub invariant_of-result : goal.invariant_of-result

@@ -12,7 +12,8 @@ use Rattle.ov_fans.specs.Code.Nets.{net_of}
 use Rattle.ov_fans.specs.declared.piece_result.Found.TheVariants.{Paths}
 use Rattle.ov_fans.proofs.PieceNets.Settling.{right_paths}
 use Rattle.ov_fans.proofs.settler_of_width.WideSettler.sought.Goals as goal
-use Rattle.ov_fans.proofs.settler_of_width.WideSettler.sought.Goals.{in-None+in_ok-paths-in-None, in-Some+in_ok-parting-in-Some}
+use Rattle.ov_fans.proofs.settler_of_width.WideSettler.sought.Goals.{in-None+in_ok-paths-in-None}
+use Rattle.ov_fans.proofs.settler_of_width.WideSettler.sought.Goals.{in-Some+in_ok-parting-in-Some}
 
 pub returns-clause-found : goal.returns-clause-found
 returns-clause-found g c =
