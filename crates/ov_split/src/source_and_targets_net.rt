@@ -12,8 +12,8 @@ use ov_graph::bit_rows::{put, words_for};
 use std::marker::Model;
 
 /// A net: a graph in which paths are sought from one node, the source, to the targets, without the avoided nodes.
-/// Contracts see the net by ids. The calls use places of nodes, counted from 0, and sets of places are rows of `W` words
-/// of bits.
+/// Contracts see the net by ids. The calls use places of nodes, counted from 0, and sets of places are rows of `W`
+/// words of bits.
 #[derive(Drop)]
 pub struct SplitNet<'g, const W: usize> {
     graph: &'g Graph,

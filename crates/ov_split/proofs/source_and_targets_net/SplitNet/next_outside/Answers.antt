@@ -20,10 +20,12 @@ returns-clause-some g c =
     let set = c.args.set.now in
     let result = c.next_outside.result in
     let l = subst (λ (n : SplitNetState). p < length n.graph.nodes) (sym c.self.view_is) c.requires in
-    subst (λ (n : SplitNetState). IfSome result (IsFirst (LinksOutside (net_by_place n) p set) c.args.after)) c.self.view_is
+    subst (λ (n : SplitNetState). IfSome result (IsFirst (LinksOutside (net_by_place n) p set) c.args.after))
+    c.self.view_is
     (first_renamed result (IsOutside s.graph.now p set)
     (LinksOutside (net_by_place (net_kept s.graph.now s.avoided.words s.source s.targets.words)) p set) c.args.after
-    (outside_placed s.graph.now s.avoided.words s.source s.targets.words c.self.invariant.0 set p l) c.next_outside.ensures.some)
+    (outside_placed s.graph.now s.avoided.words s.source s.targets.words c.self.invariant.0 set p l)
+    c.next_outside.ensures.some)
 
 pub returns-clause-none : goal.returns-clause-none
 returns-clause-none g c =
@@ -32,7 +34,9 @@ returns-clause-none g c =
     let set = c.args.set.now in
     let result = c.next_outside.result in
     let l = subst (λ (n : SplitNetState). p < length n.graph.nodes) (sym c.self.view_is) c.requires in
-    subst (λ (n : SplitNetState). IfNone result (HoldsNoMore (LinksOutside (net_by_place n) p set) c.args.after)) c.self.view_is
+    subst (λ (n : SplitNetState). IfNone result (HoldsNoMore (LinksOutside (net_by_place n) p set) c.args.after))
+    c.self.view_is
     (none_renamed result (IsOutside s.graph.now p set)
     (LinksOutside (net_by_place (net_kept s.graph.now s.avoided.words s.source s.targets.words)) p set) c.args.after
-    (outside_placed s.graph.now s.avoided.words s.source s.targets.words c.self.invariant.0 set p l) c.next_outside.ensures.none)
+    (outside_placed s.graph.now s.avoided.words s.source s.targets.words c.self.invariant.0 set p l)
+    c.next_outside.ensures.none)
