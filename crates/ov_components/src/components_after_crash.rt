@@ -26,26 +26,30 @@ pub fn components_without(
     ensures { IfOk result (AreComponents graph.now cut.now) }
 {
     if graph.nodes().len() <= Graph::MOST_NODES {
-        return components_by::<WORDS>(alloc, graph, cut);
+        let mut left = [0; WORDS];
+        return components_by(alloc, graph, cut, &mut left);
     }
-    components_by::<ALL_WORDS>(alloc, graph, cut)
+    prove!(graph.nodes().len() <= Graph::MOST_OF_ANY);
+    let mut left = [0; ALL_WORDS];
+    components_by(alloc, graph, cut, &mut left)
 }
 
-/// The same, where a set of `W` words has room for all nodes.
+/// The same, where `left` has room for a set of all nodes. What it has at first does not matter.
 fn components_by<const W: usize>(
     alloc: Global,
     graph: &Graph,
     cut: &[NodeId],
+    left: &mut [u64; W],
 ) -> Result<Components, OutOfMemory>
     requires { length graph.now.nodes ≤ word_bits * W }
     ensures { IfOk result (AreComponents graph.now cut.now) }
 {
     let count = graph.nodes().len();
-    let mut left = row_of_survivors::<W>(graph, cut);
+    *left = row_of_survivors::<W>(graph, cut);
     let mut lists = PathsBuilder::with_capacity(alloc, count, count)?;
     for start in 0..count {
-        if has(&left, start) {
-            let component = take_component(graph, &mut left, start);
+        if has(left, start) {
+            let component = take_component(graph, left, start);
             push_component(&mut lists, graph, &component)?;
         }
     }

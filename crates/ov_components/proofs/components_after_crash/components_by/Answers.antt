@@ -1,5 +1,5 @@
 -- One component more, or a place that is not left; and all components.
-use Rattle.std.proofs.Common.{◌≡◌, ◌∙◌, ◌≤◌, ℕ, ◌+◌, List, [], ◌∷◌, ◌++◌, length, ap, sym, subst}
+use Rattle.std.proofs.Common.{◌≡◌, ◌∙◌, ◌≤◌, ℕ, ◌+◌, List, [], ◌∷◌, ◌++◌, length, ap, sym, subst, arith}
 use Rattle.std.proofs.lemmas.Bool.{both_ways}
 use Rattle.ov_graph.specs.Row.{picked}
 use Rattle.ov_lists.specs.Building.{Building}
@@ -8,13 +8,16 @@ use Rattle.ov_components.proofs.Divided.{IsDivided, divided_whole, divided_past,
 use Rattle.ov_components.proofs.components_after_crash.components_by.Goals as goal
 use Rattle.ov_components.proofs.components_after_crash.components_by.Goals.{then-has+in_ok-push_component, else-has}
 
-pub push_component-requires-clause-within : goal.push_component-requires-clause-within
-push_component-requires-clause-within v c p h =
+pub push_component-requires : goal.push_component-requires
+push_component-requires v c =
     let g = c.args.graph.now in
     let cut = c.args.cut.now in
     let whole = divided_whole g cut c.loop-start.lists.paths c.loop-start.left c.loop-start.start
     c.loop-start.invariant.divided in
-    (((c.take_component-component.ensures.taken cut whole).component p).0 h).0
+    let taken = c.take_component-component.ensures.taken cut whole in (
+      omega arith,
+      (c.requires, ((λ p h. ((taken.component p).0 h).0), c.loop-start.invariant.begun)),
+    )
 
 pub loop-start-preserved : goal.loop-start-preserved
 loop-start-preserved v c =

@@ -1,5 +1,6 @@
 -- One id more, and the last one.
-use Rattle.std.proofs.Common.{◌≡◌, ◌∙◌, ◌≤◌, ◌*◌, ℕ, ◌+◌, length, List, [], ◌∷◌, ◌++◌, get_or, drop, ap, ap₂, sym, subst, arith}
+use Rattle.std.proofs.Common.{◌≡◌, ◌∙◌, ◌≤◌, ◌*◌, ℕ, ◌+◌, length, List, [], ◌∷◌, ◌++◌, get_or, drop, ap, ap₂, sym}
+use Rattle.std.proofs.Common.{subst, arith}
 use Rattle.std.proofs.Common.{append_assoc, append-nil}
 use Rattle.ov_graph.specs.Row.{picked}
 use Rattle.ov_graph.proofs.BitRows.Read.{next_picked, none_picked}

@@ -1,7 +1,8 @@
 -- The links of one place after another are followed, until no place is reached whose links are to be followed.
 use Rattle.std.proofs.Common.{◌≤◌, ◌*◌, ℕ, List, length, subst}
 use Rattle.ov_components.proofs.Rows.{less_by_one}
-use Rattle.ov_components.proofs.Grown.{rows_begun, grown_begun, follows, rows_more, grown_more, grown_out, component_taken}
+use Rattle.ov_components.proofs.Grown.{rows_begun, grown_begun, follows, rows_more, grown_more, grown_out}
+use Rattle.ov_components.proofs.Grown.{component_taken}
 use Rattle.ov_components.proofs.flood_fill.take_component.Goals as goal
 
 pub loop-place-init : goal.loop-place-init
