@@ -132,7 +132,8 @@ module _ (n : SplitNetState) (wide words : ℕ) (placed : IsPlaced n wide) (enou
 
 -- the same by ids
 pub stuck_full : (n : SplitNetState) (words : ℕ) → IsSplitNet n → IsPlaced (net_by_place n) (length n.graph.nodes)
-    → length n.graph.nodes ≤ 64 * words → (from : Table) (ends : List ℕ) {W : ℕ} (t : Tree W) (avoided next cut : List ℕ)
+    → length n.graph.nodes ≤ 64 * words → (from : Table) (ends : List ℕ) {W : ℕ} (t : Tree W)
+    (avoided next cut : List ℕ)
     → IsFlow (net_by_place n) from ends → IsGrown (net_by_place n) from t → IsSwept (net_by_place n) from t
     → ((p : ℕ) → HasBit avoided p ↔ Has (net_by_place n).avoided p) → AreWithout t.seen t.reached words next
     → AreWithout next avoided words cut

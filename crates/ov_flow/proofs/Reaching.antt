@@ -189,7 +189,8 @@ abbrev pub IsReachedBy : {W : ℕ} → SplitNetState → Table → Tree W → Tr
 IsReachedBy n from old new node = IsGrown n from new × Has new.order.items node
     × (¬ Has old.order.items node → get_or new.order.items (length new.order.items - 1) 0 ≡ node)
 
-pub reached_before : (n : SplitNetState) (from : Table) {W : ℕ} (t : Tree W) (node : ℕ) → IsGrown n from t → HasBit t.reached node
+pub reached_before : (n : SplitNetState) (from : Table) {W : ℕ} (t : Tree W) (node : ℕ) → IsGrown n from t
+    → HasBit t.reached node
     → IsReachedBy n from t t node
 reached_before n from t node g h = (g, (g.marked node).0 h, λ out. absurd (out ((g.marked node).0 h)))
 

@@ -105,7 +105,8 @@ module _ {W : ℕ} (n : SplitNetState) (wide : ℕ) (placed : IsPlaced n wide) (
     link_room room off = node_room n wide (table_of from) t node placed v.grown room node_there off
 
     -- the node is reached, and the bit of the link is set
-    module _ (u : Tree W) (new : List ℕ) (reach : (m : SplitNetState) (f : Table) → IsGrown m f t → Has m.graph.nodes node
+    module _ (u : Tree W) (new : List ℕ)
+        (reach : (m : SplitNetState) (f : Table) → IsGrown m f t → Has m.graph.nodes node
         → IsStepBy m f (get_or t.order.items at 0) node (Some w) → IsReachedBy m f t u node) (more : IsMore t u)
         (only : (x : ℕ) → Has u.order.items x → ¬ Has t.order.items x → x ≡ node) (same : u.seen ≡ t.seen)
         (put : (q : ℕ) → HasBit new q ↔ ((q ≡ w) ⊎ HasBit u.seen q)) where

@@ -13,6 +13,7 @@ loop-at-init g c =
     record {
       graph = ap (λ (v : NodeSetState). v.graph) e;
       few = omega (arith, c.iter-path-items.ensures.few, ap length c.iter-path-items.ensures.paths);
-      left = ap₂ (λ (v : NodeSetState) (ps : List (List ℕ)). fan_paths_flaw graph c.args.group.now v.members c.args.j 0 ps)
+      left = ap₂ (λ (v : NodeSetState) (ps : List (List ℕ)). fan_paths_flaw graph c.args.group.now v.members c.args.j
+          0 ps)
           e c.iter-path-items.ensures.paths;
     }

@@ -10,7 +10,8 @@ loop-at-init g c =
     let graph = c.args.graph.now in
     let e = two_entered graph c.args.i c.args.j c.args.used.now c.enter.new.self c.enter-2.new.self c.enter.result
     c.enter-2.result
-    (node_tested graph c.args.i c.requires.i) (node_tested graph c.args.j c.requires.j) c.requires.differ c.requires.used
+    (node_tested graph c.args.i c.requires.i) (node_tested graph c.args.j c.requires.j) c.requires.differ
+    c.requires.used
     c.enter.ensures.fresh c.enter.ensures.entered c.enter-2.ensures.fresh c.enter-2.ensures.entered in
     record {
       graph = ap (λ (v : NodeSetState). v.graph) e;

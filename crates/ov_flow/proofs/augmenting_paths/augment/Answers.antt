@@ -33,7 +33,8 @@ walk_back-requires g c = (
   (
     search rules,
     (let t = c.search.new.tree in
-        let g = subst (λ (l : List (Option ℕ)). IsGrown (net_by_place c.args.net.now) (table_of l) t) c.deref.ensures.value
+        let g = subst (λ (l : List (Option ℕ)). IsGrown (net_by_place c.args.net.now) (table_of l) t)
+        c.deref.ensures.value
         c.search.ensures.grown in
         let b = tree_bound (net_by_place c.args.net.now) (table_of c.args.work.now.from.items) t.order.items
         t.parents.items t.ways.items g.is_tree in
@@ -77,12 +78,14 @@ replace_paths-requires g c = (
               rw (c.deref-3.ensures.value, e) (c.walk_back.ensures.walk n (table_of w.from.items) g)),
           (
             subst (Has (net_by_place c.args.net.now).targets) (sym (let t = c.search.new.tree.order.items in
-                let g = subst (λ (l : List (Option ℕ)). IsGrown (net_by_place c.args.net.now) (table_of l) c.search.new.tree)
+                let g = subst (λ (l : List (Option ℕ)). IsGrown (net_by_place c.args.net.now) (table_of l)
+                c.search.new.tree)
                 c.deref.ensures.value c.search.ensures.grown in
                 let some = g.is_tree.some in
                 let x = c.index-target.result.now in
                 get_or_read t (length t - 1) x (omega (arith, some))
-                (subst (λ (k : ℕ). x ≡ get_or t (k - 1) x) (c.len.ensures ∙ c.search.new.tree.order.ok.0) c.index-target.ensures) 0))
+                (subst (λ (k : ℕ). x ≡ get_or t (k - 1) x) (c.len.ensures ∙ c.search.new.tree.order.ok.0)
+                c.index-target.ensures) 0))
                 (search rules),
             search rules,
           ),

@@ -56,4 +56,8 @@ returns g c =
     let out = c.loop-end.flat.items in
     let w = subst (λ (l : List ℕ). AreWriting n (table_of c.args.from.now) out l i) (take_all i ends le)
     c.loop-end.invariant in
-    all_written n c.requires.ready.placed.net (table_of c.args.from.now) ends out i c.requires.flow w (omega (arith, le, auto))
+    all_written n c.requires.ready.placed.net (table_of c.args.from.now) ends out i c.requires.flow w (omega (
+      arith,
+      le,
+      auto,
+    ))

@@ -20,7 +20,8 @@ next_hop-requires g c = (
             let e : c.last_node-at.result ≡ end_of n.source hops =
             c.last_node-at.ensures ∙ ap (end_of c.source-source.result) c.deref.ensures.value
             ∙ ap (λ (a : ℕ). end_of a hops) c.source-source.ensures.place in
-            let b = sought_at n (length c.args.net.now.graph.nodes) c.requires.ready.placed (table_of c.args.from.now) hops
+            let b = sought_at n (length c.args.net.now.graph.nodes) c.requires.ready.placed (table_of c.args.from.now)
+            hops
             c.loop-turn.layers.visited c.loop-turn.invariant.sought in
             omega (arith, e, b)),
       ),
@@ -78,7 +79,8 @@ loop-turn-preserved g c =
           subst (λ (v : List ℕ). IsNextHop n from (end_of n.source hops) v hop) (sym same)
           (subst (λ (a : ℕ). IsNextHop n from a c.loop-turn.layers.visited hop) e w.in-Some.ensures.hop) in
           rw (w.hops-is, w.layers-is, w.push_reserved.ensures.items) (record {
-            sought = sought_more n (length c.args.net.now.graph.nodes) c.requires.ready.placed from hops visited s hop next
+            sought = sought_more n (length c.args.net.now.graph.nodes) c.requires.ready.placed from hops visited s hop
+                next
                 w.put.new.row w.put.ensures;
             room = w.push_reserved.ensures.capacity ∙ i.room;
           })

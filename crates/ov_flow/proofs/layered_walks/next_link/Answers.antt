@@ -13,7 +13,8 @@ tip-node-requires g c =
     let n = net_by_place c.args.net.now in
     let w = c.in-Some.w in
     let link : Linked n.graph c.args.at w = c.in-Some.ensures.some.holds.0 in
-    let l = (c.requires.ready.placed.nodes w).0 (linked_node n.graph c.args.at w c.requires.ready.placed.net.graph link) in
+    let l = (c.requires.ready.placed.nodes w).0 (linked_node n.graph c.args.at w c.requires.ready.placed.net.graph
+    link) in
     let e = c.requires.table.long in
     omega (arith, l, e)
 
@@ -38,7 +39,8 @@ clear-requires g c =
     let n = net_by_place c.args.net.now in
     let w = c.in-Some.w in
     let link : Linked n.graph c.args.at w = c.in-Some.ensures.some.holds.0 in
-    let l = (c.requires.ready.placed.nodes w).0 (linked_node n.graph c.args.at w c.requires.ready.placed.net.graph link) in
+    let l = (c.requires.ready.placed.nodes w).0 (linked_node n.graph c.args.at w c.requires.ready.placed.net.graph
+    link) in
     let room = c.requires.ready.room in
     (omega arith, omega (arith, l, room))
 
@@ -47,7 +49,8 @@ overflow_cast-w g c =
     let n = net_by_place c.args.net.now in
     let w = c.in-Some.w in
     let link : Linked n.graph c.args.at w = c.in-Some.ensures.some.holds.0 in
-    let l = (c.requires.ready.placed.nodes w).0 (linked_node n.graph c.args.at w c.requires.ready.placed.net.graph link) in
+    let l = (c.requires.ready.placed.nodes w).0 (linked_node n.graph c.args.at w c.requires.ready.placed.net.graph
+    link) in
     let room = c.requires.ready.room in
     let few = c.requires.ready.placed.few in
     omega (arith, l, few)
@@ -57,7 +60,8 @@ may_take-requires g c =
     let n = net_by_place c.args.net.now in
     let w = c.in-Some.w in
     let link : Linked n.graph c.args.at w = c.in-Some.ensures.some.holds.0 in
-    let l = (c.requires.ready.placed.nodes w).0 (linked_node n.graph c.args.at w c.requires.ready.placed.net.graph link) in
+    let l = (c.requires.ready.placed.nodes w).0 (linked_node n.graph c.args.at w c.requires.ready.placed.net.graph
+    link) in
     let room = c.requires.ready.room in
     (omega arith, omega (arith, l, room))
 
@@ -66,7 +70,8 @@ has-requires g c =
     let n = net_by_place c.args.net.now in
     let w = c.in-Some.w in
     let link : Linked n.graph c.args.at w = c.in-Some.ensures.some.holds.0 in
-    let l = (c.requires.ready.placed.nodes w).0 (linked_node n.graph c.args.at w c.requires.ready.placed.net.graph link) in
+    let l = (c.requires.ready.placed.nodes w).0 (linked_node n.graph c.args.at w c.requires.ready.placed.net.graph
+    link) in
     let room = c.requires.ready.room in
     let node = tip_below (length c.args.net.now.graph.nodes) c.args.from.now w c.requires.table l in
     let is = c.tip-node.ensures in
@@ -77,7 +82,8 @@ loop-w-smaller g c =
     let n = net_by_place c.args.net.now in
     let w = c.in-Some.w in
     let link : Linked n.graph c.args.at w = c.in-Some.ensures.some.holds.0 in
-    let l = (c.requires.ready.placed.nodes w).0 (linked_node n.graph c.args.at w c.requires.ready.placed.net.graph link) in
+    let l = (c.requires.ready.placed.nodes w).0 (linked_node n.graph c.args.at w c.requires.ready.placed.net.graph
+    link) in
     let room = c.requires.ready.room in
     let reached = c.in-Some.ensures.some.reached in
     omega (arith, l, reached)
@@ -87,6 +93,7 @@ loop-w-preserved g c =
     let n = net_by_place c.args.net.now in
     let w = c.in-Some.w in
     let link : Linked n.graph c.args.at w = c.in-Some.ensures.some.holds.0 in
-    let l = (c.requires.ready.placed.nodes w).0 (linked_node n.graph c.args.at w c.requires.ready.placed.net.graph link) in
+    let l = (c.requires.ready.placed.nodes w).0 (linked_node n.graph c.args.at w c.requires.ready.placed.net.graph
+    link) in
     let room = c.requires.ready.room in
     record { visited = search rules; long = search rules; fits = omega (arith, l) }

@@ -41,7 +41,8 @@ loop-w-preserved g c =
     let link : Linked n.graph n.source w = subst (λ (x : ℕ). Linked n.graph x w) is first.holds.0 in
     let free : IsFree n n.source w = (link, λ h. a.2 ((c.avoided.ensures.places w).1 h)) in
     let target : Has n.targets w = (c.targets.ensures.places w).0 a.1 in
-    let l = (c.requires.ready.placed.nodes w).0 (linked_node n.graph n.source w c.requires.ready.placed.net.graph link) in
+    let l = (c.requires.ready.placed.nodes w).0 (linked_node n.graph n.source w c.requires.ready.placed.net.graph
+    link) in
     let room = i.work.room.from in
     let reached = first.reached in
     let items = c.push_reserved.ensures.items in
@@ -56,7 +57,8 @@ loop-w-preserved g c =
           ends = let kept = c.push_reserved.ensures.capacity in let r = i.work.room.ends in omega (arith, kept, r);
         };
         flow = subst (IsFlow n (table_of (set from w (Some s)))) (sym items)
-            (flow_direct n c.requires.ready.placed.net (table_of from) (table_of (set from w (Some s))) ends w i.work.flow free
+            (flow_direct n c.requires.ready.placed.net (table_of from) (table_of (set from w (Some s))) ends w
+            i.work.flow free
             target (λ u f. let m = i.below w u f in absurd (omega (arith, m, reached)))
             (write_there from w (Some s) (omega (arith, l, room)) ∙ ap Some is) (write_others from w (Some s)));
       };

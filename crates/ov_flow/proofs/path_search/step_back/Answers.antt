@@ -12,7 +12,8 @@ pub offset_bounds-from-index : goal.offset_bounds-from-index
 offset_bounds-from-index g c =
     let t = c.args.tree.now in
     let b = read_below (net_by_place c.args.net.now) (length c.args.net.now.graph.nodes) (table_of c.args.from.now)
-    t.order.items t.parents.items t.ways.items c.args.at c.index.result.now c.requires.ready.placed c.requires.grown.is_tree
+    t.order.items t.parents.items t.ways.items c.args.at c.index.result.now c.requires.ready.placed
+    c.requires.grown.is_tree
     c.requires.at c.index.ensures in
     let few = c.requires.ready.placed.few in
     omega (arith, b, few)
@@ -21,7 +22,8 @@ pub bounds : goal.bounds
 bounds g c =
     let t = c.args.tree.now in
     let b = read_below (net_by_place c.args.net.now) (length c.args.net.now.graph.nodes) (table_of c.args.from.now)
-    t.order.items t.parents.items t.ways.items c.args.at c.index.result.now c.requires.ready.placed c.requires.grown.is_tree
+    t.order.items t.parents.items t.ways.items c.args.at c.index.result.now c.requires.ready.placed
+    c.requires.grown.is_tree
     c.requires.at c.index.ensures in
     let e = c.requires.table.long in
     omega (arith, b, e)

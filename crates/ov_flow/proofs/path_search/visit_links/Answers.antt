@@ -3,7 +3,8 @@ use Rattle.std.proofs.Common.{length, arith}
 use Rattle.ov_ids.specs.Members.{Has}
 use Rattle.ov_split.specs.Places.{net_by_place}
 use Rattle.ov_flow.specs.Code.Walked.{table_of}
-use Rattle.ov_flow.proofs.Visiting.{read_below, tip_below, visiting_first, link_below, link_room, link_taken, visiting_all}
+use Rattle.ov_flow.proofs.Visiting.{read_below, tip_below, visiting_first, link_below, link_room, link_taken}
+use Rattle.ov_flow.proofs.Visiting.{visiting_all}
 use Rattle.ov_flow.proofs.path_search.visit_links.Goals as goal
 
 pub next_outside-requires : goal.next_outside-requires
@@ -16,24 +17,30 @@ next_outside-requires g c =
 
 pub tip-node-requires : goal.tip-node-requires
 tip-node-requires g c =
-    let l = link_below (net_by_place c.args.net.now) (length c.args.net.now.graph.nodes) c.requires.ready.placed c.args.from.now
-    c.requires.table c.args.tree.now c.loop-w.tree c.args.at c.loop-w.after c.in-Some.w 0 c.index.result.now c.index.ensures
+    let l = link_below (net_by_place c.args.net.now) (length c.args.net.now.graph.nodes) c.requires.ready.placed
+    c.args.from.now
+    c.requires.table c.args.tree.now c.loop-w.tree c.args.at c.loop-w.after c.in-Some.w 0 c.index.result.now
+    c.index.ensures
     c.loop-w.invariant.visiting c.requires.at c.in-Some.ensures.some in
     let e = c.requires.table.long in
     omega (arith, l, e)
 
 pub overflow_cast-w : goal.overflow_cast-w
 overflow_cast-w g c =
-    let l = link_below (net_by_place c.args.net.now) (length c.args.net.now.graph.nodes) c.requires.ready.placed c.args.from.now
-    c.requires.table c.args.tree.now c.loop-w.tree c.args.at c.loop-w.after c.in-Some.w 0 c.index.result.now c.index.ensures
+    let l = link_below (net_by_place c.args.net.now) (length c.args.net.now.graph.nodes) c.requires.ready.placed
+    c.args.from.now
+    c.requires.table c.args.tree.now c.loop-w.tree c.args.at c.loop-w.after c.in-Some.w 0 c.index.result.now
+    c.index.ensures
     c.loop-w.invariant.visiting c.requires.at c.in-Some.ensures.some in
     let few = c.requires.ready.placed.few in
     omega (arith, l, few)
 
 pub reach-requires : goal.reach-requires
 reach-requires g c =
-    let l = link_below (net_by_place c.args.net.now) (length c.args.net.now.graph.nodes) c.requires.ready.placed c.args.from.now
-    c.requires.table c.args.tree.now c.loop-w.tree c.args.at c.loop-w.after c.in-Some.w 0 c.index.result.now c.index.ensures
+    let l = link_below (net_by_place c.args.net.now) (length c.args.net.now.graph.nodes) c.requires.ready.placed
+    c.args.from.now
+    c.requires.table c.args.tree.now c.loop-w.tree c.args.at c.loop-w.after c.in-Some.w 0 c.index.result.now
+    c.index.ensures
     c.loop-w.invariant.visiting c.requires.at c.in-Some.ensures.some in
     let room = c.requires.ready.room in
     let node = tip_below (length c.args.net.now.graph.nodes) c.args.from.now c.in-Some.w c.requires.table l in
@@ -45,25 +52,32 @@ reach-requires g c =
         omega (arith, longer, at),
         (
           omega (arith, node, is, room),
-          link_room (net_by_place c.args.net.now) (length c.args.net.now.graph.nodes) c.requires.ready.placed c.args.from.now
-              c.requires.table c.args.tree.now c.loop-w.tree c.args.at c.loop-w.after c.in-Some.w c.tip-node.result c.index.result.now c.index.ensures
-              c.loop-w.invariant.visiting c.requires.at c.in-Some.ensures.some c.tip-node.ensures c.loop-w.invariant.room,
+          link_room (net_by_place c.args.net.now) (length c.args.net.now.graph.nodes) c.requires.ready.placed
+              c.args.from.now
+              c.requires.table c.args.tree.now c.loop-w.tree c.args.at c.loop-w.after c.in-Some.w c.tip-node.result
+              c.index.result.now c.index.ensures
+              c.loop-w.invariant.visiting c.requires.at c.in-Some.ensures.some c.tip-node.ensures
+              c.loop-w.invariant.room,
         ),
       ),
     )
 
 pub put-requires : goal.put-requires
 put-requires g c =
-    let l = link_below (net_by_place c.args.net.now) (length c.args.net.now.graph.nodes) c.requires.ready.placed c.args.from.now
-    c.requires.table c.args.tree.now c.loop-w.tree c.args.at c.loop-w.after c.in-Some.w 0 c.index.result.now c.index.ensures
+    let l = link_below (net_by_place c.args.net.now) (length c.args.net.now.graph.nodes) c.requires.ready.placed
+    c.args.from.now
+    c.requires.table c.args.tree.now c.loop-w.tree c.args.at c.loop-w.after c.in-Some.w 0 c.index.result.now
+    c.index.ensures
     c.loop-w.invariant.visiting c.requires.at c.in-Some.ensures.some in
     let room = c.requires.ready.room in
     (omega arith, omega (arith, l, room))
 
 pub has-requires : goal.has-requires
 has-requires g c =
-    let l = link_below (net_by_place c.args.net.now) (length c.args.net.now.graph.nodes) c.requires.ready.placed c.args.from.now
-    c.requires.table c.args.tree.now c.loop-w.tree c.args.at c.loop-w.after c.in-Some.w 0 c.index.result.now c.index.ensures
+    let l = link_below (net_by_place c.args.net.now) (length c.args.net.now.graph.nodes) c.requires.ready.placed
+    c.args.from.now
+    c.requires.table c.args.tree.now c.loop-w.tree c.args.at c.loop-w.after c.in-Some.w 0 c.index.result.now
+    c.index.ensures
     c.loop-w.invariant.visiting c.requires.at c.in-Some.ensures.some in
     let room = c.requires.ready.room in
     let node = tip_below (length c.args.net.now.graph.nodes) c.args.from.now c.in-Some.w c.requires.table l in
@@ -76,8 +90,10 @@ returns-then-has-clause-room g c =
 
 pub loop-w-smaller : goal.loop-w-smaller
 loop-w-smaller g c =
-    let l = link_below (net_by_place c.args.net.now) (length c.args.net.now.graph.nodes) c.requires.ready.placed c.args.from.now
-    c.requires.table c.args.tree.now c.loop-w.tree c.args.at c.loop-w.after c.in-Some.w 0 c.index.result.now c.index.ensures
+    let l = link_below (net_by_place c.args.net.now) (length c.args.net.now.graph.nodes) c.requires.ready.placed
+    c.args.from.now
+    c.requires.table c.args.tree.now c.loop-w.tree c.args.at c.loop-w.after c.in-Some.w 0 c.index.result.now
+    c.index.ensures
     c.loop-w.invariant.visiting c.requires.at c.in-Some.ensures.some in
     let reached = c.in-Some.ensures.some.reached in
     omega (arith, l, reached)
@@ -92,8 +108,10 @@ loop-w-init g c = record {
 
 pub returns-then-has-clause-grown : goal.returns-then-has-clause-grown
 returns-then-has-clause-grown g c =
-    let taken = link_taken (net_by_place c.args.net.now) (length c.args.net.now.graph.nodes) c.requires.ready.placed c.args.from.now
-    c.requires.table c.args.tree.now c.loop-w.tree c.args.at c.loop-w.after c.in-Some.w c.tip-node.result c.index.result.now c.index.ensures
+    let taken = link_taken (net_by_place c.args.net.now) (length c.args.net.now.graph.nodes) c.requires.ready.placed
+    c.args.from.now
+    c.requires.table c.args.tree.now c.loop-w.tree c.args.at c.loop-w.after c.in-Some.w c.tip-node.result
+    c.index.result.now c.index.ensures
     c.loop-w.invariant.visiting c.requires.at c.in-Some.ensures.some c.tip-node.ensures
     c.reach.new.tree c.put.new.row c.reach.ensures.grown c.reach.ensures.more c.reach.ensures.only
     c.reach.ensures.seen c.put.ensures in
@@ -101,8 +119,10 @@ returns-then-has-clause-grown g c =
 
 pub returns-then-has-clause-found : goal.returns-then-has-clause-found
 returns-then-has-clause-found g c =
-    let taken = link_taken (net_by_place c.args.net.now) (length c.args.net.now.graph.nodes) c.requires.ready.placed c.args.from.now
-    c.requires.table c.args.tree.now c.loop-w.tree c.args.at c.loop-w.after c.in-Some.w c.tip-node.result c.index.result.now c.index.ensures
+    let taken = link_taken (net_by_place c.args.net.now) (length c.args.net.now.graph.nodes) c.requires.ready.placed
+    c.args.from.now
+    c.requires.table c.args.tree.now c.loop-w.tree c.args.at c.loop-w.after c.in-Some.w c.tip-node.result
+    c.index.result.now c.index.ensures
     c.loop-w.invariant.visiting c.requires.at c.in-Some.ensures.some c.tip-node.ensures
     c.reach.new.tree c.put.new.row c.reach.ensures.grown c.reach.ensures.more c.reach.ensures.only
     c.reach.ensures.seen c.put.ensures in
@@ -110,13 +130,17 @@ returns-then-has-clause-found g c =
 
 pub loop-w-preserved : goal.loop-w-preserved
 loop-w-preserved g c =
-    let taken = link_taken (net_by_place c.args.net.now) (length c.args.net.now.graph.nodes) c.requires.ready.placed c.args.from.now
-    c.requires.table c.args.tree.now c.loop-w.tree c.args.at c.loop-w.after c.in-Some.w c.tip-node.result c.index.result.now c.index.ensures
+    let taken = link_taken (net_by_place c.args.net.now) (length c.args.net.now.graph.nodes) c.requires.ready.placed
+    c.args.from.now
+    c.requires.table c.args.tree.now c.loop-w.tree c.args.at c.loop-w.after c.in-Some.w c.tip-node.result
+    c.index.result.now c.index.ensures
     c.loop-w.invariant.visiting c.requires.at c.in-Some.ensures.some c.tip-node.ensures
     c.reach.new.tree c.put.new.row c.reach.ensures.grown c.reach.ensures.more c.reach.ensures.only
     c.reach.ensures.seen c.put.ensures in
-    let l = link_below (net_by_place c.args.net.now) (length c.args.net.now.graph.nodes) c.requires.ready.placed c.args.from.now
-    c.requires.table c.args.tree.now c.loop-w.tree c.args.at c.loop-w.after c.in-Some.w 0 c.index.result.now c.index.ensures
+    let l = link_below (net_by_place c.args.net.now) (length c.args.net.now.graph.nodes) c.requires.ready.placed
+    c.args.from.now
+    c.requires.table c.args.tree.now c.loop-w.tree c.args.at c.loop-w.after c.in-Some.w 0 c.index.result.now
+    c.index.ensures
     c.loop-w.invariant.visiting c.requires.at c.in-Some.ensures.some in
     let node = c.tip-node.result in
     let off : ¬ Has (net_by_place c.args.net.now).targets node =
@@ -130,4 +154,5 @@ loop-w-preserved g c =
 pub returns-clause-found : goal.returns-clause-found
 returns-clause-found g c =
     visiting_all (net_by_place c.args.net.now) (table_of c.args.from.now) c.args.tree.now c.loop-w.tree c.args.at
-    c.index.result.now c.loop-w.after c.requires.at c.index.ensures c.loop-w.invariant.visiting c.in_default.ensures.none
+    c.index.result.now c.loop-w.after c.requires.at c.index.ensures c.loop-w.invariant.visiting
+    c.in_default.ensures.none

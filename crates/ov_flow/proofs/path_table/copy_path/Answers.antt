@@ -35,7 +35,8 @@ loop-step-preserved g c =
     let x = c.loop-step.at in
     let u = c.in-Some.before in
     let i = c.loop-step.invariant in
-    let l = coming_below n (length c.args.net.now.graph.nodes) c.args.from.now c.args.end x i.copying.c c.requires.ready.placed
+    let l = coming_below n (length c.args.net.now.graph.nodes) c.args.from.now c.args.end x i.copying.c
+    c.requires.ready.placed
     c.requires.from i.copying.coming in
     let long = i.long in
     let v = c.requires.from in

@@ -31,7 +31,8 @@ keep_paths-requires g c = (
               let is = take_at new (drop (length new) c.args.from.now.items) c.args.from.now.len long in
               subst (λ (l : List (Option ℕ)). AreHeld n (table_of l) ends) (sym is)
               (subst (AreHeld n (table_of new)) (sym b.is) (held_turned n (table_of new) target b.before
-              (c.take_hops.ensures.held b.before (open_before n c.requires.ready.placed.net (table_of old) ends target b))))),
+              (c.take_hops.ensures.held b.before (open_before n c.requires.ready.placed.net (table_of old) ends target
+              b))))),
           (targets_turned (net_by_place c.args.net.now) (table_of c.args.from.now.items) c.args.ends.now c.args.target
               c.requires.flow c.requires.target),
         ),

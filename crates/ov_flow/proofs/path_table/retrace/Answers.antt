@@ -45,7 +45,8 @@ loop-end-preserved g c =
     let ends = c.args.ends.now in
     let e = get_or ends i 0 in
     let h = has_place ends i 0 c.loop-end-test.true in
-    let apart : e ≢ n.source = λ s. c.requires.ready.placed.net.no_target (subst (Has n.targets) s (c.requires.targets e h)) in
+    let apart : e ≢ n.source = λ s. c.requires.ready.placed.net.no_target (subst (Has n.targets) s (c.requires.targets
+    e h)) in
     record {
       long = c.copy_path.auto.next ∙ c.loop-end.invariant.long;
       copy = rw (take_more ends i 0 c.loop-end-test.true)

@@ -14,5 +14,6 @@ returns-clause-grown g c from =
       c.push_reserved-3.ensures.items ∙ ap (λ (l : List (Option ℕ)). l ++ None ∷ []) c.clear-3.ensures.items,
     )
     (grown_first n from c.put-2.new.row c.put.new.row c.avoided.result.now c.no_places-tree.result s
-    ((c.requires.ready.placed.nodes s).1 c.source-source.ensures.below) c.source-source.ensures.place c.avoided.ensures.places
+    ((c.requires.ready.placed.nodes s).1 c.source-source.ensures.below) c.source-source.ensures.place
+    c.avoided.ensures.places
     c.no_places-tree.ensures c.put-2.ensures c.put.ensures)

@@ -14,7 +14,8 @@ returns-in_default-clause-fresh g c =
 pub returns-then-has-clause-fresh : goal.returns-then-has-clause-fresh
 returns-then-has-clause-fresh g c =
     let s = c.self.inside in
-    let at = at_place s.graph.now s.bits.words c.in-Some.place c.args.id c.in-Some.ensures.graph c.in-Some.ensures.some.0
+    let at = at_place s.graph.now s.bits.words c.in-Some.place c.args.id c.in-Some.ensures.graph
+    c.in-Some.ensures.some.0
     c.in-Some.ensures.some.1 in
     fresh_not _ _ (ap (λ (v : NodeSetState). has v.graph.nodes c.args.id) (sym c.self.view_is) ∙ at.node)
     (ap (λ (v : NodeSetState). has v.members c.args.id) (sym c.self.view_is)
@@ -24,7 +25,8 @@ returns-then-has-clause-fresh g c =
 pub returns-clause-fresh : goal.returns-clause-fresh
 returns-clause-fresh g c =
     let s = c.self.inside in
-    let at = at_place s.graph.now s.bits.words c.in-Some.place c.args.id c.in-Some.ensures.graph c.in-Some.ensures.some.0
+    let at = at_place s.graph.now s.bits.words c.in-Some.place c.args.id c.in-Some.ensures.graph
+    c.in-Some.ensures.some.0
     c.in-Some.ensures.some.1 in
     fresh_yes _ _ (ap (λ (v : NodeSetState). has v.graph.nodes c.args.id) (sym c.self.view_is) ∙ at.node)
     (ap (λ (v : NodeSetState). has v.members c.args.id) (sym c.self.view_is)
@@ -34,7 +36,8 @@ returns-clause-fresh g c =
 pub returns-clause-entered : goal.returns-clause-entered
 returns-clause-entered g c =
     let s = c.self.inside in
-    let at = at_place s.graph.now s.bits.words c.in-Some.place c.args.id c.in-Some.ensures.graph c.in-Some.ensures.some.0
+    let at = at_place s.graph.now s.bits.words c.in-Some.place c.args.id c.in-Some.ensures.graph
+    c.in-Some.ensures.some.0
     c.in-Some.ensures.some.1 in
     let of : List ℕ → NodeSetState = λ ms. record { graph = s.graph.now; members = ms } in
     ap of (at.taken c.put.new.row c.put.ensures) ∙ ap (λ (v : NodeSetState). record v

@@ -8,7 +8,8 @@ use Rattle.ov_cert.proofs.node_set.NodeSet.has.Goals as goal
 pub returns-in-Some : goal.returns-in-Some
 returns-in-Some g c =
     let s = c.self.inside in
-    let at = at_place s.graph.now s.bits.words c.in-Some.place c.args.id c.in-Some.ensures.graph c.in-Some.ensures.some.0
+    let at = at_place s.graph.now s.bits.words c.in-Some.place c.args.id c.in-Some.ensures.graph
+    c.in-Some.ensures.some.0
     c.in-Some.ensures.some.1 in
     at.member c.has.result c.has.ensures ∙ ap (λ (v : NodeSetState). has v.members c.args.id) c.self.view_is
 
