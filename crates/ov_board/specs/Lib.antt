@@ -1,4 +1,3 @@
-pub mod Limits
 pub mod Claims
 pub mod Steps
 pub mod Theorems

@@ -1,6 +1,5 @@
-ghost use Rattle.std.specs.Prelude.{◌≡◌, ◌≤◌, ◌*◌, ◌&&◌, length, not, [], Some, None, IfOk, IfErr, if◌then◌else◌};
+ghost use Rattle.std.specs.Prelude.{◌≡◌, ◌&&◌, not, [], Some, None, IfOk, IfErr, if◌then◌else◌};
 ghost use Rattle.ov_ids.specs.Sets.{has, adding};
-ghost use Rattle.ov_graph.specs.Row.{word_bits};
 ghost use Rattle.ov_cert.specs.Code.Kept.{NodeSetState};
 ghost use Rattle.ov_cert.specs.Code.Tests.{entered};
 ghost use Rattle.ov_cert.specs.Code.Flaws.{first_taken};
@@ -8,52 +7,33 @@ ghost use Rattle.ov_cert.specs.Code.FrameFlaws.{order_flaw, set_flaw};
 
 use crate::flaw_types_apart_from_paths::SetFlaw;
 use ov_graph::Graph;
-use ov_graph::bit_rows::{WORDS, has, put};
+use ov_graph::bit_rows::{EMPTY, Row, has, put};
 use ov_ids::NodeId;
 use std::marker::Model;
 
-/// How many words a set has in a graph of at most 1,024 nodes.
-pub(crate) const FEW_WORDS: usize = WORDS;
-
-/// How many words a set has in any graph.
-pub(crate) const ALL_WORDS: usize = 512;
-
-/// A bit for each place.
-#[derive(Clone, Copy)]
-struct PlaceBits<const W: usize> {
-    words: [u64; W],
-}
-
-/// A set of nodes of a graph, as `W` words with a bit for the place of each node. Allocates nothing. Contracts see the
+/// A set of nodes of a graph, as a row with a bit for the place of each node. Allocates nothing. Contracts see the
 /// graph and the ascending members.
 #[derive(Drop)]
-pub(crate) struct NodeSet<'g, const W: usize> {
+pub(crate) struct NodeSet<'g> {
     graph: &'g Graph,
-    bits: PlaceBits<W>,
+    row: Row,
 }
 
-impl<'g, const W: usize> Model for NodeSet<'g, W> {
-    ghost use Rattle.std.specs.Prelude.{◌≤◌, ◌*◌, length};
-    ghost use Rattle.ov_graph.specs.Row.{picked, word_bits};
+impl<'g> Model for NodeSet<'g> {
+    ghost use Rattle.ov_graph.specs.Row.{picked};
     ghost use Rattle.ov_cert.specs.Code.Kept.{NodeSetState};
 
     ghost Value = { NodeSetState };
 
-    ghost view = { λ s. record { graph = s.graph.now; members = picked s.bits.words 0 s.graph.now.nodes } };
-
-    ghost invariant = { λ s. length s.graph.now.nodes ≤ word_bits * W };
+    ghost view = { λ s. record { graph = s.graph.now; members = picked s.row 0 s.graph.now.nodes } };
 }
 
-impl<'g, const W: usize> NodeSet<'g, W> {
+impl<'g> NodeSet<'g> {
     /// The empty set.
-    pub(crate) fn new(graph: &'g Graph) -> NodeSet<'g, W>
-        requires { length graph.now.nodes ≤ word_bits * W }
+    pub(crate) fn new(graph: &'g Graph) -> NodeSet<'g>
         ensures { result ≡ record { graph = graph.now; members = [] } }
     {
-        NodeSet {
-            graph,
-            bits: PlaceBits { words: [0; W] },
-        }
+        NodeSet { graph, row: EMPTY }
     }
 
     /// Whether the id is a member.
@@ -62,7 +42,7 @@ impl<'g, const W: usize> NodeSet<'g, W> {
     {
         let graph = self.graph;
         match graph.place(id) {
-            Some(place) => has(&self.bits.words, place),
+            Some(place) => has(&self.row, place),
             None => false,
         }
     }
@@ -77,10 +57,10 @@ impl<'g, const W: usize> NodeSet<'g, W> {
         let Some(place) = graph.place(id) else {
             return false;
         };
-        if has(&self.bits.words, place) {
+        if has(&self.row, place) {
             return false;
         }
-        put(&mut self.bits.words, place);
+        put(&mut self.row, place);
         true
     }
 
@@ -110,16 +90,12 @@ fn order_flaw(before: Option<NodeId>, at: usize, id: NodeId) -> Option<SetFlaw>
 }
 
 /// The set of these ids. If they are no set of nodes in ascending order, the first id that does not fit.
-pub(crate) fn node_set<'g>(
-    graph: &'g Graph,
-    ids: &[NodeId],
-) -> Result<NodeSet<'g, ALL_WORDS>, SetFlaw>
+pub(crate) fn node_set<'g>(graph: &'g Graph, ids: &[NodeId]) -> Result<NodeSet<'g>, SetFlaw>
     ensures set { IfOk result (λ s. s ≡ record { graph = graph.now; members = ids.now }) }
     ensures none { IfOk result (λ _. set_flaw graph.now ids.now ≡ None) }
     ensures flaw { IfErr result (λ flaw. set_flaw graph.now ids.now ≡ Some flaw) }
 {
-    prove!(graph.nodes().len() <= Graph::MOST_OF_ANY);
-    let mut set: NodeSet<'_, ALL_WORDS> = NodeSet::new(graph);
+    let mut set = NodeSet::new(graph);
     let mut before = None;
     for (at, id) in ids.iter().enumerate() {
         if let Some(flaw) = order_flaw(before, at, *id) {

@@ -5,12 +5,12 @@ ghost use Rattle.ov_cert.specs.Code.FrameFlaws.{end_flaw, in_cut_flaw, way_out_o
 
 use crate::cert::Split;
 use crate::flaw_types_apart_from_paths::{EndFlaw, SideFlaw};
-use crate::node_set::{ALL_WORDS, NodeSet, node_set};
+use crate::node_set::{NodeSet, node_set};
 use ov_graph::{Graph, is_member};
 use ov_ids::NodeId;
 
 /// Why the id is no surviving member.
-fn end_flaw(group: &[NodeId], cut: &NodeSet<'_, ALL_WORDS>, id: NodeId) -> Option<EndFlaw>
+fn end_flaw(group: &[NodeId], cut: &NodeSet<'_>, id: NodeId) -> Option<EndFlaw>
     requires { Ascends group.now }
     ensures { result ≡ end_flaw group.now cut.now.members id }
 {
@@ -24,7 +24,7 @@ fn end_flaw(group: &[NodeId], cut: &NodeSet<'_, ALL_WORDS>, id: NodeId) -> Optio
 }
 
 /// The first of the ids that is in the cut.
-fn in_cut_flaw(cut: &NodeSet<'_, ALL_WORDS>, ids: &[NodeId]) -> Option<SideFlaw>
+fn in_cut_flaw(cut: &NodeSet<'_>, ids: &[NodeId]) -> Option<SideFlaw>
     ensures { result ≡ in_cut_flaw cut.now.members 0 ids.now }
 {
     for (at, id) in ids.iter().enumerate() {
@@ -36,12 +36,7 @@ fn in_cut_flaw(cut: &NodeSet<'_, ALL_WORDS>, ids: &[NodeId]) -> Option<SideFlaw>
 }
 
 /// The first link of a node that ends neither on the side nor in the cut.
-fn way_out_of(
-    graph: &Graph,
-    side: &NodeSet<'_, ALL_WORDS>,
-    cut: &NodeSet<'_, ALL_WORDS>,
-    id: NodeId,
-) -> Option<SideFlaw>
+fn way_out_of(graph: &Graph, side: &NodeSet<'_>, cut: &NodeSet<'_>, id: NodeId) -> Option<SideFlaw>
     requires { Has graph.now.nodes id }
     ensures { result ≡ way_out_of side.now.members cut.now.members id
         (neighbours_in graph.now.links id graph.now.nodes) }
@@ -55,12 +50,7 @@ fn way_out_of(
 }
 
 /// The first link of these nodes that ends neither on the side nor in the cut.
-fn way_out(
-    graph: &Graph,
-    side: &NodeSet<'_, ALL_WORDS>,
-    cut: &NodeSet<'_, ALL_WORDS>,
-    ids: &[NodeId],
-) -> Option<SideFlaw>
+fn way_out(graph: &Graph, side: &NodeSet<'_>, cut: &NodeSet<'_>, ids: &[NodeId]) -> Option<SideFlaw>
     requires { (a : ℕ) → Has ids.now a → Has graph.now.nodes a }
     ensures { result ≡ way_out graph.now side.now.members cut.now.members ids.now }
 {
@@ -77,7 +67,7 @@ fn way_out(
 pub(crate) fn side_flaw(
     graph: &Graph,
     group: &[NodeId],
-    cut: &NodeSet<'_, ALL_WORDS>,
+    cut: &NodeSet<'_>,
     split: &Split,
 ) -> Option<SideFlaw>
     requires graph { cut.now.graph ≡ graph.now }

@@ -29,8 +29,7 @@ IsFew version g = length g.nodes ≤ most_nodes_of version
 -- a graph within the limit of all graphs and of the version has no fault
 graph_judged : (version : Version) (g : LinkGraph) → IsGraph g → length g.nodes ≤ most_nodes → IsFew version g
     → FileGraphJudged version g None
-graph_judged version g graph within few =
-    inl (few, passed most_nodes g.nodes g.links (no_fault_found most_nodes g graph within))
+graph_judged version g graph within few = inl (few, passed g.nodes g.links (no_fault_found g graph within))
 
 -- files of this version are read where that is the newest version that is read
 abbrev pub IsReadBy : Version → Version → Type 0

@@ -2,7 +2,7 @@
 use Rattle.std.proofs.Common.{◌≡◌, ◌≢◌, ◌∙◌, ◌≤◌, List, ℕ, length, Option, Some, None, Result, Ok, Err}
 use Rattle.std.proofs.Common.{IfOk, IfSome, IfNone, sym, subst, inl, inr}
 use Rattle.ov_ids.proofs.Stepping.{step_none}
-use Rattle.ov_graph.specs.Links.{IsGraph, most_nodes}
+use Rattle.ov_graph.specs.Links.{IsGraph}
 use Rattle.ov_graph.specs.Faults.{GraphJudged}
 use Rattle.ov_graph.specs.declared.fault.GraphFault.TheVariants.{TooManyNodes}
 use Rattle.ov_graph.proofs.EvenTest.Tested.{sound}
@@ -44,7 +44,7 @@ value_graph newest d f s =
     let links = f.graph.links in
     let p = step_none (length nodes ≤ most_nodes_of s.version)
     (TooManyNodes (length nodes) (most_nodes_of s.version)) (GraphJudged nodes links) s.judged in
-    (sound most_nodes nodes links p.1).0
+    (sound nodes links p.1).0
 
 read_graph : (newest : Version) (o : Option _) (f : Filed) → IfSome o (λ d. SaysFile newest d (Ok f))
     → IfNone o (◌≡◌ {A = Result Filed Kind} (Ok f) (Err NotJson)) → IsGraph f.graph

@@ -4,7 +4,7 @@ ghost use Rattle.std.specs.Prelude.{◌≡◌, ◌<◌, ◌≤◌, false};
 use ov_even::FoundPaths;
 use ov_fans::shared_bits;
 use ov_graph::Graph;
-use ov_graph::bit_rows::{EMPTY, Row, WORDS, put, words_for};
+use ov_graph::bit_rows::{EMPTY, Row, put};
 use ov_ids::{NodeId, Workers};
 
 /// How many paths must be sought before one more thread saves time.
@@ -53,14 +53,12 @@ impl Hiring {
 /// How many pieces of a level ask for paths: the pairs of unlinked members among the first `level` members, and the
 /// fans of later members.
 fn asking_pieces(graph: &Graph, group: &[NodeId], level: usize) -> u64 {
-    prove!(graph.nodes().len() <= Graph::MOST_NODES);
     let first = &group[..level.min(group.len())];
     let row = row_of(graph, first);
-    let words = words_for::<WORDS>(graph.nodes().len());
     let mut unlinked: usize = 0;
     for member in first {
         if let Some(place) = graph.place(*member) {
-            let linked = shared_bits(&graph.neighbour_set(place), &row, words);
+            let linked = shared_bits(graph.row_at(place), &row, graph.words());
             unlinked = unlinked.saturating_add(first.len().saturating_sub(linked));
         }
     }

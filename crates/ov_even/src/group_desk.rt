@@ -1,5 +1,5 @@
 ghost use Rattle.std.specs.Prelude.{◌≡◌, ◌↔◌, ◌<◌, [], length, replicate, IsTrue, IfOk, OnOk, OnErr};
-ghost use Rattle.ov_board.specs.Limits.{piece_limit};
+ghost use Rattle.ov_ids.specs.Limits.{number_limit};
 ghost use Rattle.ov_graph.specs.Links.{IsGroup};
 ghost use Rattle.ov_board.specs.Theorems.{AllEnded};
 ghost use Rattle.ov_fans.specs.Cuts.{IsRight};
@@ -234,7 +234,7 @@ impl GroupDesk {
 fn total_to_share(graph: &Graph, group: &[NodeId]) -> u64
     requires { IsGroup graph.now group.now }
     ensures share { AreToShare graph.now group.now result }
-    ensures small { result < piece_limit }
+    ensures small { result < number_limit }
 {
     if are_all_linked(graph, group) {
         return 0;

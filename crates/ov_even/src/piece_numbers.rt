@@ -1,6 +1,6 @@
 //! The numbers of pieces: how many pieces there are, and which piece has a given number.
 ghost use Rattle.std.specs.Prelude.{◌≡◌, ◌<◌, ◌≤◌, ◌+◌, ◌-◌, ◌*◌};
-ghost use Rattle.ov_board.specs.Limits.{piece_limit};
+ghost use Rattle.ov_ids.specs.Limits.{number_limit};
 ghost use Rattle.ov_graph.specs.Links.{most_nodes};
 ghost use Rattle.ov_even.specs.Order.{IsNumbered, AreSoMany};
 ghost use Rattle.ov_even.specs.Order.{AreMoreThan};
@@ -16,7 +16,7 @@ pub fn group_total(nodes: usize, members: usize) -> u64
     ensures count { AreSoMany nodes members result }
     ensures figures { 6 * result ≡ (members + 1) * (members * (members - 1))
         + 3 * ((nodes - members) * (members * (members - 1))) }
-    ensures small { result < piece_limit }
+    ensures small { result < number_limit }
 {
     let pairs = pair_count(members);
     ((members + 1) * pairs / 3 + (nodes - members) * pairs) as u64
@@ -45,7 +45,7 @@ pub fn total(nodes: usize) -> u64
     requires { nodes ≤ most_nodes }
     ensures count { AreSoMany nodes nodes result }
     ensures figures { 6 * result ≡ (nodes + 1) * (nodes * (nodes - 1)) }
-    ensures small { result < piece_limit }
+    ensures small { result < number_limit }
 {
     group_total(nodes, nodes)
 }
@@ -73,7 +73,7 @@ pub fn level_numbers(nodes: usize, members: usize, level: usize) -> LevelNumbers
     requires members { members ≤ nodes }
     requires nodes { nodes ≤ most_nodes }
     ensures numbers { AreNumbersOf nodes members level result.first result.size }
-    ensures small { result.first + result.size < piece_limit }
+    ensures small { result.first + result.size < number_limit }
 {
     let size = level_size(members, level);
     let mut first = 0;

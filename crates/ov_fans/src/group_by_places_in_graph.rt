@@ -7,24 +7,21 @@ ghost use Rattle.ov_flow.specs.Flow.{AreBitsOf};
 ghost use Rattle.ov_fans.specs.Pieces.{member_at};
 
 use ov_graph::Graph;
-use ov_graph::bit_rows::put;
+use ov_graph::bit_rows::{EMPTY, Row, WORDS, put};
 use ov_ids::{NodeId, OutOfMemory};
-use ov_split::PlaceSet;
 use std::alloc::Global;
 use std::marker::Model;
 
 /// A graph with the members of a group, by their places in it. The places are looked up once. Contracts see the graph
 /// and the members.
 #[derive(Drop)]
-pub(crate) struct SettlerGroup<'g, const W: usize> {
+pub(crate) struct SettlerGroup<'g> {
     graph: &'g Graph,
     places: Vec<u16>,
-    row: PlaceSet<W>,
+    row: Row,
 }
 
-impl<'g, const W: usize> Model for SettlerGroup<'g, W> {
-    ghost use Rattle.std.specs.Prelude.{◌≤◌, ◌*◌, length};
-    ghost use Rattle.ov_graph.specs.Row.{word_bits};
+impl<'g> Model for SettlerGroup<'g> {
     ghost use Rattle.ov_fans.specs.Group.{SettlerState};
     ghost use Rattle.ov_fans.specs.Code.Kept.{group_at, AreMemberPlaces};
 
@@ -32,30 +29,27 @@ impl<'g, const W: usize> Model for SettlerGroup<'g, W> {
 
     ghost view = { λ m. group_at m.graph.now m.places.items };
 
-    ghost invariant = { λ m. AreMemberPlaces m.graph.now m.places.items m.row.words
-        × (length m.graph.now.nodes ≤ word_bits * W) };
+    ghost invariant = { λ m. AreMemberPlaces m.graph.now m.places.items m.row };
 }
 
-impl<'g, const W: usize> SettlerGroup<'g, W> {
+impl<'g> SettlerGroup<'g> {
     /// The members of a group.
     pub(crate) fn new(
         alloc: Global,
         graph: &'g Graph,
         group: &[NodeId],
-    ) -> Result<SettlerGroup<'g, W>, OutOfMemory>
-        requires group { IsGroup graph.now group.now }
-        requires room { length graph.now.nodes ≤ word_bits * W }
+    ) -> Result<SettlerGroup<'g>, OutOfMemory>
+        requires { IsGroup graph.now group.now }
         ensures { IfOk result (λ m. m ≡ record { graph = graph.now; members = group.now }) }
     {
-        prove!(graph.nodes().len() <= Graph::MOST_OF_ANY);
+        prove!(graph.nodes().len() <= Graph::MOST_NODES);
         let mut places = Vec::with_capacity(alloc, group.len())?;
-        let mut row = [0; W];
+        let mut row = EMPTY;
         for member in group {
             let place = place_among(graph, *member);
             places.push(place as u16)?;
             put(&mut row, place);
         }
-        let row = PlaceSet { words: row };
         Ok(SettlerGroup { graph, places, row })
     }
 
@@ -64,21 +58,19 @@ impl<'g, const W: usize> SettlerGroup<'g, W> {
         ensures graph { result.now ≡ self.now.graph }
         ensures is_graph { IsGraph self.now.graph }
         ensures within { IsWithinLimit self.now.graph }
-        ensures room { length self.now.graph.nodes ≤ word_bits * W }
         ensures group { IsGroup self.now.graph self.now.members }
     {
         self.graph
     }
 
     /// The row of the places of the members.
-    pub(crate) fn row(&self) -> &[u64; W]
+    pub(crate) fn row(&self) -> &[u64; WORDS]
         ensures row { AreBitsOf self.now.graph result.now self.now.members }
         ensures is_graph { IsGraph self.now.graph }
         ensures within { IsWithinLimit self.now.graph }
-        ensures room { length self.now.graph.nodes ≤ word_bits * W }
         ensures group { IsGroup self.now.graph self.now.members }
     {
-        &self.row.words
+        &self.row
     }
 
     /// The place of a member in the graph. The member is named by its place in the group, counted from 1.
@@ -87,7 +79,7 @@ impl<'g, const W: usize> SettlerGroup<'g, W> {
         requires high { i ≤ length self.now.members }
         ensures below { result < length self.now.graph.nodes }
         ensures there { node_at self.now.graph result ≡ member_at self.now.members i }
-        ensures fits { result < word_bits * W }
+        ensures fits { result < word_bits * WORDS }
     {
         self.places[i as usize - 1] as usize
     }
@@ -119,6 +111,7 @@ fn place_among(graph: &Graph, a: NodeId) -> usize
     requires { Has graph.now.nodes a }
     ensures below { result < length graph.now.nodes }
     ensures there { node_at graph.now result ≡ a }
+    ensures fits { result < word_bits * WORDS }
 {
     match graph.place(a) {
         Some(p) => p,

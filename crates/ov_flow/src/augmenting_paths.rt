@@ -19,17 +19,17 @@ use std::alloc::{AllocError, Global};
 /// The tree and the walk of the last search, and the paths that are held: in `from` the place before each place on its
 /// path, and their ends. `next` is a buffer for `from`. `layers` are those of the last search.
 #[derive(Drop)]
-pub(crate) struct Work<const W: usize> {
-    pub tree: Tree<W>,
+pub(crate) struct Work {
+    pub tree: Tree,
     pub hops: Vec<Hop>,
     pub from: Vec<Option<u16>>,
     pub next: Vec<Option<u16>>,
     pub ends: Vec<u16>,
-    pub layers: Layers<W>,
+    pub layers: Layers,
 }
 
 /// Allocates the buffers for nets with this many places. No path is held.
-pub(crate) fn new_work<const W: usize>(alloc: Global, places: usize) -> Result<Work<W>, AllocError>
+pub(crate) fn new_work(alloc: Global, places: usize) -> Result<Work, AllocError>
     ensures work { IfOk result (λ w. (n : SplitNetState) → length n.graph.nodes ≡ places → IsWorkOf n w) }
     ensures empty { IfOk result (λ w. w.ends.items ≡ []) }
 {
@@ -44,7 +44,7 @@ pub(crate) fn new_work<const W: usize>(alloc: Global, places: usize) -> Result<W
 }
 
 /// Drops all paths that are held.
-fn start<const W: usize>(net: &SplitNet<'_, W>, work: &mut Work<W>)
+fn start(net: &SplitNet<'_>, work: &mut Work)
     requires { HasWorkRoom (length net.now.graph.nodes) work.old }
     ensures work { IsWorkOf net.now work.new }
     ensures empty { work.new.ends.items ≡ [] }
@@ -54,8 +54,8 @@ fn start<const W: usize>(net: &SplitNet<'_, W>, work: &mut Work<W>)
 }
 
 /// Searches for one more path. True: it was found, and is held.
-pub(crate) fn augment<const W: usize>(net: &SplitNet<'_, W>, work: &mut Work<W>) -> bool
-    requires ready { IsReady W net.now }
+pub(crate) fn augment(net: &SplitNet<'_>, work: &mut Work) -> bool
+    requires ready { IsReady net.now }
     requires work { IsWorkOf net.now work.old }
     ensures work { IsWorkOf net.now work.new }
     ensures longer { MatchBool result (IsLonger work.old work.new) (IsSame work.old work.new) }
@@ -81,12 +81,8 @@ pub(crate) fn augment<const W: usize>(net: &SplitNet<'_, W>, work: &mut Work<W>)
 
 /// Starts again, and searches for `level` paths. After each search that finds one, more walks are taken through its
 /// layers. True: this many are held.
-pub(crate) fn settle<const W: usize>(
-    net: &SplitNet<'_, W>,
-    level: usize,
-    work: &mut Work<W>,
-) -> bool
-    requires ready { IsReady W net.now }
+pub(crate) fn settle(net: &SplitNet<'_>, level: usize, work: &mut Work) -> bool
+    requires ready { IsReady net.now }
     requires room { HasWorkRoom (length net.now.graph.nodes) work.old }
     ensures work { IsWorkOf net.now work.new }
     ensures held { MatchBool result (length work.new.ends.items ≡ level) (length work.new.ends.items < level) }

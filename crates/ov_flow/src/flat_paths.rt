@@ -94,14 +94,14 @@ fn used(from: &[Option<u16>]) -> usize
 }
 
 /// Writes the path to `end`, from there back to the source.
-fn write_path<const W: usize>(
-    net: &SplitNet<'_, W>,
+fn write_path(
+    net: &SplitNet<'_>,
     from: &[Option<u16>],
     ends: &[u16],
     end: u16,
     flat: &mut Vec<u16>,
 ) -> Result<(), AllocError>
-    requires ready { IsReady W net.now }
+    requires ready { IsReady net.now }
     requires from { length from.now ≡ length net.now.graph.nodes }
     requires held { AreHeld (net_by_place net.now) (table_of from.now) ends.now }
     requires end { Has ends.now end }
@@ -120,13 +120,13 @@ fn write_path<const W: usize>(
 
 /// Writes the paths that are held into a flat list. The list has room for each place on a path, and for the source once
 /// for each path, so it does not grow.
-pub(crate) fn write_paths<const W: usize>(
+pub(crate) fn write_paths(
     alloc: Global,
-    net: &SplitNet<'_, W>,
+    net: &SplitNet<'_>,
     from: &[Option<u16>],
     ends: &[u16],
 ) -> Result<PlacePaths, AllocError>
-    requires ready { IsReady W net.now }
+    requires ready { IsReady net.now }
     requires from { length from.now ≡ length net.now.graph.nodes }
     requires flow { IsFlow (net_by_place net.now) (table_of from.now) ends.now }
     ensures { IfOk result (λ ps. IsFanOf (net_by_place net.now) (length ends.now) ps) }

@@ -14,13 +14,13 @@ use crate::layers::{Layers, set_layers};
 use crate::path_search::tip;
 use crate::path_table::keep_paths;
 use crate::walk_augmentation::{Hop, take_hops};
-use ov_graph::bit_rows::{clear, has, put};
+use ov_graph::bit_rows::{WORDS, both, clear, first_from, has, put};
 use ov_split::SplitNet;
 
 /// Takes more walks through the layers of the last search, until `level` paths are held or no walk is left. The last
 /// search found a target, and its walk is taken already.
-pub(crate) fn take_more<const W: usize>(net: &SplitNet<'_, W>, level: usize, work: &mut Work<W>)
-    requires ready { IsReady W net.now }
+pub(crate) fn take_more(net: &SplitNet<'_>, level: usize, work: &mut Work)
+    requires ready { IsReady net.now }
     requires work { IsWorkOf net.now work.old }
     requires grown { IsTreeOf (net_by_place net.now) work.old.tree }
     requires few { length work.old.ends.items ≤ level }
@@ -41,8 +41,8 @@ pub(crate) fn take_more<const W: usize>(net: &SplitNet<'_, W>, level: usize, wor
 
 /// Takes walks until `level` paths are held or no walk is left. True: no walk met a path, so each place in the table is
 /// still on a path to an end.
-fn take_walks<const W: usize>(net: &SplitNet<'_, W>, level: usize, work: &mut Work<W>) -> bool
-    requires ready { IsReady W net.now }
+fn take_walks(net: &SplitNet<'_>, level: usize, work: &mut Work) -> bool
+    requires ready { IsReady net.now }
     requires work { IsWorkOf net.now work.old }
     requires source { HasBit work.old.layers.visited (net_by_place net.now).source }
     requires few { length work.old.ends.items ≤ level }
@@ -64,8 +64,8 @@ fn take_walks<const W: usize>(net: &SplitNet<'_, W>, level: usize, work: &mut Wo
 }
 
 /// Takes the walk to one more end. True: the walk met no path.
-fn take_walk<const W: usize>(net: &SplitNet<'_, W>, target: u16, work: &mut Work<W>) -> bool
-    requires ready { IsReady W net.now }
+fn take_walk(net: &SplitNet<'_>, target: u16, work: &mut Work) -> bool
+    requires ready { IsReady net.now }
     requires work { IsOpenWorkOf net.now work.old }
     requires walk { IsWalkBy (net_by_place net.now) (table_of work.old.from.items) work.old.hops.items target }
     requires target { Has (net_by_place net.now).targets target }
@@ -80,13 +80,13 @@ fn take_walk<const W: usize>(net: &SplitNet<'_, W>, target: u16, work: &mut Work
 }
 
 /// Finds a walk from the source to a target, depth-first through the layers. The result is the target.
-fn find_walk<const W: usize>(
-    net: &SplitNet<'_, W>,
+fn find_walk(
+    net: &SplitNet<'_>,
     from: &[Option<u16>],
     hops: &mut Vec<Hop>,
-    layers: &mut Layers<W>,
+    layers: &mut Layers,
 ) -> Option<u16>
-    requires ready { IsReady W net.now }
+    requires ready { IsReady net.now }
     requires table { IsTable (length net.now.graph.nodes) from.now }
     requires room { length net.now.graph.nodes ≤ vec_capacity hops.old }
     requires source { HasBit layers.old.visited (net_by_place net.now).source }
@@ -128,14 +128,14 @@ fn last_node(hops: &[Hop], source: u16) -> u16
 }
 
 /// The next step from a node at this depth, to a node that is not visited. No later walk takes this step.
-fn next_hop<const W: usize>(
-    net: &SplitNet<'_, W>,
+fn next_hop(
+    net: &SplitNet<'_>,
     from: &[Option<u16>],
     at: u16,
     depth: usize,
-    layers: &mut Layers<W>,
+    layers: &mut Layers,
 ) -> Option<Hop>
-    requires ready { IsReady W net.now }
+    requires ready { IsReady net.now }
     requires table { IsTable (length net.now.graph.nodes) from.now }
     requires at { at < length net.now.graph.nodes }
     ensures hop { IfSome result (IsNextHop (net_by_place net.now) (table_of from.now) at layers.old.visited) }
@@ -151,22 +151,24 @@ fn next_hop<const W: usize>(
 }
 
 /// The next step by a link.
-fn next_link<const W: usize>(
-    net: &SplitNet<'_, W>,
+fn next_link(
+    net: &SplitNet<'_>,
     from: &[Option<u16>],
     at: u16,
     depth: usize,
-    layers: &mut Layers<W>,
+    layers: &mut Layers,
 ) -> Option<Hop>
-    requires ready { IsReady W net.now }
+    requires ready { IsReady net.now }
     requires table { IsTable (length net.now.graph.nodes) from.now }
     requires at { at < length net.now.graph.nodes }
     requires depth { depth < length layers.old.links.items }
     ensures hop { IfSome result (IsNextHop (net_by_place net.now) (table_of from.now) at layers.old.visited) }
     ensures visited { layers.new.visited ≡ layers.old.visited }
 {
+    let words = net.words();
+    let ways = both(net.links_at(at as usize), &layers.links[depth], words);
     let mut after = 0;
-    while let Some(w) = net.next_within(at as usize, &layers.links[depth], after) {
+    while let Some(w) = first_from(&ways, after, words) {
         clear(&mut layers.links[depth], w);
         let node = tip(from, w as u16);
         if may_take(net, w) && !has(&layers.visited, node as usize) {
@@ -181,21 +183,16 @@ fn next_link<const W: usize>(
 }
 
 /// Whether links to a node may be taken: it is neither the source nor avoided.
-fn may_take<const W: usize>(net: &SplitNet<'_, W>, w: usize) -> bool
-    requires { w < word_bits * W }
+fn may_take(net: &SplitNet<'_>, w: usize) -> bool
+    requires { w < word_bits * WORDS }
     ensures { result ≡ true → (w ≢ (net_by_place net.now).source) × ¬ Has (net_by_place net.now).avoided w }
 {
     w != net.source() && !has(net.avoided(), w)
 }
 
 /// The step back along a path.
-fn next_back<const W: usize>(
-    net: &SplitNet<'_, W>,
-    from: &[Option<u16>],
-    at: u16,
-    layers: &mut Layers<W>,
-) -> Option<Hop>
-    requires ready { IsReady W net.now }
+fn next_back(net: &SplitNet<'_>, from: &[Option<u16>], at: u16, layers: &mut Layers) -> Option<Hop>
+    requires ready { IsReady net.now }
     requires table { IsTable (length net.now.graph.nodes) from.now }
     requires at { at < length net.now.graph.nodes }
     ensures hop { IfSome result (IsNextHop (net_by_place net.now) (table_of from.now) at layers.old.visited) }

@@ -6,8 +6,8 @@ ghost use Rattle.ov_split.specs.Places.{net_by_place};
 ghost use Rattle.ov_flow.specs.Code.Reached.{IsTreeOf};
 ghost use Rattle.ov_flow.specs.Code.Held.{IsReady};
 
-use crate::search_tree::{Tree, no_places};
-use ov_graph::bit_rows::{clear, has, put, without};
+use crate::search_tree::Tree;
+use ov_graph::bit_rows::{EMPTY, Row, clear, has, put, without};
 use ov_split::SplitNet;
 use std::alloc::{AllocError, Global};
 
@@ -18,36 +18,31 @@ const MOST_LAYERS: usize = 64;
 /// `d`, which is `d` steps from the source. `backs` has the nodes from which the step back may be taken. `visited` has
 /// the source, and the nodes that walks came to.
 #[derive(Drop)]
-pub(crate) struct Layers<const W: usize> {
-    pub links: Vec<[u64; W]>,
-    pub backs: [u64; W],
-    pub visited: [u64; W],
+pub(crate) struct Layers {
+    pub links: Vec<Row>,
+    pub backs: Row,
+    pub visited: Row,
 }
 
 /// No layers, with room for `MOST_LAYERS`.
-pub(crate) fn new_layers<const W: usize>(alloc: Global) -> Result<Layers<W>, AllocError> {
+pub(crate) fn new_layers(alloc: Global) -> Result<Layers, AllocError> {
     Ok(Layers {
         links: Vec::with_capacity(alloc, MOST_LAYERS)?,
-        backs: [0; W],
-        visited: [0; W],
+        backs: EMPTY,
+        visited: EMPTY,
     })
 }
 
 /// Writes the layers of a search that found a target. The walk to this target is taken already, so its nodes are
 /// visited. False: there are more layers than may be.
-pub(crate) fn set_layers<const W: usize>(
-    net: &SplitNet<'_, W>,
-    tree: &Tree<W>,
-    ends: &[u16],
-    layers: &mut Layers<W>,
-) -> bool
-    requires ready { IsReady W net.now }
+pub(crate) fn set_layers(net: &SplitNet<'_>, tree: &Tree, ends: &[u16], layers: &mut Layers) -> bool
+    requires ready { IsReady net.now }
     requires grown { IsTreeOf (net_by_place net.now) tree.now }
     requires ends { (e : ℕ) → Has ends.now e → Has (net_by_place net.now).targets e }
     ensures source { HasBit layers.new.visited (net_by_place net.now).source }
 {
     layers.links.clear();
-    layers.backs = no_places();
+    layers.backs = EMPTY;
     layers.visited = walked(net, tree);
     if !part(net, tree, layers) {
         return false;
@@ -56,12 +51,12 @@ pub(crate) fn set_layers<const W: usize>(
 }
 
 /// The nodes on the way from the last node of the tree back to the source.
-fn walked<const W: usize>(net: &SplitNet<'_, W>, tree: &Tree<W>) -> [u64; W]
-    requires ready { IsReady W net.now }
+fn walked(net: &SplitNet<'_>, tree: &Tree) -> Row
+    requires ready { IsReady net.now }
     requires grown { IsTreeOf (net_by_place net.now) tree.now }
     ensures source { HasBit result (net_by_place net.now).source }
 {
-    let mut nodes = [0; W];
+    let mut nodes = EMPTY;
     put(&mut nodes, net.source());
     let mut at = tree.order.len() - 1;
     while at > 0 {
@@ -73,12 +68,12 @@ fn walked<const W: usize>(net: &SplitNet<'_, W>, tree: &Tree<W>) -> [u64; W]
 
 /// Writes all layers but the last, which is incomplete. A node is in the next layer if its parent is in this one.
 /// False: there are more layers than may be.
-fn part<const W: usize>(net: &SplitNet<'_, W>, tree: &Tree<W>, layers: &mut Layers<W>) -> bool
-    requires ready { IsReady W net.now }
+fn part(net: &SplitNet<'_>, tree: &Tree, layers: &mut Layers) -> bool
+    requires ready { IsReady net.now }
     requires grown { IsTreeOf (net_by_place net.now) tree.now }
     ensures visited { layers.new.visited ≡ layers.old.visited }
 {
-    let mut row = [0; W];
+    let mut row = EMPTY;
     let mut start = 1;
     for k in 1..tree.order.len() {
         let parent = tree.parents[k] as usize;
@@ -86,7 +81,7 @@ fn part<const W: usize>(net: &SplitNet<'_, W>, tree: &Tree<W>, layers: &mut Laye
             if !add_layer(row, layers) {
                 return false;
             }
-            row = no_places();
+            row = EMPTY;
             start = k;
         }
         add_way(net, tree, k, &mut row, layers);
@@ -95,14 +90,8 @@ fn part<const W: usize>(net: &SplitNet<'_, W>, tree: &Tree<W>, layers: &mut Laye
 }
 
 /// Adds the step to the node at place `k` of the order, unless the node is visited.
-fn add_way<const W: usize>(
-    net: &SplitNet<'_, W>,
-    tree: &Tree<W>,
-    k: usize,
-    row: &mut [u64; W],
-    layers: &mut Layers<W>,
-)
-    requires ready { IsReady W net.now }
+fn add_way(net: &SplitNet<'_>, tree: &Tree, k: usize, row: &mut Row, layers: &mut Layers)
+    requires ready { IsReady net.now }
     requires grown { IsTreeOf (net_by_place net.now) tree.now }
     requires later { 0 < k }
     requires within { k < length tree.now.order.items }
@@ -121,8 +110,8 @@ fn add_way<const W: usize>(
 }
 
 /// Writes the last layer: links to the targets that no path comes to. False: there are more layers than may be.
-fn add_targets<const W: usize>(net: &SplitNet<'_, W>, ends: &[u16], layers: &mut Layers<W>) -> bool
-    requires ready { IsReady W net.now }
+fn add_targets(net: &SplitNet<'_>, ends: &[u16], layers: &mut Layers) -> bool
+    requires ready { IsReady net.now }
     requires ends { (e : ℕ) → Has ends.now e → Has (net_by_place net.now).targets e }
     ensures visited { layers.new.visited ≡ layers.old.visited }
 {
@@ -134,7 +123,7 @@ fn add_targets<const W: usize>(net: &SplitNet<'_, W>, ends: &[u16], layers: &mut
 }
 
 /// Adds the layer at the next depth. False: there are as many as may be.
-fn add_layer<const W: usize>(row: [u64; W], layers: &mut Layers<W>) -> bool
+fn add_layer(row: Row, layers: &mut Layers) -> bool
     ensures visited { layers.new.visited ≡ layers.old.visited }
 {
     if layers.links.len() == layers.links.capacity() {

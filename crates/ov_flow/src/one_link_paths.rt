@@ -3,12 +3,12 @@ ghost use Rattle.std.specs.Prelude.{◌≡◌, ◌≤◌, [], length};
 ghost use Rattle.ov_flow.specs.Code.Held.{IsReady, IsWorkOf, IsOneLinkEach};
 
 use crate::augmenting_paths::Work;
-use ov_graph::bit_rows::without;
+use ov_graph::bit_rows::{both, first_from, without};
 use ov_split::SplitNet;
 
 /// Takes paths of one link from the source to targets, at most `level` of them. No path is held before.
-pub(crate) fn take_direct<const W: usize>(net: &SplitNet<'_, W>, level: usize, work: &mut Work<W>)
-    requires ready { IsReady W net.now }
+pub(crate) fn take_direct(net: &SplitNet<'_>, level: usize, work: &mut Work)
+    requires ready { IsReady net.now }
     requires work { IsWorkOf net.now work.old }
     requires empty { work.old.ends.items ≡ [] }
     ensures work { IsWorkOf net.now work.new }
@@ -16,9 +16,11 @@ pub(crate) fn take_direct<const W: usize>(net: &SplitNet<'_, W>, level: usize, w
     ensures one { IsOneLinkEach net.now work.new }
 {
     let source = net.source();
-    let allowed = without(net.targets(), net.avoided(), net.words());
+    let words = net.words();
+    let near = both(net.links_at(source), net.targets(), words);
+    let direct = without(&near, net.avoided(), words);
     let mut after = 0;
-    while let Some(w) = net.next_within(source, &allowed, after) {
+    while let Some(w) = first_from(&direct, after, words) {
         if work.ends.len() >= level {
             return;
         }

@@ -1,5 +1,6 @@
 //! The search for one more path: breadth-first over residual steps (Even, SIAM J. Comput. 4, 1975).
-ghost use Rattle.std.specs.Prelude.{◌≡◌, ◌<◌, length, slice_index, MatchBool};
+ghost use Rattle.std.specs.Prelude.{◌≡◌, ◌*◌, ◌<◌, ◌≤◌, length, slice_index, MatchBool};
+ghost use Rattle.ov_graph.specs.Row.{word_bits};
 ghost use Rattle.ov_split.specs.Places.{net_by_place};
 ghost use Rattle.ov_flow.specs.Code.Reached.{tip_of, IsGrown, IsMore, IsClean, IsSearchEnded};
 ghost use Rattle.ov_flow.specs.Code.Reached.{IsSweptAt, IsVisited, IsSwept};
@@ -7,7 +8,7 @@ ghost use Rattle.ov_flow.specs.Code.Walked.{table_of, IsTable};
 ghost use Rattle.ov_flow.specs.Code.Held.{IsReady, HasTreeRoom};
 
 use crate::search_tree::{Tree, begin, reach};
-use ov_graph::bit_rows::{has, put};
+use ov_graph::bit_rows::{WORDS, first_from, has, put, without};
 use ov_split::SplitNet;
 
 /// The open end after a link to `w` is taken.
@@ -22,15 +23,18 @@ pub(crate) fn tip(from: &[Option<u16>], w: u16) -> u16
 }
 
 /// Takes each link of the node at place `at` of the order. True: the last node reached is a target.
-fn visit_links<const W: usize>(
-    net: &SplitNet<'_, W>,
+fn visit_links(
+    net: &SplitNet<'_>,
     from: &[Option<u16>],
-    tree: &mut Tree<W>,
+    tree: &mut Tree,
     at: u16,
+    words: usize,
 ) -> bool
-    requires ready { IsReady W net.now }
+    requires ready { IsReady net.now }
     requires table { IsTable (length net.now.graph.nodes) from.now }
     requires room { HasTreeRoom (length net.now.graph.nodes) tree.old }
+    requires enough { length net.now.graph.nodes ≤ word_bits * words }
+    requires fits { words ≤ WORDS }
     requires grown { IsGrown (net_by_place net.now) (table_of from.now) tree.old }
     requires clean { IsClean (net_by_place net.now) tree.old }
     requires at { at < length tree.old.order.items }
@@ -41,8 +45,9 @@ fn visit_links<const W: usize>(
     ensures room { HasTreeRoom (length net.now.graph.nodes) tree.new }
 {
     let x = tree.order[at as usize] as usize;
+    let fresh = without(net.links_at(x), &tree.seen, words);
     let mut after = 0;
-    while let Some(w) = net.next_outside(x, &tree.seen, after) {
+    while let Some(w) = first_from(&fresh, after, words) {
         let node = tip(from, w as u16);
         reach(tree, at, Some(w as u16), node);
         put(&mut tree.seen, w);
@@ -56,13 +61,8 @@ fn visit_links<const W: usize>(
 
 /// Takes the step back from the node at place `at` of the order, if it is on a path: the path gives up its last step.
 /// True: the last node reached is a target.
-fn step_back<const W: usize>(
-    net: &SplitNet<'_, W>,
-    from: &[Option<u16>],
-    tree: &mut Tree<W>,
-    at: u16,
-) -> bool
-    requires ready { IsReady W net.now }
+fn step_back(net: &SplitNet<'_>, from: &[Option<u16>], tree: &mut Tree, at: u16) -> bool
+    requires ready { IsReady net.now }
     requires table { IsTable (length net.now.graph.nodes) from.now }
     requires room { HasTreeRoom (length net.now.graph.nodes) tree.old }
     requires grown { IsGrown (net_by_place net.now) (table_of from.now) tree.old }
@@ -84,15 +84,12 @@ fn step_back<const W: usize>(
 }
 
 /// Takes each step from the node at place `at` of the order. True: the last node reached is a target.
-fn visit<const W: usize>(
-    net: &SplitNet<'_, W>,
-    from: &[Option<u16>],
-    tree: &mut Tree<W>,
-    at: u16,
-) -> bool
-    requires ready { IsReady W net.now }
+fn visit(net: &SplitNet<'_>, from: &[Option<u16>], tree: &mut Tree, at: u16, words: usize) -> bool
+    requires ready { IsReady net.now }
     requires table { IsTable (length net.now.graph.nodes) from.now }
     requires room { HasTreeRoom (length net.now.graph.nodes) tree.old }
+    requires enough { length net.now.graph.nodes ≤ word_bits * words }
+    requires fits { words ≤ WORDS }
     requires grown { IsGrown (net_by_place net.now) (table_of from.now) tree.old }
     requires clean { IsClean (net_by_place net.now) tree.old }
     requires at { at < length tree.old.order.items }
@@ -102,19 +99,15 @@ fn visit<const W: usize>(
         (IsVisited (net_by_place net.now) (table_of from.now) (slice_index tree.old.order.items at) tree.new) }
     ensures room { HasTreeRoom (length net.now.graph.nodes) tree.new }
 {
-    if visit_links(net, from, tree, at) {
+    if visit_links(net, from, tree, at, words) {
         return true;
     }
     step_back(net, from, tree, at)
 }
 
 /// Searches for a target. True: the last node reached is one.
-pub(crate) fn search<const W: usize>(
-    net: &SplitNet<'_, W>,
-    from: &[Option<u16>],
-    tree: &mut Tree<W>,
-) -> bool
-    requires ready { IsReady W net.now }
+pub(crate) fn search(net: &SplitNet<'_>, from: &[Option<u16>], tree: &mut Tree) -> bool
+    requires ready { IsReady net.now }
     requires table { IsTable (length net.now.graph.nodes) from.now }
     requires room { HasTreeRoom (length net.now.graph.nodes) tree.old }
     ensures grown { IsGrown (net_by_place net.now) (table_of from.now) tree.new }
@@ -123,9 +116,10 @@ pub(crate) fn search<const W: usize>(
     ensures room { HasTreeRoom (length net.now.graph.nodes) tree.new }
 {
     begin(net, tree);
+    let words = net.words();
     let mut at: u16 = 0;
     while (at as usize) < tree.order.len() {
-        if visit(net, from, tree, at) {
+        if visit(net, from, tree, at, words) {
             return true;
         }
         at += 1;

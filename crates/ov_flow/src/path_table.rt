@@ -32,14 +32,14 @@ pub(crate) fn clear(table: &mut [Option<u16>])
 }
 
 /// Copies the path to `end` from one table to the other.
-fn copy_path<const W: usize>(
-    net: &SplitNet<'_, W>,
+fn copy_path(
+    net: &SplitNet<'_>,
     from: &[Option<u16>],
     next: &mut [Option<u16>],
     ends: &[u16],
     end: u16,
 )
-    requires ready { IsReady W net.now }
+    requires ready { IsReady net.now }
     requires from { length from.now ≡ length net.now.graph.nodes }
     requires next { length next.old ≡ length net.now.graph.nodes }
     requires held { AreHeld (net_by_place net.now) (table_of from.now) ends.now }
@@ -60,13 +60,8 @@ fn copy_path<const W: usize>(
 }
 
 /// Copies the paths to the ends, and nothing else.
-fn retrace<const W: usize>(
-    net: &SplitNet<'_, W>,
-    from: &[Option<u16>],
-    next: &mut [Option<u16>],
-    ends: &[u16],
-)
-    requires ready { IsReady W net.now }
+fn retrace(net: &SplitNet<'_>, from: &[Option<u16>], next: &mut [Option<u16>], ends: &[u16])
+    requires ready { IsReady net.now }
     requires from { length from.now ≡ length net.now.graph.nodes }
     requires next { length next.old ≡ length net.now.graph.nodes }
     requires held { AreHeld (net_by_place net.now) (table_of from.now) ends.now }
@@ -80,13 +75,13 @@ fn retrace<const W: usize>(
 }
 
 /// Reduces the table to the paths to the ends. `next` is a buffer for it.
-pub(crate) fn keep_paths<const W: usize>(
-    net: &SplitNet<'_, W>,
+pub(crate) fn keep_paths(
+    net: &SplitNet<'_>,
     from: &mut Vec<Option<u16>>,
     next: &mut Vec<Option<u16>>,
     ends: &[u16],
 )
-    requires ready { IsReady W net.now }
+    requires ready { IsReady net.now }
     requires from { length from.old.items ≡ length net.now.graph.nodes }
     requires next { length next.old.items ≡ length net.now.graph.nodes }
     requires held { AreHeld (net_by_place net.now) (table_of from.old.items) ends.now }
@@ -100,15 +95,15 @@ pub(crate) fn keep_paths<const W: usize>(
 }
 
 /// Takes a walk to one more end. A walk that meets paths may leave cycles in the table. Then only the paths are kept.
-pub(crate) fn replace_paths<const W: usize>(
-    net: &SplitNet<'_, W>,
+pub(crate) fn replace_paths(
+    net: &SplitNet<'_>,
     from: &mut Vec<Option<u16>>,
     next: &mut Vec<Option<u16>>,
     ends: &[u16],
     hops: &[Hop],
     target: u16,
 )
-    requires ready { IsReady W net.now }
+    requires ready { IsReady net.now }
     requires from { length from.old.items ≡ length net.now.graph.nodes }
     requires next { length next.old.items ≡ length net.now.graph.nodes }
     requires walk { IsWalkBy (net_by_place net.now) (table_of from.old.items) hops.now target }

@@ -1,40 +1,36 @@
 //! Paths of two links.
-ghost use Rattle.std.specs.Prelude.{◌≡◌, ◌↔◌, ℕ, ◌+◌, ◌<◌, ◌≤◌, ◌⊎◌, length, Some, IfSome};
-ghost use Rattle.ov_ids.specs.Members.{Has};
-ghost use Rattle.ov_graph.specs.Neighbours.{IsFirst};
-ghost use Rattle.ov_graph.specs.Row.{HasBit};
-ghost use Rattle.ov_split.specs.Placed.{LinksWithin};
+ghost use Rattle.std.specs.Prelude.{◌≡◌, ℕ, ◌+◌, ◌≤◌, ◌⊎◌, length, Some};
 ghost use Rattle.ov_split.specs.Places.{net_by_place};
 ghost use Rattle.ov_flow.specs.Code.Walked.{table_of};
-ghost use Rattle.ov_flow.specs.Code.Held.{IsReady, IsWorkOf, IsOneLinkEach, MayGoOver, IsFarTarget};
+ghost use Rattle.ov_flow.specs.Code.Held.{IsReady, IsWorkOf, IsOneLinkEach, MayGoOver};
 
 use crate::augmenting_paths::Work;
-use ov_graph::bit_rows::{clear, has, without};
+use ov_graph::bit_rows::{both, clear, first_from, without};
 use ov_split::SplitNet;
 
 /// Takes paths of two links from the source to targets, until `level` paths are held or no neighbour of the source is
 /// left. Each path goes over a neighbour that is no target, to the first free target that this one is linked to. Only
 /// paths of one link are held before.
-pub(crate) fn take_two_links<const W: usize>(
-    net: &SplitNet<'_, W>,
-    level: usize,
-    work: &mut Work<W>,
-)
-    requires ready { IsReady W net.now }
+pub(crate) fn take_two_links(net: &SplitNet<'_>, level: usize, work: &mut Work)
+    requires ready { IsReady net.now }
     requires work { IsWorkOf net.now work.old }
     requires few { length work.old.ends.items ≤ level }
     requires one { IsOneLinkEach net.now work.old }
     ensures work { IsWorkOf net.now work.new }
     ensures few { length work.new.ends.items ≤ level }
 {
-    let source = net.source();
-    let mut free = far_targets(net);
+    let words = net.words();
+    let near = net.links_at(net.source());
+    let allowed = without(net.targets(), net.avoided(), words);
+    let mut free = without(&allowed, near, words);
+    let others = without(near, net.targets(), words);
+    let inner = without(&others, net.avoided(), words);
     let mut after = 0;
-    while let Some(u) = net.next_outside(source, net.targets(), after) {
+    while let Some(u) = first_from(&inner, after, words) {
         if work.ends.len() >= level {
             return;
         }
-        if let Some(t) = target_over(net, u, &free) {
+        if let Some(t) = first_from(&both(net.links_at(u), &free, words), 0, words) {
             take_over(net, u, t, work);
             clear(&mut free, t);
         }
@@ -42,37 +38,9 @@ pub(crate) fn take_two_links<const W: usize>(
     }
 }
 
-/// The targets that are neither avoided nor linked to the source.
-fn far_targets<const W: usize>(net: &SplitNet<'_, W>) -> [u64; W]
-    requires ready { IsReady W net.now }
-    ensures { (t : ℕ) → HasBit result t ↔ IsFarTarget (net_by_place net.now) t }
-{
-    let source = net.source();
-    let mut far = without(net.targets(), net.avoided(), net.words());
-    let mut after = 0;
-    while let Some(t) = net.next_within(source, &far, after) {
-        clear(&mut far, t);
-        after = t + 1;
-    }
-    far
-}
-
-/// The first of these targets to which a path may go over `u`.
-fn target_over<const W: usize>(net: &SplitNet<'_, W>, u: usize, free: &[u64; W]) -> Option<usize>
-    requires ready { IsReady W net.now }
-    requires u { u < length net.now.graph.nodes }
-    ensures off { IfSome result (λ _. ¬ Has (net_by_place net.now).avoided u) }
-    ensures first { IfSome result (IsFirst (LinksWithin (net_by_place net.now) u free.now) 0) }
-{
-    if has(net.avoided(), u) {
-        return None;
-    }
-    net.next_within(u, free, 0)
-}
-
 /// Takes the path from the source over `u` to the target `t`.
-fn take_over<const W: usize>(net: &SplitNet<'_, W>, u: usize, t: usize, work: &mut Work<W>)
-    requires ready { IsReady W net.now }
+fn take_over(net: &SplitNet<'_>, u: usize, t: usize, work: &mut Work)
+    requires ready { IsReady net.now }
     requires work { IsWorkOf net.now work.old }
     requires over { MayGoOver (net_by_place net.now) (table_of work.old.from.items) u t }
     ensures work { IsWorkOf net.now work.new }

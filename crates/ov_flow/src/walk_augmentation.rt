@@ -19,7 +19,7 @@ pub(crate) struct Hop {
 }
 
 /// Writes the walk from the source to the last node that is reached.
-pub(crate) fn walk_back<const W: usize>(tree: &Tree<W>, hops: &mut Vec<Hop>)
+pub(crate) fn walk_back(tree: &Tree, hops: &mut Vec<Hop>)
     requires shaped { IsShaped tree.now.order.items tree.now.parents.items tree.now.ways.items }
     requires room { length tree.now.order.items ≤ vec_capacity hops.old }
     ensures walk { (n : SplitNetState) (from : Table) → IsGrown n from tree.now
@@ -50,13 +50,13 @@ fn is_fresh(from: &[Option<u16>], way: Option<u16>) -> bool
 
 /// Takes the steps of a walk from the source. True: the walk met no path, so each place in the table is still on a path
 /// to an end.
-pub(crate) fn take_hops<const W: usize>(
-    net: &SplitNet<'_, W>,
+pub(crate) fn take_hops(
+    net: &SplitNet<'_>,
     from: &mut [Option<u16>],
     hops: &[Hop],
     target: u16,
 ) -> bool
-    requires ready { IsReady W net.now }
+    requires ready { IsReady net.now }
     requires long { length from.old ≡ length net.now.graph.nodes }
     requires walk { IsWalkBy (net_by_place net.now) (table_of from.old) hops.now target }
     ensures held { (ends : List ℕ)

@@ -4,4 +4,3 @@ pub mod Grouped
 pub mod ChangedLinks
 pub mod ChangedNodes
 pub mod OneGraph
-pub mod OneMoreLink

@@ -1,5 +1,4 @@
 pub mod EvenTest
 pub mod BitRows
 pub mod GraphValues
-pub mod PlaceLists
 pub mod ShapeOfGraph

@@ -26,21 +26,13 @@ pub record IsGraph (g : LinkGraph) : Type 0 where
 abbrev pub HasNode : LinkGraph → Type 0
 HasNode g = 0 < length g.nodes
 
--- the most nodes that a graph may have which the code keeps as rows of bits. The theorems have no such limit
+-- the most nodes that a graph may have in the code. The theorems have no such limit
 abbrev pub most_nodes : ℕ
 most_nodes = 1024
 
--- the most nodes that any graph may have in the code. The theorems have no such limit
-abbrev pub most_of_any_graph : ℕ
-most_of_any_graph = 32768
-
 -- the graph has at most `most_nodes` nodes
-abbrev pub IsSmall : LinkGraph → Type 0
-IsSmall g = length g.nodes ≤ most_nodes
-
--- the graph has at most `most_of_any_graph` nodes
 abbrev pub IsWithinLimit : LinkGraph → Type 0
-IsWithinLimit g = length g.nodes ≤ most_of_any_graph
+IsWithinLimit g = length g.nodes ≤ most_nodes
 
 -- a and b are linked: a link joins them, in either order
 unfoldable pub Linked : LinkGraph → ℕ → ℕ → Type 0

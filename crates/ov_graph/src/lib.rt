@@ -16,16 +16,8 @@ mod graph_shape;
 mod id_and_row_equality;
 mod layered_search;
 mod link_iterators;
-mod list_graph;
-mod listed_link_iterators;
-mod listed_neighbour_places;
-mod neighbour_places;
 mod node_places_by_id;
-mod place_list;
-mod place_lists_from_links;
 mod row_counts;
-mod row_graph;
-mod row_link_iterators;
 mod row_place_shifting;
 
 pub use even_test_and_unique_number::{even_suffices, one_number};

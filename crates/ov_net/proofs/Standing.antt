@@ -8,7 +8,7 @@ use Rattle.std.specs.Ordering.{nat_cmp}
 use Rattle.ov_ids.specs.ParamsState.{ParamsState}
 use Rattle.ov_ids.proofs.Stepping.{step_none}
 use Rattle.ov_wire.specs.declared.message.Message.{Message}
-use Rattle.ov_graph.specs.Links.{LinkGraph, IsGraph, IsSmall, Linked}
+use Rattle.ov_graph.specs.Links.{LinkGraph, IsGraph, Linked}
 use Rattle.ov_peer.specs.PeerState.{PeerState}
 use Rattle.ov_peer.specs.declared.input_and_output.Delivery.{Delivery}
 use Rattle.ov_peer.specs.declared.input_and_output.Input.{Input}
@@ -227,7 +227,7 @@ graph_after seen c event words b nodes g k same s are effects changed gains grap
   graph = graph;
 }
 
--- the graph is small, and the newborn node of an event that may happen is not in it, and has room
+-- the newborn node of an event that may happen is not in the graph, which has room for it
 pub may_gain : (seen c : WorldState) (event : Event) (g : LinkGraph) → seen ≡ c → Stands seen
     → AreLinks seen.journal (length seen.journal) g → MayHappen c.net (length c.journal) event
     → MayGain (newborn_of event) g
@@ -235,10 +235,6 @@ may_gain seen c event g same s are judged =
     by event (step_none (length seen.journal < most_entries) TooManyEntries (EventJudged seen.net event)
     (subst (λ (x : WorldState). MayHappen x.net (length x.journal) event) (sym same) judged)).1
   where
-    small : IsSmall g
-    small = let few = few_live seen.net.nodes g (by_views seen g s.tells are) in
-        let nodes = s.nodes in omega (arith, few, nodes)
-
     by : (e : Event) → EventJudged seen.net e None → MayGain (newborn_of e) g
     by (Boot a contact) j =
         let w = seen.net in
@@ -249,15 +245,15 @@ may_gain seen c event g same s are judged =
           (λ i. let l = (is.nodes a).0 i in not_none (member.Live l.0) (map.get w.nodes a) l.1 r.0),
           omega (arith, room, few),
         )
-    by (Deliver i) j = small
-    by (Lose i) j = small
-    by (Repeat i) j = small
-    by (Crash a) j = small
-    by (CrashReport a crashed) j = small
-    by (Shuffle a) j = small
-    by (Broadcast a payload) j = small
-    by (Timer a id) j = small
-    by Snapshot j = small
+    by (Deliver i) j = tt
+    by (Lose i) j = tt
+    by (Repeat i) j = tt
+    by (Crash a) j = tt
+    by (CrashReport a crashed) j = tt
+    by (Shuffle a) j = tt
+    by (Broadcast a payload) j = tt
+    by (Timer a id) j = tt
+    by Snapshot j = tt
 
 -- the graph after an event, changed with its changes
 pub graph_next : (seen : WorldState) (event : Event) (nodes : map.FinMap nat_cmp Member) (changes : List Change)

@@ -23,7 +23,7 @@ pub record AreMemberPlaces (g : LinkGraph) (places row : List ℕ) : Type 0 wher
   pub bits : (p : ℕ) → HasBit row p ↔ Has places p
 
 -- n is the net of the aim in g. Its places are those of nodes, and the source is neither avoided nor a target
-pub record IsAimFor {W : ℕ} (g : LinkGraph) (n : SplitNetState) (aim : Aim W) : Type 0 where
+pub record IsAimFor (g : LinkGraph) (n : SplitNetState) (aim : Aim) : Type 0 where
   pub net : net_at g aim.avoided aim.source aim.targets ≡ n
   pub source : aim.source < length g.nodes
   pub avoided : IfSome aim.avoided (λ p. (p < length g.nodes) × (p ≢ aim.source))

@@ -1,5 +1,5 @@
 -- A fan has a target outside a cut of few nodes.
-use Rattle.std.proofs.Common.{ℕ, sym, subst, arith, rules}
+use Rattle.std.proofs.Common.{ℕ, sym, subst}
 use Rattle.ov_ids.specs.Members.{Has}
 use Rattle.ov_graph.specs.Links.{LinkGraph}
 use Rattle.ov_graph.specs.Row.{picked}
@@ -9,30 +9,22 @@ use Rattle.ov_fans.proofs.PieceNets.Aimed.{below_picked}
 use Rattle.ov_fans.proofs.RowScans.Outside.{fan_left, fan_far}
 use Rattle.ov_fans.proofs.member_beyond_cut.far_of.Goals as goal
 
-pub lowest_outside-requires : goal.lowest_outside-requires
-lowest_outside-requires g c = (
-  omega arith,
-  (
-    search rules,
-    (
-      search rules,
-      (let g = c.args.group.now.graph in
-          let q = c.args.group.now.members in
-          let cut = c.args.cut.now in
-          let row = c.bits_below-before.result in
-          let own = c.row.ensures in
-          let same = below_picked g q (member_at q c.in-Fan.j) c.place_in_graph.result c.row.result.now row own.is_graph
-          own.group own.row c.place_in_graph.ensures.below c.place_in_graph.ensures.there c.bits_below-before.ensures in
-          subst (λ (h : LinkGraph). ¬ ((t : ℕ) → Has (picked row 0 h.nodes) t → Has (picked cut 0 h.nodes) t))
-          (sym c.graph.ensures.graph)
-          (fan_left g q c.args.piece c.in-Fan.level c.in-Fan.j (picked cut 0 g.nodes) (picked row 0 g.nodes) c.in-Fan.is
-          own.group c.requires.piece c.requires.cut c.requires.few same)),
-    ),
-  ),
-)
+pub lowest_outside-requires-clause-some : goal.lowest_outside-requires-clause-some
+lowest_outside-requires-clause-some c =
+    let g = c.args.group.now.graph in
+    let q = c.args.group.now.members in
+    let cut = c.args.cut.now in
+    let row = c.bits_below-before.result in
+    let own = c.row.ensures in
+    let same = below_picked g q (member_at q c.in-Fan.j) c.place_in_graph.result c.row.result.now row own.is_graph
+    own.group own.row c.place_in_graph.ensures.below c.place_in_graph.ensures.there c.bits_below-before.ensures in
+    subst (λ (h : LinkGraph). ¬ ((t : ℕ) → Has (picked row 0 h.nodes) t → Has (picked cut 0 h.nodes) t))
+    (sym c.graph.ensures.graph)
+    (fan_left g q c.args.piece c.in-Fan.level c.in-Fan.j (picked cut 0 g.nodes) (picked row 0 g.nodes) c.in-Fan.is
+    own.group c.requires.piece c.requires.cut c.requires.few same)
 
 pub returns-in-Fan : goal.returns-in-Fan
-returns-in-Fan g c =
+returns-in-Fan c =
     let g = c.args.group.now.graph in
     let q = c.args.group.now.members in
     let cut = c.args.cut.now in

@@ -1,5 +1,5 @@
 -- Path by path, and then read again.
-use Rattle.std.proofs.Common.{rules, ℕ, List, take, take_all, get_or, subst, arith}
+use Rattle.std.proofs.Common.{ℕ, List, take, take_all, get_or, subst, arith}
 use Rattle.std.proofs.lemmas.List.{take_more}
 use Rattle.ov_ids.specs.Members.{Has}
 use Rattle.ov_ids.proofs.Members.{has_place, has_from_take}
@@ -10,32 +10,21 @@ use Rattle.ov_flow.proofs.Writing.{AreWriting, none_written, one_written, all_wr
 use Rattle.ov_flow.proofs.flat_paths.write_paths.Goals as goal
 
 pub loop-end-init : goal.loop-end-init
-loop-end-init g c =
+loop-end-init c =
     none_written (net_by_place c.args.net.now) (table_of c.args.from.now) c.in_ok-flat.flat.items
     c.in_ok-flat.ensures.items
 
-pub write_path-requires : goal.write_path-requires
-write_path-requires g c = (
-  omega arith,
-  (
-    c.requires.ready,
-    (
-      search rules,
-      (
-        search rules,
-        (
-          (has_place c.args.ends.now c.loop-end.end-index 0 c.loop-end-test.true),
-          (λ e. let n = net_by_place c.args.net.now in
-              let h = has_place c.args.ends.now c.loop-end.end-index 0 c.loop-end-test.true in
-              c.requires.ready.placed.net.no_target (subst (Has n.targets) e (c.requires.flow.targets _ h))),
-        ),
-      ),
-    ),
-  ),
-)
+pub write_path-requires-clause-end : goal.write_path-requires-clause-end
+write_path-requires-clause-end c = has_place c.args.ends.now c.loop-end.end-index 0 c.loop-end-test.true
+
+pub write_path-requires-clause-apart : goal.write_path-requires-clause-apart
+write_path-requires-clause-apart c e =
+    let n = net_by_place c.args.net.now in
+    let h = has_place c.args.ends.now c.loop-end.end-index 0 c.loop-end-test.true in
+    c.requires.ready.net.no_target (subst (Has n.targets) e (c.requires.flow.targets _ h))
 
 pub loop-end-preserved : goal.loop-end-preserved
-loop-end-preserved g c =
+loop-end-preserved c =
     let n = net_by_place c.args.net.now in
     let i = c.loop-end.end-index in
     let ends = c.args.ends.now in
@@ -47,7 +36,7 @@ loop-end-preserved g c =
     (not_before ends i c.requires.flow.held.distinct l) c.in_ok-write_path.ensures)
 
 pub returns : goal.returns
-returns g c =
+returns c =
     let n = net_by_place c.args.net.now in
     let i = c.loop-end.end-index in
     let ends = c.args.ends.now in
@@ -56,8 +45,4 @@ returns g c =
     let out = c.loop-end.flat.items in
     let w = subst (λ (l : List ℕ). AreWriting n (table_of c.args.from.now) out l i) (take_all i ends le)
     c.loop-end.invariant in
-    all_written n c.requires.ready.placed.net (table_of c.args.from.now) ends out i c.requires.flow w (omega (
-      arith,
-      le,
-      auto,
-    ))
+    all_written n c.requires.ready.net (table_of c.args.from.now) ends out i c.requires.flow w (omega (arith, le, auto))

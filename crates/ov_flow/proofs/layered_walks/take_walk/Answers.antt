@@ -13,16 +13,16 @@ use Rattle.ov_flow.proofs.Tidying.{tidy_turned}
 use Rattle.ov_flow.proofs.layered_walks.take_walk.Goals as goal
 
 pub push_reserved-requires : goal.push_reserved-requires
-push_reserved-requires g c =
+push_reserved-requires c =
     let w = c.args.work.now in
     let less = ends_few (net_by_place c.args.net.now) (length c.args.net.now.graph.nodes) (table_of w.from.items)
-    w.ends.items c.requires.ready.placed c.requires.work.held c.requires.work.targets in
+    w.ends.items c.requires.ready c.requires.work.held c.requires.work.targets in
     let len = w.ends.ok.0 in
     let room = c.requires.work.room.ends in
     omega (arith, less, len, room)
 
 pub returns-clause-work : goal.returns-clause-work
-returns-clause-work g c =
+returns-clause-work c =
     let n = net_by_place c.args.net.now in
     let w = c.args.work.now in
     let target = c.args.target in
@@ -30,7 +30,7 @@ returns-clause-work g c =
     let i = c.requires.work in
     let new = c.take_hops.new.from in
     let items = c.push_reserved.ensures.items in
-    let off : ¬ Has ends n.source = λ h. c.requires.ready.placed.net.no_target (i.targets n.source h) in
+    let off : ¬ Has ends n.source = λ h. c.requires.ready.net.no_target (i.targets n.source h) in
     let start : AreHeld n (table_of c.deref_mut.result.now) (n.source ∷ ends) =
     subst (λ (l : List (Option ℕ)). AreHeld n (table_of l) (n.source ∷ ends)) (sym c.deref_mut.ensures.value)
     (start_held n (table_of w.from.items) ends i.held off) in
@@ -55,7 +55,7 @@ returns-clause-work g c =
     }
 
 pub returns-clause-tidy : goal.returns-clause-tidy
-returns-clause-tidy g c met tidy =
+returns-clause-tidy c met tidy =
     let w = c.args.work.now in
     let target = c.args.target in
     let ends = w.ends.items in

@@ -14,7 +14,7 @@ use Rattle.ov_flow.proofs.Beginning.{none_held, flow_direct}
 use Rattle.ov_flow.proofs.one_link_paths.take_direct.Goals as goal
 
 pub loop-w-init : goal.loop-w-init
-loop-w-init g c =
+loop-w-init c =
     let w = c.args.work.now in
     record {
       work = c.requires.work;
@@ -28,7 +28,7 @@ loop-w-init g c =
     }
 
 pub loop-w-preserved : goal.loop-w-preserved
-loop-w-preserved g c =
+loop-w-preserved c =
     let n = net_by_place c.args.net.now in
     let w = c.in-Some.w in
     let first = c.in-Some.ensures.some in
@@ -37,12 +37,13 @@ loop-w-preserved g c =
     let ends = c.loop-w.work.ends.items in
     let s = c.source-source.result in
     let is : s ≡ n.source = c.source-source.ensures.place in
-    let a = (c.without-allowed.ensures w).0 first.holds.1 in
-    let link : Linked n.graph n.source w = subst (λ (x : ℕ). Linked n.graph x w) is first.holds.0 in
-    let free : IsFree n n.source w = (link, λ h. a.2 ((c.avoided.ensures.places w).1 h)) in
-    let target : Has n.targets w = (c.targets.ensures.places w).0 a.1 in
-    let l = (c.requires.ready.placed.nodes w).0 (linked_node n.graph n.source w c.requires.ready.placed.net.graph
-    link) in
+    let d = (c.without-direct.ensures w).0 first.set in
+    let b = (c.both-near.ensures w).0 d.1 in
+    let link : Linked n.graph n.source w = subst (λ (x : ℕ). Linked n.graph x w) is
+    ((c.links_at.ensures.links w).0 b.1) in
+    let free : IsFree n n.source w = (link, λ h. d.2 ((c.avoided.ensures.places w).1 h)) in
+    let target : Has n.targets w = (c.targets.ensures.places w).0 b.2 in
+    let l = (c.requires.ready.nodes w).0 (linked_node n.graph n.source w c.requires.ready.net.graph link) in
     let room = i.work.room.from in
     let reached = first.reached in
     let items = c.push_reserved.ensures.items in
@@ -57,8 +58,7 @@ loop-w-preserved g c =
           ends = let kept = c.push_reserved.ensures.capacity in let r = i.work.room.ends in omega (arith, kept, r);
         };
         flow = subst (IsFlow n (table_of (set from w (Some s)))) (sym items)
-            (flow_direct n c.requires.ready.placed.net (table_of from) (table_of (set from w (Some s))) ends w
-            i.work.flow free
+            (flow_direct n c.requires.ready.net (table_of from) (table_of (set from w (Some s))) ends w i.work.flow free
             target (λ u f. let m = i.below w u f in absurd (omega (arith, m, reached)))
             (write_there from w (Some s) (omega (arith, l, room)) ∙ ap Some is) (write_others from w (Some s)));
       };
@@ -74,5 +74,5 @@ loop-w-preserved g c =
         | inl e ↦ (subst (Linked n.graph n.source) (sym e) link, subst (Has n.targets) (sym e) target)
         | inr ne ↦ i.one v u (sym (write_others from w (Some s) v ne) ∙ f)
       ];
-      fits = omega (arith, l);
+      fits = let m = c.in-Some.ensures.fits in omega (arith, m);
     }

@@ -8,12 +8,12 @@ use Rattle.ov_flow.proofs.Rows.{bits_of_picked}
 use Rattle.ov_flow.proofs.search_result.stuck_at.Goals as goal
 
 pub returns : goal.returns
-returns g c =
+returns c =
     let w = c.args.work.now in
     let n = c.args.net.now in
     let m = net_by_place n in
     let wide = length n.graph.nodes in
-    let ready = c.requires.ready.placed in
+    let ready = c.requires.ready in
     let enough = c.words-words.ensures.words.enough in
     let from = table_of w.from.items in
     let words = c.words-words.result in

@@ -13,7 +13,7 @@ use Rattle.ov_flow.proofs.walk_augmentation.take_hops.Goals as goal
 use Rattle.ov_flow.proofs.walk_augmentation.take_hops.Goals.{in-Some, in-None, then-not-is_fresh, else-not-is_fresh}
 
 pub loop-hop-init : goal.loop-hop-init
-loop-hop-init g c =
+loop-hop-init c =
     record {
       long = c.requires.long;
       tidy = λ e ends. tidy_first (table_of c.args.from.now) c.source-at.result ends;
@@ -22,7 +22,7 @@ loop-hop-init g c =
     }
 
 pub bounds-from-w : goal.bounds-from-w
-bounds-from-w g c =
+bounds-from-w c =
     let n = net_by_place c.args.net.now in
     let wide = length c.args.net.now.graph.nodes in
     let start = table_of c.args.from.now in
@@ -34,11 +34,11 @@ bounds-from-w g c =
     let g = going_next n start (table_of from) at c.args.target i hops c.loop-hop-test.true
     c.loop-hop.invariant.going in
     let l = way_said n wide start (table_of from) at c.args.target c.in-Some.w (hop_at hops i) (drop (i + 1) hops)
-    c.requires.ready.placed g c.in-Some.is in
+    c.requires.ready g c.in-Some.is in
     omega (arith, l, long)
 
 pub offset_bounds-from-w : goal.offset_bounds-from-w
-offset_bounds-from-w g c =
+offset_bounds-from-w c =
     let n = net_by_place c.args.net.now in
     let wide = length c.args.net.now.graph.nodes in
     let start = table_of c.args.from.now in
@@ -50,12 +50,12 @@ offset_bounds-from-w g c =
     let g = going_next n start (table_of from) at c.args.target i hops c.loop-hop-test.true
     c.loop-hop.invariant.going in
     let l = way_said n wide start (table_of from) at c.args.target c.in-Some.w (hop_at hops i) (drop (i + 1) hops)
-    c.requires.ready.placed g c.in-Some.is in
-    let few = c.requires.ready.placed.few in
+    c.requires.ready g c.in-Some.is in
+    let few = c.requires.ready.few in
     omega (arith, l, few)
 
 pub loop-hop-preserved : goal.loop-hop-preserved
-loop-hop-preserved g c =
+loop-hop-preserved c =
     let n = net_by_place c.args.net.now in
     let wide = length c.args.net.now.graph.nodes in
     let start = table_of c.args.from.now in
@@ -75,7 +75,7 @@ loop-hop-preserved g c =
       | in-Some w ↦
           let v = w.in-Some.w in
           let l = way_said n wide start (table_of from) at c.args.target v (hop_at hops i) (drop (i + 1) hops)
-          c.requires.ready.placed g w.in-Some.is in
+          c.requires.ready g w.in-Some.is in
           record {
             long = rw w.from-is (length-set from v (Some at) ∙ long);
             tidy = λ e ends t. rw w.from-is (tidy_step n start (table_of from) (table_of (set from v (Some at))) at
@@ -100,7 +100,7 @@ loop-hop-preserved g c =
     ]
 
 pub is_fresh-requires : goal.is_fresh-requires
-is_fresh-requires g c =
+is_fresh-requires c =
     let n = net_by_place c.args.net.now in
     let start = table_of c.args.from.now in
     let from = c.loop-hop.from in
@@ -111,10 +111,10 @@ is_fresh-requires g c =
     c.loop-hop.invariant.going in
     rw c.loop-hop.invariant.long
     (way_below n (length c.args.net.now.graph.nodes) start (table_of from) at c.args.target (hop_at hops i)
-    (drop (i + 1) hops) c.requires.ready.placed g)
+    (drop (i + 1) hops) c.requires.ready g)
 
 pub returns-clause-tidy : goal.returns-clause-tidy
-returns-clause-tidy g c e ends t =
+returns-clause-tidy c e ends t =
     let from = table_of c.loop-hop.from in
     let there : c.loop-hop.at ≡ c.args.target =
     subst (λ (hs : List Hop). Goes (net_by_place c.args.net.now) from c.loop-hop.at hs c.args.target)

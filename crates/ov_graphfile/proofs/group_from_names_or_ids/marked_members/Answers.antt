@@ -28,13 +28,13 @@ pub has-requires : goal.has-requires
 has-requires c =
     let below = c.in-One.ensures.owner.0 in
     let few = c.owner_of.ensures.few in
-    (omega arith, omega (arith, below, few))
+    omega (arith, below, few)
 
 pub put-requires : goal.put-requires
 put-requires c =
     let below = c.in-One.ensures.owner.0 in
     let few = c.owner_of.ensures.few in
-    (omega arith, omega (arith, below, few))
+    omega (arith, below, few)
 
 pub returns-then-has-clause-fault : goal.returns-then-has-clause-fault
 returns-then-has-clause-fault c =

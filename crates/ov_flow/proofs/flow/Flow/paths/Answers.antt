@@ -8,7 +8,7 @@ use Rattle.ov_flow.specs.Flow.{FlowState, ArePlaces}
 use Rattle.ov_flow.proofs.flow.Flow.paths.Goals as goal
 
 pub returns-clause-fan : goal.returns-clause-fan
-returns-clause-fan g c =
+returns-clause-fan c =
     let n = c.self.inside.net in
     let ends = c.self.inside.work.ends.items in
     let ps = c.in_ok-write_paths.field-0 in
@@ -18,7 +18,7 @@ returns-clause-fan g c =
     (fan_by_place n c.self.invariant.0 (length ends) ps fan)
 
 pub returns-clause-places : goal.returns-clause-places
-returns-clause-places g c =
+returns-clause-places c =
     let n = c.self.inside.net in
     let ps = c.in_ok-write_paths.field-0 in
     let fan = c.in_ok-write_paths.ensures in
