@@ -1,7 +1,7 @@
 """Whether a field says a state: which hosts, listings or links are down. docs/DUMPS.md tells the rules that stand here.
 
-A dump whose states differ is refused, unless a person said which are up: else a link that is down would count, and k
-would be too high.
+A dump whose states differ, or say that all are down, is refused, unless a person said which are up: else a link that is
+down would count, and k would be too high.
 """
 
 from __future__ import annotations
@@ -10,6 +10,7 @@ import enum
 import re
 from typing import AbstractSet, Callable, Dict, Optional, Sequence, Set
 
+from .downs import says_down
 from .fields import MISSING, Field, text_of, words_of
 from .written import REPEATED, WRITTEN
 
@@ -68,7 +69,8 @@ SINCE = re.compile(r"(?:^|[._])since[_A-Z-]")
 
 
 class Kind(enum.Enum):
-    """What a field may be: no state, maybe one, which is told, or a state that differs, which is asked about."""
+    """What a field may be: no state, maybe one, which is told, or one that differs or that says of all that they are
+    down, which is asked about."""
 
     NONE = 0
     TOLD = 1
@@ -112,10 +114,12 @@ def by_writing(field: Field) -> Optional[Kind]:
 
 
 def by_one_value(field: Field) -> Optional[Kind]:
-    """One value for all says no difference; if it is one of a state, it is told."""
+    """One value for all says no difference; if it is one of a state, it is told. That all are down is asked about."""
     if len(field.counts) != 1:
         return None
     value = next(iter(field.counts))
+    if len(value) <= MOST_LONG and says_down(field, value, is_kind(field, KIND_NAMES)):
+        return Kind.ASKED
     is_number = value == "1" or value == "0" and is_kind(field, MEASURE_NAMES)
     is_answer = is_pair({value.casefold()}) and not is_number and not is_kind(field, KIND_NAMES)
     return Kind.TOLD if is_named(field, STATE_NAMES) or state_words(value) or is_answer else Kind.NONE

@@ -227,7 +227,8 @@ def question(fields: Sequence[Field]) -> str:
     word = f"{first.name}={'LOW..HIGH' if is_range else 'VALUE[,VALUE]'}"
     unit = ", in seconds before the newest," if is_range and first.moments else ""
     word = f'"{word}"' if " " in word else word
-    return f"some may be down: {many(fields)}; say --up {word}{unit} to take those that are up, or --all to take all"
+    some = "all" if all(len(it.counts) == 1 for it in fields) else "some"
+    return f"{some} may be down: {many(fields)}; say --up {word}{unit} to take those that are up, or --all to take all"
 
 
 def quoted(value: str) -> str:

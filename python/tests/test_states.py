@@ -16,7 +16,7 @@ from tagzirk.taken import doubts_in, taken_of
 from tagzirk.values import Views
 
 from . import misreads, more_misreads
-from .misreads import ALL, HOSTS, UP, dot, each, graph, hosts, lines, others, seen
+from .misreads import ALL, HOSTS, UP, dot, each, graph, graphml, hosts, lines, others, seen, yaml
 from .test_commands import Commands
 
 
@@ -150,6 +150,29 @@ PLAIN = [
     ("attributes.edges", lines("", "{a} {b} {{'weight': {it}}}", 3, 7)),
 ]
 
+# Dumps that say of all hosts, or of all links, that they are down.
+ALL_DOWN = [
+    ("state.json", hosts({"state": "down"}, {"state": "down"}), r"30 listings state is down \(30\)"),
+    ("up.json", hosts({"up": False}, {"up": False}), r"30 listings up is false \(30\)"),
+    ("host-up.json", hosts({"host_up": False}, {"host_up": False}), r"30 listings host_up is false \(30\)"),
+    ("connected.json", hosts({"connected": 0}, {"connected": 0}), r"30 listings connected is 0 \(30\)"),
+    ("down.json", hosts({"down": True}, {"down": True}), r"30 listings down is true \(30\)"),
+    ("failed.json", hosts({"failed": 1}, {"failed": 1}), r"30 listings failed is 1 \(30\)"),
+    ("below.json", hosts({"status": {"up": False}}, {"status": {"up": False}}), r"30 listings status.up is false \(30\)"),
+    ("not-ready.json", hosts({"x": "NotReady"}, {"x": "NotReady"}), r"30 listings x is NotReady \(30\)"),
+    ("idle.json", hosts({"state": "Idle"}, {"state": "Idle"}), r"30 listings state is Idle \(30\)"),
+    ("never.json", hosts({"handshake": "never"}, {"handshake": "never"}), r"30 listings handshake is never \(30\)"),
+    ("hosts.json", each(lambda it: {"status": "dead", "peers": others(it)}), r"6 hosts status is dead \(6\)"),
+    ("alive.json", each(lambda it: {"alive": "no", "peers": others(it)}), r"6 hosts alive is no \(6\)"),
+    ("state.csv", lines("source,target,state\n", "{a},{b},{it}", "down", "Down"), r"15 links state is down \(15\)"),
+    ("comment.edges", lines("", "{a} {b} # {it}", "down", "down"), r"15 links comment is down \(15\)"),
+    ("invis.dot", dot("[style=invis]", "[style=invis]"), r"15 links style is invis \(15\)"),
+    ("default.graphml", graphml("string", "", "").replace('attr.type="string"/>', '><default>down</default></key>')
+     .replace('<data key="d0"></data>', ""), r"15 links state is down \(15\)"),
+    ("state.graphml", graphml("string", "down", "down"), r"15 links state is down \(15\)"),
+    ("state.yaml", yaml("state: down", "state: down"), r"30 listings state is down \(30\)"),
+]
+
 
 class FalseAlarms(Dumps):
     def test_nothing_is_told_of_what_is_no_state(self):
@@ -168,7 +191,11 @@ class FalseAlarms(Dumps):
             ("up.json", hosts({"up": True}, {"up": True}), "up is true of all 30 listings"),
             ("all-down.json", hosts({"b": False}, {"b": False}), "b is false of all 30 listings"),
             ("status.csv", lines("source,target,status\n", "{a},{b},{it}", "ok", "OK"), "status is ok of all 15 links"),
-            ("invis.dot", dot("[style=invis]", "[style=invis]"), "style is invis of all 15 links"),
+            ("null.json", hosts({"connected": None}, {"connected": None}), "connected is null of all 30 listings"),
+            ("state-7.json", hosts({"state": 7}, {"state": 7}), "state is 7 of all 30 listings"),
+            ("failed.json", hosts({"failed": 0}, {"failed": 0}), "failed is 0 of all 30 listings"),
+            ("tls.json", hosts({"tls_enabled": False}, {"tls_enabled": False}), "tls_enabled is false of all 30 li"),
+            ("healthy.json", each(lambda it: {"state": "alive", "peers": others(it)}), "state is alive of all 6 hosts"),
             ("lengths.json", seen("status", ["Up 3 hours", "Up 2 days"], ["Up 5 days"]), "status is Up"),
             ("moment.json", seen("lastSeen", [1764493200, 1764493210], [1764493233]), "lastSeen is 17644932"),
         ):
@@ -176,6 +203,15 @@ class FalseAlarms(Dumps):
                 links, _, notes = taken(name, text)
                 self.assertEqual(links, set(ALL))
                 self.assertIn(told, notes)
+
+    def test_all_down_is_asked(self):
+        for name, text, told in ALL_DOWN:
+            with self.subTest(name):
+                with self.assertRaisesRegex(BadDump, f"all may be down: of {told}; say --up .*, or --all to take all"):
+                    taken(name, text)
+                links, _, notes = taken(name, text, Asked(all=True))
+                self.assertEqual(links, set(ALL))
+                self.assertIn("taken all the same, as --all asks", notes)
 
     def test_what_real_daemons_say(self):
         # as Yggdrasil 0.4 and tinc 1.0 write it, of a ring
