@@ -7,6 +7,7 @@ import collections
 import re
 from typing import Dict, List, NamedTuple, Sequence
 
+from .downs import is_down
 from .fields import MISSING, Field, moment_of, number_of, text_of, words_of
 from .graph_files import NAME_OF_GRAPH, WRITTEN_AT, WRITTEN_BY
 from .graphs import shown
@@ -22,6 +23,8 @@ ADVICE = "--up FIELD=VALUE says which count"
 MOST_TOLD, MOST_NAMED, MOST_LONG = 8, 24, 40
 # So many different values are told with their numbers; one that less than this share has is rare.
 MOST_VALUES, RARE = 4, 0.25
+# Words for peers that a host keeps beside those of its links.
+IN_RESERVE = frozenset("passive standby idle pending".split())
 # Numbers that stand for none, or for the worst; and none with a unit, or as an address.
 ZERO = re.compile(r"[0:.]+ ?[a-zµ%]*")
 SENTINELS = (0.0, -1.0, 16.0, 100.0, 255.0, 999.0, 9999.0, 65535.0)
@@ -47,7 +50,7 @@ def account_of(views: Views, fields: Sequence[Field], is_known: bool = False) ->
     'not read as states: beside them comments (# n3); of 1 link loss (100); --up FIELD=VALUE says which count'
     """
     items = [item_of(it) for it in fields if not says_nothing(it)]
-    items += [beside_item(what, values) for what, values in grouped(views).items() if not is_state(what, values)]
+    items += [beside_item(what, values) for what, values in grouped(views).items() if not is_state(what, values, views)]
     if not items:
         return []
     items.sort(key=lambda it: it.rank)
@@ -88,14 +91,17 @@ def is_news(what: str, value: str) -> bool:
     return what != WRITTEN_BY and (what != WRITTEN_AT or moment_of(value) is None)
 
 
-def is_state(what: str, values: Sequence[str]) -> bool:
-    """Whether something beside hosts and links is called after a state, or has a word of one in it."""
+def is_state(what: str, values: Sequence[str], views: Views) -> bool:
+    """Whether something beside hosts and links is called after a state, or has a word of one in it. A further list of
+    peers, beside that which a person named, is none, whatever its hosts are called, unless it is of what is down."""
+    if what in views.other_lists:
+        return is_down(words_of(what) - IN_RESERVE)
     return any(words_of(text) & STATE_WORDS for text in values) or bool(words_of(what) & STATE_NAMES)
 
 
 def doubtful(views: Views) -> List[str]:
     """What stands beside hosts and links and may say a state, in words."""
-    return [beside_item(what, values).text for what, values in grouped(views).items() if is_state(what, values)]
+    return [beside_item(what, values).text for what, values in grouped(views).items() if is_state(what, values, views)]
 
 
 def says_nothing(field: Field) -> bool:

@@ -76,6 +76,7 @@ def enter_all(views: Views, entries: Sequence[Entry], asked: Asked) -> None:
             enter(views, Host(it, lists.key or "nobody", of_host, peers, lists.beside), asked, written)
             for key in lists.others:
                 views.pass_over(key, text_in(inner[key]))
+                views.other_lists.add(key)
     written.tell()
 
 

@@ -42,6 +42,8 @@ MEASURE_NAMES = frozenset(
     preference level order rtt latency ping delay jitter loss rx tx bytes quality x y z lat lon pos width height
     size penwidth label""".split()
 )
+# Names of ids.
+ID_NAMES = frozenset("id uid uuid index".split())
 # Names of how a link or a host is drawn.
 LOOK_NAMES = frozenset("color colour fillcolor style shape class classes".split())
 # Words of a value that say a state.
@@ -231,6 +233,8 @@ def by_number(field: Field) -> Optional[Kind]:
     has_zero = 0 in numbers and len(numbers) > 1
     if field.is_of_hosts:
         return Kind.TOLD if has_zero and not is_kind(field, KIND_NAMES | MEASURE_NAMES) else None
+    if has_zero and is_count_of_ids(field):
+        return Kind.NONE
     if has_zero:
         return Kind.ASKED if field.name == "value" else Kind.TOLD
     is_exact = not all(it.is_integer() for it in numbers) and (len(numbers) > 2 or field.name.isdigit())
@@ -239,6 +243,12 @@ def by_number(field: Field) -> Optional[Kind]:
     if not LARGEST.isdisjoint(numbers) or field.missing and not is_kind(field, KIND_NAMES):
         return Kind.TOLD
     return Kind.NONE if is_plain else Kind.TOLD
+
+
+def is_count_of_ids(field: Field) -> bool:
+    """Whether a field is called after an id, and counts all that have one from 0 on."""
+    is_id = is_kind(field, ID_NAMES) and not field.missing
+    return is_id and sorted(it for it in field.numbers if it is not None) == list(range(len(field.said)))
 
 
 def by_few(field: Field) -> Optional[Kind]:

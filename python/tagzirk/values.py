@@ -69,13 +69,15 @@ class Views:
         self.links = 0
         # the hosts of statements that say nothing but that these have an entry
         self.bare: Set[str] = set()
+        # what lists are called that stand beside those of the peers that a person named
+        self.other_lists: Set[str] = set()
         # whether it was asked how often each link and listing stands there
         self.is_counted = False
 
     def emptied(self) -> Views:
         """The same dump without any host."""
         views = Views(self.kind, self.beside)
-        views.columns = self.columns
+        views.columns, views.other_lists = self.columns, self.other_lists
         return views
 
     def pass_over(self, what: str, value: Scalar) -> None:

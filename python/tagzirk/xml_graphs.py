@@ -90,7 +90,7 @@ class Reader:
         self.parser.EndElementHandler = self.end
         self.parser.CharacterDataHandler = lambda text: self.texts[-1].append(text)
         self.parser.CommentHandler = lambda text: self.leave("comments", text.strip())
-        self.parser.ProcessingInstructionHandler = lambda name, text: self.leave(f"<?{name}", text.strip())
+        self.parser.ProcessingInstructionHandler = self.instruction
         self.parser.EntityDeclHandler = self.refuse_entity
         self.parser.StartDoctypeDeclHandler = self.doctype
 
@@ -119,6 +119,10 @@ class Reader:
             self.item.say(what, value)
         else:
             self.graph.pass_over(what, value)
+
+    def instruction(self, target: str, text: str) -> None:
+        """An instruction stands here. Without a text its target is one."""
+        self.leave(f"<?{target}" if text.strip() else "instruction", text.strip() or target)
 
     def doctype(self, name: str, place: Optional[str], *_: object) -> None:
         """What a file says of its kind, if it is not the name of a form."""

@@ -2,6 +2,7 @@
 dump of hosts and links alone has none. They need the program overlay."""
 
 import gzip
+import json
 import os
 import pathlib
 import re
@@ -11,7 +12,7 @@ from tagzirk import Asked, TagzirkError
 from tagzirk.forms import FORMS, form_of
 from tagzirk.taken import doubts_in
 
-from . import hidden_states
+from . import hidden_states, misreads
 from .test_states import Dumps
 
 # A triangle of a, b and c in each form, with marks where something more may stand: of each its text, and what the note
@@ -310,6 +311,25 @@ class Accounts(Dumps):
             with self.subTest(flags=flags, more=more):
                 doubts = doubts_in(self.read(str(place)).notes)
                 self.assertEqual(doubts, [f"not read as states: beside them {told}"] if told else [])
+
+    def test_lists_beside_that_which_is_named(self):
+        """They are in the account, and only what is called after something down may be down."""
+        for key, told in (("passive", "not read as states: beside them passive (6, as"),
+                          ("standby_view", "not read as states: beside them standby_view (6, as"),
+                          ("dead", "taken all, though some may be down: dead (6, as")):
+            text = misreads.lists(active=misreads.up_of, **{key: misreads.down_of})
+            found = self.told("views.json", text, {"peers": "active"})
+            self.assertIn(told, found)
+            self.assertEqual("may be down" in found, key == "dead", found)
+
+    def test_ids_from_zero_on(self):
+        for field, numbers, is_doubted in (("channel_id", range(7), False), ("channel_id", [str(it) for it in range(7)],
+                                           False), ("channel_id", [3, 0, *[4] * 5], True), ("seen", range(7), True)):
+            edges = [{field: it, "a": f"n{at}", "b": f"n{(at + 1) % 7}"} for at, it in enumerate(numbers)]
+            with self.subTest(field=field, numbers=numbers):
+                found = self.told("net.json", json.dumps({"edges": edges}), {"links": "edges", "columns": "a,b"})
+                self.assertEqual("may be down" in found, is_doubted, found)
+                self.assertIn(field, found)
 
     def test_what_does_not_fit_is_refused(self):
         for name, text, told in (
