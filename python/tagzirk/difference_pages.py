@@ -7,7 +7,8 @@ from string import Template
 from typing import Iterable, List, Sequence, Tuple
 
 from .differences import Difference, Link, Side
-from .markup import counted, names_html, shown_html, table
+from .markup import counted, doubts_html, names_html, shown_html, table
+from .taken import doubts_in
 
 # How a page begins; by this line a command knows its own page again.
 FIRST_LINE = "<!DOCTYPE html><!-- tagzirk diff -->"
@@ -30,6 +31,7 @@ h2{font-size:1.15rem;margin:2.4rem 0 .6rem;border-top:1px solid var(--line);padd
 .t-soft{color:var(--soft)}
 .t-name{display:inline-block;max-width:100%;overflow-wrap:anywhere}
 .t-lower{color:var(--warm)}
+.t-doubt{border-left:.25rem solid var(--warm);padding-left:.7rem;overflow-wrap:anywhere}
 table{border-collapse:collapse}
 th,td{text-align:left;vertical-align:top;padding:.3rem .8rem .3rem 0;border-bottom:1px solid var(--line);
 overflow-wrap:anywhere}
@@ -38,6 +40,7 @@ overflow-wrap:anywhere}
 <body>
 <p class="t-soft">$about</p>
 <h1$lower>$title</h1>
+$doubts
 $sides
 <h2>What lowered it</h2>
 $causes
@@ -60,6 +63,7 @@ def difference_page(it: Difference) -> str:
         lower=' class="t-lower"' if it.is_lower else "",
         about=f"{shown_html(it.old.dump.name)} and then {shown_html(it.new.dump.name)}. Each k was confirmed by "
         "overlay-check; who is cut off was counted.",
+        doubts=doubts_html(f"{of.dump.name}: {told}" for of in (it.old, it.new) for told in doubts_in(of.dump.notes)),
         sides=table(("", "k", "hosts", "links", "cut", "cut off"), [row_of("then", it.old), row_of("now", it.new)]),
         causes=causes_of(it),
         went=changes_of(it.hosts_went, it.links_went),

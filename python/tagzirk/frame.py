@@ -59,6 +59,7 @@ pre{background:var(--box);border-radius:.5rem;padding:.7rem .9rem;white-space:pr
 font-size:.88rem}
 .t-paste{user-select:all}
 strong.t-warm{color:var(--warm)}
+.t-doubt{border-left:.25rem solid var(--warm);padding-left:.7rem;overflow-wrap:anywhere}
 .t-swatch{display:inline-block;width:.8em;height:.8em;border-radius:50%;background:var(--piece);margin-right:.5em}
 @media (max-width:30rem){body{padding:.9rem .9rem 3rem}h1{font-size:1.35rem}.t-facts{gap:.4rem;font-size:.85rem}
 .t-facts li{padding:.3rem .6rem;min-width:4rem}.t-facts b{font-size:1.1rem}}
@@ -76,6 +77,7 @@ PAGE = Template(
 </head>
 <body>
 <div class="t-head"><div class="t-k $severity">k<b>$k</b></div><h1>$title</h1></div>
+$doubts
 $answer
 <ul class="t-facts">$facts</ul>
 <p class="t-soft t-small">$about</p>

@@ -29,7 +29,7 @@ NUMBERS = re.compile("[0-9]+")
 EPOCH = re.compile(r"(?<!\d)(1\d{9})(?!\d)")
 # How a picture begins; by this line it is known again.
 SVG = '<?xml version="1.0" encoding="utf-8" standalone="no"?><!-- tagzirk history -->'
-COLUMNS = ("time", "nodes", "links", "k", "cut", "one_sided", "without_entry", "file", "fault")
+COLUMNS = ("time", "nodes", "links", "k", "cut", "one_sided", "without_entry", "file", "fault", "doubts")
 
 
 @dataclass(frozen=True)
@@ -64,6 +64,7 @@ class Moment:
             self.without_entry,
             self.file,
             self.fault.replace("\n", " "),
+            "; ".join(self.doubts).replace("\n", " "),
         )
         return ["" if it is None else str(it) for it in values]
 
@@ -77,6 +78,7 @@ class Moment:
             "time": self.time and self.time.isoformat(timespec="seconds"),
             "cut": None if self.cut is None else list(self.cut),
             "fault": self.fault or None,
+            "doubts": list(self.doubts),
         }
 
 

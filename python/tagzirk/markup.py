@@ -12,6 +12,8 @@ from .graphs import shown
 MOST_NAMES = 24
 # A longer name may be broken between two lines.
 LONG = 28
+# So many characters of a doubt are shown on a page, or in the line for Nagios.
+MOST_DOUBT = 240
 
 
 def counted(number: int, one: str, more: str = "") -> str:
@@ -49,6 +51,13 @@ def names_html(names: Iterable[Any], most: Optional[int] = None) -> str:
     if most:
         return f"{first} and {len(told) - few} more"
     return f"{first}<details><summary>and {len(told) - few} more</summary>{joined_html(told[few:])}</details>"
+
+
+def doubts_html(doubts: Iterable[str]) -> str:
+    """Why the number of a dump may be too high, in paragraphs; of a long note the begin."""
+    texts = map(shown, doubts)
+    short = (text if len(text) <= MOST_DOUBT else f"{text[:MOST_DOUBT]}.." for text in texts)
+    return "".join(f'<p class="t-doubt">k may be too high: {html.escape(it)}</p>' for it in short)
 
 
 def table(head: Sequence[str], rows: Iterable[Sequence[str]], numbers: Tuple[int, ...] = ()) -> str:

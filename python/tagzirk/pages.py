@@ -13,7 +13,7 @@ from .dumps import Dump
 from .errors import BadGraph
 from .frame import COLOURS, PAGE, colour_rules, framed, severity_of
 from .graphs import NamedGraph, shown
-from .markup import counted, file_link, joined_html, names_html, shown_html, table
+from .markup import counted, doubts_html, file_link, joined_html, names_html, shown_html, table
 from .mending import Mended, mend
 from .other_cuts import other_cuts, site_of, wider_of, worse_of
 from .programs import Program
@@ -22,6 +22,7 @@ from .proofs import VERSION, programs
 from .reports import Report, analysed
 from .sites import Sites
 from .stale import one_sided
+from .taken import doubts_in
 from .wide import widest
 from .worst import Worst, worst
 
@@ -261,6 +262,7 @@ def parts_of(dump: Dump, graph: NamedGraph[str], report: Report[str]) -> Dict[st
     """The parts of a page that tell of the graph and of its number."""
     return {
         "title": title_of(report),
+        "doubts": doubts_html(doubts_in(dump.notes)),
         "k": str(report.k),
         "severity": severity_of(report.k, report.is_linked),
         "facts": facts_of(report, graph, dump),

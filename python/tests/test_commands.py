@@ -212,13 +212,34 @@ class History(Commands):
         ]
         out, err, status = self.tagzirk("history", "--entries", *files)
         rows = list(csv.reader(out.splitlines()))
-        self.assertEqual(rows[0], ["time", "nodes", "links", "k", "cut", "one_sided", "without_entry", "file", "fault"])
+        known = ["time", "nodes", "links", "k", "cut", "one_sided", "without_entry", "file", "fault", "doubts"]
+        self.assertEqual(rows[0], known)
         self.assertEqual([row[0][:16] for row in rows[1:]], [f"2026-11-28T09:{it}" for it in (10, 20, 30)])
         self.assertEqual(rows[1][1:8], ["8", "14", "2", "relay-1;relay-2", "3", "1", files[1]])
         self.assertEqual(rows[3][1:7], ["3", "2", "1", "b", "0", "0"])
         self.assertEqual(rows[2][1:7], [""] * 6)
         self.assertIn("refused 70", rows[2][8])
         self.assertEqual((status, "net-2026-11-28T0920.json" in err), (1, True))
+
+    def test_doubts(self):
+        links = "source,target,lag\na,b,0\nb,c,0\na,c,7\n"
+        files = [self.file("net-2026-11-28T0930.csv", links), self.file("net-2026-11-28T0940.csv", "a,b\nb,c\n")]
+        rows = list(csv.reader(self.tagzirk("history", *files)[0].splitlines()))
+        self.assertIn("taken all, though some may be down: of 3 links lag is 0 (2) or 7 (1)", rows[1][9])
+        self.assertEqual(rows[2][9], "")
+        values = json.loads(self.tagzirk("history", "--json", *files)[0])
+        self.assertEqual([rows[1][9], ""], ["; ".join(it["doubts"]) for it in values])
+        each = json.loads(self.tagzirk("each", "--json", files[0])[0])
+        change = json.loads(self.tagzirk("diff", "--json", *files)[0])
+        told = json.loads(self.tagzirk("status", "--json", files[0])[0])
+        for value in each, change["old"], told:
+            self.assertEqual(value["doubts"], values[0]["doubts"])
+            self.assertIn(value["doubts"][0], value["notes"])
+        self.assertEqual(change["new"]["doubts"], [])
+        for page in self.tagzirk("report", files[0])[0], self.tagzirk("diff", "--html", "-", *files)[0]:
+            heading, doubt = page.index("</h1>"), page.index("though some may be down: of 3 links lag")
+            self.assertLess(heading, doubt)
+            self.assertLess(doubt, page.index("<h2"))
 
     def test_times(self):
         from tagzirk.histories import time_in, times_of

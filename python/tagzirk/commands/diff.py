@@ -11,6 +11,7 @@ from ..differences import Difference, Link, Side, differences
 from ..graphs import shown
 from ..markup import counted
 from ..progress import Progress
+from .telling import value_of_notes
 from .words import Parents, command, options_of, output, places_of, some, told
 
 if TYPE_CHECKING:
@@ -132,4 +133,5 @@ def value_of_side(side: Side) -> Dict[str, Any]:
         "all_linked": side.report.is_linked,
         "cut": list(side.cut.crashed),
         "cut_off": list(side.cut.cut_off),
+        **value_of_notes(side.dump),
     }

@@ -29,6 +29,7 @@ from .telling import (
     site_part,
     value_of_crash,
     value_of_loss,
+    value_of_notes,
     value_of_wide,
     value_of_worst,
     worst_lines,
@@ -64,6 +65,7 @@ class Told:
     """All that is told of crashes, and what one is of: `host`, `rack`, or a pair of these."""
 
     kind: str
+    dump: Dump
     report: Report[str]
     crashes: List[Crash[str]]
     worst: Worst[str]
@@ -96,7 +98,7 @@ def run_each(words: argparse.Namespace) -> int:
         wide = widest(graph, report, known, workers=words.workers, progress=progress)
         loss = None if racks is None else fewest_racks(graph, racks, progress)
     crashes = crashes if words.pairs else sorted(crashes, key=lambda it: (*badness(it), -at_stake(it, found)))
-    of = Told(kind, report, crashes, found, wide, loss, sites)
+    of = Told(kind, dump, report, crashes, found, wide, loss, sites)
     if words.json:
         print(json.dumps(value_of(of, words.rows), ensure_ascii=False))
     else:
@@ -207,6 +209,7 @@ def value_of(of: Told, rows: Optional[int]) -> Dict[str, Any]:
         "fewest_that_cut_off_more_than_one": None if of.wide is None else value_of_wide(of.wide),
         "fewest_racks": None if of.loss is None else value_of_loss(of.loss),
         "crashes": [value_of_crash(it, of.sites) for it in of.crashes[:rows]],
+        **value_of_notes(of.dump),
     }
 
 

@@ -8,12 +8,12 @@ from typing import TYPE_CHECKING, Any, Dict, List, Optional, Sequence
 
 from ..errors import BadDump, in_words
 from ..graphs import shown
-from ..markup import counted
+from ..markup import MOST_DOUBT, counted
 from ..progress import Progress
 from ..sites import Sites
 from ..status import OK, UNKNOWN, WORDS, Dead, Status, status
 from ..worst import Cut
-from .telling import site_lines, value_of_site, value_of_worst, worst_lines
+from .telling import site_lines, value_of_notes, value_of_site, value_of_worst, worst_lines
 from .words import Parents, at_least_one, command, fault, options_of, places_of, some, tell_notes
 
 if TYPE_CHECKING:
@@ -21,8 +21,6 @@ if TYPE_CHECKING:
 
 NAMES = ("status", "analyse")
 MOST_WORST = 3
-# So many characters of a doubt are told in the line for Nagios.
-MOST_DOUBT = 240
 
 
 def add(commands: Commands, parents: Parents) -> None:
@@ -175,8 +173,7 @@ def value_of(it: Status, sites: Optional[Sites], at_least: Optional[int]) -> Dic
         "one_sided": it.dump.one_sided,
         "without_entry": it.dump.without_entry,
         "with_dead": None if it.dead is None else value_of_dead(it.dead),
-        "notes": list(it.dump.notes),
-        "doubts": list(it.doubts),
+        **value_of_notes(it.dump),
     }
     if sites:
         value["sites"] = list(map(value_of_site, sites.hit(cut.crashed, cut.cut_off)))

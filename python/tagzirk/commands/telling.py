@@ -5,9 +5,11 @@ from __future__ import annotations
 from typing import Any, Dict, Iterable, List, Optional
 
 from ..crashes import Crash
+from ..dumps import Dump
 from ..markup import counted
 from ..racks import Loss
 from ..sites import Site, Sites, said_of_sites
+from ..taken import doubts_in
 from ..wide import Wide
 from ..worst import Cut, Worst
 from .words import some
@@ -60,6 +62,11 @@ def rack_line(loss: Loss[str], sites: Optional[Sites]) -> str:
     racks = "rack" if len(loss.racks) == 1 else "racks"
     fewest = f"The fewest racks whose loss splits it are {len(loss.racks)}"
     return f"{fewest}: {racks} {some(loss.racks)} cut off {hosts}{hit}{others}."
+
+
+def value_of_notes(dump: Dump) -> Dict[str, Any]:
+    """The notes on a dump, and those of them by which k may be too high, for JSON."""
+    return {"notes": list(dump.notes), "doubts": doubts_in(dump.notes)}
 
 
 def value_of_cut(cut: Cut[str]) -> Dict[str, Any]:
