@@ -18,6 +18,7 @@ from .proofs import programs
 from .reports import Report, analysed
 from .stale import one_sided
 from .taken import DOUBT, doubts_in
+from .worst import worst
 
 # How a text file of metrics begins.
 MARK = "# HELP tagzirk_"
@@ -30,13 +31,13 @@ HELP = {
     "tagzirk_links": "links in the dump",
     "tagzirk_connectivity": "k: crashing so few hosts, the cut, splits the overlay, and fewer do not",
     "tagzirk_all_linked": "1 if every two hosts are linked, so that no crash splits the overlay",
-    "tagzirk_pieces": "pieces into which the overlay falls once the cut has crashed",
+    "tagzirk_pieces": "pieces into which the overlay falls once the cut has crashed: the worst smallest one found",
     "tagzirk_largest_piece": "hosts in the largest of these pieces",
     "tagzirk_hosts_cut_off": "hosts that no longer reach the largest piece once the cut has crashed",
     "tagzirk_one_sided_listings": "listings that the other end does not answer",
     "tagzirk_listed_without_entry": "names that are listed and have no entry",
     "tagzirk_doubts": "notes by which k may be too high: of what may be down, and of what else the dump says",
-    "tagzirk_cut_member": "1 for each host of the cut",
+    "tagzirk_cut_member": "1 for each host of the cut, of the smallest ones found that which cuts off most",
     "tagzirk_host_one_sided_listings": "listings that the other end does not answer, of which this host is an end",
     "tagzirk_program_proved": "1 if this program is known to be proved, and else 0",
 }
@@ -155,14 +156,16 @@ def metrics(
         dump = read_dump(places, options.living, overlay=overlay)
         graph = dump.graph
         report = analysed(graph, overlay=overlay, overlay_check=overlay_check)
+        found = worst(graph, report, overlay=overlay, overlay_check=overlay_check)
         stale = one_sided(dump, overlay)
         proved = {name: it.is_proved is True for name, it in programs(overlay, overlay_check).items()}
     except Exception as why:
         # whatever a dump does, an alarm must hear of it
         return Metrics(values, fault=in_words(why), labels=named)
-    values.update(tagzirk_dump_read=1.0, **numbers(dump, graph, report))
+    cut = found.cuts[0].crashed if found.cuts else report.cut
+    values.update(tagzirk_dump_read=1.0, **numbers(dump, graph, report, cut))
     hosts, doubts = {shown(host): number for host, number in stale.items()}, tuple(doubts_in(dump.notes))
-    return Metrics(values, tuple(map(shown, report.cut)), "", named, hosts, proved, doubts)
+    return Metrics(values, tuple(map(shown, cut)), "", named, hosts, proved, doubts)
 
 
 def time_of(places: Sequence[str]) -> Dict[str, float]:
@@ -171,9 +174,9 @@ def time_of(places: Sequence[str]) -> Dict[str, float]:
     return {} if changed is None else {"tagzirk_dump_timestamp_seconds": float(int(changed))}
 
 
-def numbers(dump: Dump, graph: NamedGraph[str], report: Report[str]) -> Dict[str, float]:
-    """What is said of a graph whose answer was confirmed."""
-    pieces = [len(it) for it in graph.pieces({graph.ids[it] for it in report.cut})]
+def numbers(dump: Dump, graph: NamedGraph[str], report: Report[str], cut: Sequence[str]) -> Dict[str, float]:
+    """What is said of a graph whose answer was confirmed, and of the crash of a smallest cut."""
+    pieces = [len(it) for it in graph.pieces({graph.ids[it] for it in cut})]
     found = {
         "tagzirk_nodes": len(graph.ids),
         "tagzirk_links": len(graph.links),

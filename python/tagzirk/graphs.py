@@ -44,7 +44,16 @@ def shown(name: Any) -> str:
     >>> print(shown("a\\nb"), shown("a\\\\u{a}b"), shown("oslo\\u202e1-"))
     a\\u{a}b a\\u{5c}u{a}b oslo\\u{202e}1-
     """
-    return UNSHOWN.sub(code, in_file(name))
+    return in_line(in_file(name))
+
+
+def in_line(text: str) -> str:
+    """A text in which names are shown already, with what is not seen as codes.
+
+    >>> print(in_line(shown("a\\nb") + ", c\\n"))
+    a\\u{a}b, c\\u{a}
+    """
+    return UNSHOWN.sub(code, text)
 
 
 def code(found: "re.Match[str]") -> str:

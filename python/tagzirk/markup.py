@@ -6,7 +6,7 @@ import base64
 import html
 from typing import Any, Iterable, Optional, Sequence, Tuple
 
-from .graphs import shown
+from .graphs import in_line, shown
 
 # So many names stand in a line; the rest opens below.
 MOST_NAMES = 24
@@ -55,7 +55,7 @@ def names_html(names: Iterable[Any], most: Optional[int] = None) -> str:
 
 def doubts_html(doubts: Iterable[str]) -> str:
     """Why the number of a dump may be too high, in paragraphs; of a long note the begin."""
-    texts = map(shown, doubts)
+    texts = map(in_line, doubts)
     short = (text if len(text) <= MOST_DOUBT else f"{text[:MOST_DOUBT]}.." for text in texts)
     return "".join(f'<p class="t-doubt">k may be too high: {html.escape(it)}</p>' for it in short)
 

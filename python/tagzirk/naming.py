@@ -4,10 +4,10 @@ from __future__ import annotations
 
 import difflib
 import pathlib
-from typing import Dict, Iterable, List, Sequence
+from typing import Dict, Iterable, List, Sequence, Tuple
 
 from .errors import BadDump
-from .graphs import shown
+from .graphs import NamedGraph, shown
 
 # What ends a short name: the rest is a domain or a port.
 ENDS = ".:"
@@ -30,6 +30,14 @@ def hosts_of(words: Iterable[str], names: Sequence[str], option: str) -> List[st
         for part in [word] if word in known else parts_of(word, option):
             found[part if part in known else full_name(part, short, names, option)] = None
     return list(found)
+
+
+def without_hosts(graph: NamedGraph[str], words: Iterable[str]) -> Tuple[NamedGraph[str], List[str]]:
+    """A graph without the hosts that the words of `--without` name, and these. Some host must be left."""
+    left_out = hosts_of(words, list(graph.ids), "--without")
+    if left_out and len(left_out) == len(graph.ids):
+        raise BadDump(f"--without names all {len(left_out)} hosts of the dump, so that none is left")
+    return graph.without({graph.ids[it] for it in left_out}), left_out
 
 
 def parts_of(word: str, option: str) -> List[str]:

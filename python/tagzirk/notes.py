@@ -44,8 +44,8 @@ def notes_on(graph: NamedGraph[str], lines: Sequence[Line] = (), without_entry: 
     """The notes on a dump that was read as this graph, and on its lines if it is a text of lines."""
     told = [*without_links(graph, without_entry), *alike(graph)]
     if len(lines) > 3:
-        told += [*parted(graph, lines), *counting(graph, lines), *marked(graph, lines), *in_two_columns(graph, lines)]
-    return told
+        told += [*parted(graph, lines), *counting(graph, lines), *marked(graph, lines)]
+    return told + (in_two_columns(graph, lines) if len(lines) > 2 else [])
 
 
 def some(names: Sequence[str]) -> str:

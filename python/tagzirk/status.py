@@ -9,7 +9,7 @@ from typing import Callable, Iterable, List, Optional, Sequence, Tuple
 from .dumps import Dump, Options, read_dump
 from .errors import TagzirkError, in_words
 from .graphs import NamedGraph
-from .naming import hosts_of
+from .naming import hosts_of, without_hosts
 from .programs import Program
 from .progress import Progress
 from .reports import Report, analysed
@@ -92,13 +92,12 @@ def status(
     """
     dump = read_dump(places, options.living, overlay=overlay)
     whole = dump.graph
-    left_out = hosts_of(without, list(whole.ids), "--without")
+    graph, left_out = without_hosts(whole, without)
     members = None if group is None else members_of(group, whole, left_out)
 
     def ask(of: NamedGraph[str]) -> Report[str]:
         return analysed(of, of.members(members), overlay=overlay, overlay_check=overlay_check)
 
-    graph = whole.without({whole.ids[it] for it in left_out})
     report = ask(graph)
     has_dead = bool(dump.without_entry) and options.entries is None
     dead = with_dead(partial(read_dump, places, options, overlay=overlay), whole, left_out, ask) if has_dead else None

@@ -219,11 +219,14 @@ HIDDEN = [
      "---+---\n n2 | n3"),
      "lines between rows (above line 9)"),
     # instructions of XML
-    ("instruction.graphml", xml(EDGE, EDGE.replace("/>", "><?away?></edge>")), "instruction is away (8) or missing (7)"),
-    ("instruction-down.graphml", xml(EDGE, EDGE.replace("/>", "><?down?></edge>")), "instruction is down (8) or missing (7)"),
+    ("instruction.graphml", xml(EDGE, EDGE.replace("/>", "><?away?></edge>")),
+     "instruction is away (8) or missing (7)"),
+    ("instruction-down.graphml", xml(EDGE, EDGE.replace("/>", "><?down?></edge>")),
+     "instruction is down (8) or missing (7)"),
     ("instruction-of-a-node.graphml", xml(EDGE, EDGE).replace('<node id="n3"/>', '<node id="n3"><?dead?></node>'),
      "instruction is missing (5) or dead (1)"),
-    ("instruction-beside.graphml", xml(EDGE, EDGE).replace("<graph>", "<graph><?n3-is-away?>"), "instruction (n3-is-away)"),
+    ("instruction-beside.graphml", xml(EDGE, EDGE).replace("<graph>", "<graph><?n3-is-away?>"),
+     "instruction (n3-is-away)"),
     # what the form declares
     ("doctype.graphml", "<!DOCTYPE n3-is-away>" + xml(EDGE, EDGE), "doctype (n3-is-away)"),
     ("keys.graphml", xml(EDGE, EDGE).replace("<graph>", '<key id="d0" for="node" attr.name="n3 is away"/><graph>'),

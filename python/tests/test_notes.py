@@ -36,6 +36,7 @@ class Notes(Dumps):
             ("footer-of-a-host.edges", NUMBERS + "6 hosts\n", "line 8: hosts stands in no other line: is it a footer?"),
             ("counts.edges", "6 7\n" + NUMBERS, "line 1: 6 7 may be how many hosts and links there are: --skip 1"),
             ("two-columns.edges", "".join(f"{it} alive\n" for it in HOSTS), "no name stands in both columns, as n1"),
+            ("three-racks.txt", "n1 r1\nn2 r1\nn3 r2\n", "no name stands in both columns, as n1 and r1"),
             ("racks.txt", "".join(f"{it} r{it < 'n4'}\n" for it in HOSTS), "no name stands in both columns"),
             ("case.edges", renamed("n6", "N6"), "names that differ in capitals alone, and are hosts of their own here"),
             ("dot.edges", renamed("n6", "n6."), "names that differ in a dot at their end alone"),

@@ -151,6 +151,15 @@ class Labels(Commands):
         ]
         self.assertEqual(len({line.rpartition(" ")[0] for line in lines}), len(lines))
 
+    def test_the_cut_is_the_worst(self):
+        # of a path of seven the middle one cuts off three, and the second one a single host
+        made = tagzirk.metrics([self.file("net", "".join(f"p{it} p{it + 1}\n" for it in range(1, 7)))])
+        self.assertEqual(made.cut, ("p4",))
+        self.assertEqual(
+            [made.values[f"tagzirk_{it}"] for it in ("connectivity", "pieces", "largest_piece", "hosts_cut_off")],
+            [1, 2, 3, 3],
+        )
+
     def test_split_already(self):
         made = tagzirk.metrics([self.file("net", "a b\nb c\nd e\n")])
         self.assertEqual(

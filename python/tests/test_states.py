@@ -158,7 +158,7 @@ ALL_DOWN = [
     ("connected.json", hosts({"connected": 0}, {"connected": 0}), r"30 listings connected is 0 \(30\)"),
     ("down.json", hosts({"down": True}, {"down": True}), r"30 listings down is true \(30\)"),
     ("failed.json", hosts({"failed": 1}, {"failed": 1}), r"30 listings failed is 1 \(30\)"),
-    ("below.json", hosts({"status": {"up": False}}, {"status": {"up": False}}), r"30 listings status.up is false \(30\)"),
+    ("below.json", hosts(*[{"status": {"up": False}}] * 2), r"30 listings status.up is false \(30\)"),
     ("not-ready.json", hosts({"x": "NotReady"}, {"x": "NotReady"}), r"30 listings x is NotReady \(30\)"),
     ("idle.json", hosts({"state": "Idle"}, {"state": "Idle"}), r"30 listings state is Idle \(30\)"),
     ("never.json", hosts({"handshake": "never"}, {"handshake": "never"}), r"30 listings handshake is never \(30\)"),

@@ -123,6 +123,11 @@ class Status(Commands):
         ):
             _, err, status = self.tagzirk("status", self.dump, "--without", word)
             self.assertEqual((status, told in err), (1, True), err)
+        few = self.file("few", "a b\nb c\n")
+        for name in "status", "each":
+            _, err, status = self.tagzirk(name, few, "--without", "a,b,c")
+            told = f"tagzirk {name}: --without names all 3 hosts of the dump, so that none is left\n"
+            self.assertEqual((status, err), (1, told))
         both = self.file("both", "a.x b\na.y b\n")
         self.assertIn("a is short for 2 hosts: a.x, a.y; name one", self.tagzirk("status", both, "--without", "a")[1])
 

@@ -15,7 +15,7 @@ from ..crashes import Crash, badness, each
 from ..dumps import Dump
 from ..errors import BadDump, TagzirkError
 from ..graphs import NamedGraph, shown
-from ..naming import hosts_of
+from ..naming import without_hosts
 from ..markup import counted
 from ..progress import Progress
 from ..racks import Loss, fewest_racks, racks_of
@@ -77,9 +77,7 @@ class Told:
 def run_each(words: argparse.Namespace) -> int:
     """Prints what each single crash does."""
     dump = dump_in(words)
-    graph = dump.graph
-    left_out = hosts_of(words.without, list(graph.ids), "--without")
-    graph = graph.without({graph.ids[it] for it in left_out})
+    graph, left_out = without_hosts(dump.graph, words.without)
     racks = racks_in(words.racks, graph, left_out) if words.racks else None
     sites = Sites(words.site, graph.ids) if words.site else None
     kind = "host" if racks is None else "rack"

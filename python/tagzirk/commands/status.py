@@ -7,7 +7,7 @@ import json
 from typing import TYPE_CHECKING, Any, Dict, List, Optional, Sequence
 
 from ..errors import BadDump, in_words
-from ..graphs import shown
+from ..graphs import in_line
 from ..markup import MOST_DOUBT, counted
 from ..progress import Progress
 from ..sites import Sites
@@ -52,7 +52,7 @@ def is_alarm(given: Sequence[str]) -> bool:
 def unknown(text: str) -> int:
     """Says on standard output that there is no answer: the status for an alarm."""
     first, *more = text.split("\n")
-    print("\n".join([f"{WORDS[UNKNOWN]} - {shown(first)}", *map(shown, more)]))
+    print("\n".join([f"{WORDS[UNKNOWN]} - {in_line(first)}", *map(in_line, more)]))
     return UNKNOWN
 
 
@@ -94,7 +94,7 @@ def doubt_of(it: Status, at_least: int) -> str:
     """Why k may be too high that is high enough, behind the word of the status; nothing, if nothing says so."""
     if not it.doubts or it.report.k < at_least:
         return ""
-    told = shown(it.doubts[0])
+    told = in_line(it.doubts[0])
     return f", {'but ' * (it.level(at_least) == OK)}{told if len(told) <= MOST_DOUBT else told[:MOST_DOUBT] + '..'}"
 
 

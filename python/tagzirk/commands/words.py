@@ -12,7 +12,7 @@ from ..asked import Asked
 from ..dumps import Dump, Options, read_dump
 from ..errors import BadDump
 from ..forms import FORMS
-from ..graphs import UNSHOWN, code, shown
+from ..graphs import in_line, shown
 from ..outputs import Output, demand_apart
 from ..taken import up_of
 from .tips import tips
@@ -130,7 +130,7 @@ def told(text: str) -> None:
     Where standard error is closed or full, it is lost."""
     sys.stdout.flush()
     with contextlib.suppress(OSError):
-        print("\n".join(UNSHOWN.sub(code, line) for line in text.split("\n")), file=sys.stderr, flush=True)
+        print("\n".join(map(in_line, text.split("\n"))), file=sys.stderr, flush=True)
 
 
 def some(names: Sequence[object]) -> str:
