@@ -11,7 +11,7 @@ from typing import Dict, List, Mapping, NamedTuple, Optional, Sequence, Tuple
 from .account import LEFT
 from .dumps import Dump, Options, last_change, read_dump
 from .errors import in_words
-from .graphs import NamedGraph, shown
+from .graphs import shown
 from .outputs import write
 from .programs import Program
 from .proofs import programs
@@ -154,16 +154,15 @@ def metrics(
     try:
         values.update(time_of(places))
         dump = read_dump(places, options.living, overlay=overlay)
-        graph = dump.graph
-        report = analysed(graph, overlay=overlay, overlay_check=overlay_check)
-        found = worst(graph, report, overlay=overlay, overlay_check=overlay_check)
+        report = analysed(dump.graph, overlay=overlay, overlay_check=overlay_check)
+        found = worst(dump.graph, report, overlay=overlay, overlay_check=overlay_check)
         stale = one_sided(dump, overlay)
         proved = {name: it.is_proved is True for name, it in programs(overlay, overlay_check).items()}
     except Exception as why:
         # whatever a dump does, an alarm must hear of it
         return Metrics(values, fault=in_words(why), labels=named)
     cut = found.cuts[0].crashed if found.cuts else report.cut
-    values.update(tagzirk_dump_read=1.0, **numbers(dump, graph, report, cut))
+    values.update(tagzirk_dump_read=1.0, **numbers(dump, report, cut))
     hosts, doubts = {shown(host): number for host, number in stale.items()}, tuple(doubts_in(dump.notes))
     return Metrics(values, tuple(map(shown, cut)), "", named, hosts, proved, doubts)
 
@@ -174,8 +173,9 @@ def time_of(places: Sequence[str]) -> Dict[str, float]:
     return {} if changed is None else {"tagzirk_dump_timestamp_seconds": float(int(changed))}
 
 
-def numbers(dump: Dump, graph: NamedGraph[str], report: Report[str], cut: Sequence[str]) -> Dict[str, float]:
-    """What is said of a graph whose answer was confirmed, and of the crash of a smallest cut."""
+def numbers(dump: Dump, report: Report[str], cut: Sequence[str]) -> Dict[str, float]:
+    """What is said of a dump whose answer was confirmed, and of the crash of a smallest cut."""
+    graph = dump.graph
     pieces = [len(it) for it in graph.pieces({graph.ids[it] for it in cut})]
     found = {
         "tagzirk_nodes": len(graph.ids),

@@ -27,6 +27,8 @@ from .written import KEY, LIST, Written, way_of
 
 # So many lists are told.
 MOST_TOLD = 24
+# What stands in the place of a list without anybody.
+NOTHING: Sequence[Any] = ([], {}, None)
 # What a further list says of each peer that it names.
 LISTED = "listed"
 
@@ -67,6 +69,7 @@ def enter_all(views: Views, entries: Sequence[Entry], asked: Asked) -> None:
         return
     said = [lists_of(it, hosts, asked) if isinstance(it.value, dict) else None for it in entries]
     demand_one_list([it for it in said if it], asked)
+    with_empty_ones(entries, said)
     for it, lists in zip(entries, said):
         if lists is None:
             enter(views, Host(it, LIST if it.value else "nobody", {}, it.value, {}), asked, written)
@@ -74,10 +77,20 @@ def enter_all(views: Views, entries: Sequence[Entry], asked: Asked) -> None:
             of_host, inner = said_of(it.value, lists.key or "", *lists.others, *lists.used), lists_in(it.value)
             peers = at_path(it.value, lists.key) if lists.key else None
             enter(views, Host(it, lists.key or "nobody", of_host, peers, lists.beside), asked, written)
-            for key in lists.others:
+            for key in filter(inner.get, lists.others):
                 views.pass_over(key, text_in(inner[key]))
                 views.other_lists.add(key)
     written.tell()
+
+
+def with_empty_ones(entries: Sequence[Entry], said: Sequence[Optional[Lists]]) -> None:
+    """A list that may have the peers of some hosts is such a list of others too where it is empty."""
+    keys = {key for it in said if it for key in it.others}
+    for entry, lists in zip(entries, said):
+        for key in keys.difference(lists.others) if lists else ():
+            with contextlib.suppress(KeyError):
+                if lists and at_path(entry.value, key) in NOTHING:
+                    lists.others.append(key)
 
 
 class Host(NamedTuple):
@@ -171,7 +184,10 @@ def lists_of(entry: Entry, hosts: Set[str], asked: Asked) -> Lists:
     for other, inner in lists.items():
         if other == key or key.startswith(f"{other}.") or other.startswith(f"{key}."):
             continue
+        # where one list was named, another one of hosts says nothing of each of its peers
+        is_apart = asked.peers and (names[other] or set()) & hosts and peers.isdisjoint(names[other] or ())
         of_each = said_of_each(lists[key], inner, peers, names[other], other in PEER_KEYS, asked.by)
+        of_each = None if is_apart and is_list_of_names(inner) else of_each
         if of_each is not None:
             found.beside.update({f"{other}.{field}" if field else other: it for field, it in of_each.items()})
             found.used.append(other)

@@ -322,6 +322,19 @@ class Accounts(Dumps):
             self.assertIn(told, found)
             self.assertEqual("may be down" in found, key == "dead", found)
 
+    def test_lists_that_are_empty_or_as_long(self):
+        """As HyParView has them: no host is in both lists, and some have as many in both, or nobody in one."""
+        ring = {it: [f"n{(it - 1) % 8}", f"n{(it + 1) % 8}"] for it in range(8)}
+        far = {it: [f"n{(it + 3) % 8}", f"n{(it + 4) % 8}"] if it % 4 else [] for it in range(8)}
+        for value in (lambda it: {"active": ring[it], "passive": far[it]},
+                      lambda it: {"views": {"active": ring[it], "passive": far[it] or None}}):
+            text = json.dumps({f"n{it}": value(it) for it in range(8)})
+            words = {"peers": "views.active" if "views" in text else "active"}
+            found = self.told("views.json", text, words)
+            self.assertIn("not read as states: beside them", found)
+            self.assertIn("passive (6, as", found)
+            self.assertNotIn("may be down", found)
+
     def test_ids_from_zero_on(self):
         for field, numbers, is_doubted in (("channel_id", range(7), False), ("channel_id", [str(it) for it in range(7)],
                                            False), ("channel_id", [3, 0, *[4] * 5], True), ("seen", range(7), True)):
