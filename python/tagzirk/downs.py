@@ -21,6 +21,11 @@ DOWN_WORDS = frozenset(
     decommissioned maintenance noaddr never absent isolated partitioned ghost zombie shutdown shut stopping halted
     rebooting dying missed tombstone tombstoned""".split()
 )
+# Words of a name that measure, bound or count, so that a number in it does not say yes.
+MEASURING_WORDS = frozenset(
+    """timeout idle pending init attempt reset passive left max min limit threshold after interval delay time
+    period""".split()
+)
 # Words of a name that ask whether something is up, and those that turn a word round.
 ASKING_WORDS = frozenset("state status health condition".split())
 TURNING_WORDS = frozenset("not no non isnt".split())
@@ -51,7 +56,7 @@ def says_down(field: Field, value: str, is_of_kind: bool) -> bool:
     name = own if own & (UP_WORDS | DOWN_WORDS | ASKING_WORDS) else field.words
     name = name - FEATURE_WORDS if is_of_kind else name
     if is_yes:
-        return is_down(name) and (number is None or name.isdisjoint(["passive", "left"]))
+        return is_down(name) and (number is None or name.isdisjoint(MEASURING_WORDS))
     is_asking = number is None and not name.isdisjoint(ASKING_WORDS)
     return (is_up(name) or is_asking and not is_down(name))
 

@@ -194,6 +194,7 @@ class FalseAlarms(Dumps):
             ("null.json", hosts({"connected": None}, {"connected": None}), "connected is null of all 30 listings"),
             ("state-7.json", hosts({"state": 7}, {"state": 7}), "state is 7 of all 30 listings"),
             ("failed.json", hosts({"failed": 0}, {"failed": 0}), "failed is 0 of all 30 listings"),
+            ("limit.json", hosts({"max_failures": 3}, {"max_failures": 3}), "max_failures is 3 of all 30 listings"),
             ("tls.json", hosts({"tls_enabled": False}, {"tls_enabled": False}), "tls_enabled is false of all 30 li"),
             ("healthy.json", each(lambda it: {"state": "alive", "peers": others(it)}), "state is alive of all 6 hosts"),
             ("lengths.json", seen("status", ["Up 3 hours", "Up 2 days"], ["Up 5 days"]), "status is Up"),
