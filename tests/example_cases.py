@@ -5,6 +5,7 @@ A file NAME.cases of examples/ has cases, with empty lines between them. The fir
     # WORDS         a comment
     $ WORDS         a command of this case, and of those below it; if there are several, each comes to the same
     < TEXT          a line of the input
+    % TEXT          the input is this text of Python, as "node 1\n" * 2: an expression, for an input that is large
     ~ OLD => NEW    the input is that of the last case with such lines, with NEW in place of OLD, which it has once; there
                     may be more such pairs behind another =>
     | TEXT          this line alone is an input: the case is run with each such line, and each comes to the same
@@ -20,9 +21,10 @@ added.
 
 import re
 import subprocess
+from itertools import combinations
 from typing import NamedTuple
 
-MARKS = "#$<~|>!="
+MARKS = "#$<%~|>!="
 ESCAPE = re.compile(rb"\\(x[0-9a-f]{2}|[nrt\\])")
 ESCAPED = {b"n": b"\n", b"r": b"\r", b"t": b"\t", b"\\": b"\\"}
 
@@ -81,12 +83,19 @@ def joined(lines):
     return b"".join(map(bytes_of, lines))
 
 
+def written(lines):
+    """The bytes of a text that Python writes: that of the expression on this line."""
+    (line,) = lines
+    return eval(line[2:], {"combinations": combinations}).encode()
+
+
 def cases(text):
     """The cases of a file."""
     commands, base = [], b""
     for number, lines in blocks(text):
         commands = [line[2:].split() for line in lines["$"]] if "$" in lines else commands
         base = joined(lines["<"]) if "<" in lines else base
+        base = written(lines["%"]) if "%" in lines else base
         inputs = [bytes_of(line) for line in lines.get("|", [])]
         inputs += [replaced(base, line) for line in lines.get("~", [])]
         if any(mark in lines for mark in ">!="):

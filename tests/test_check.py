@@ -15,6 +15,7 @@ import re
 import subprocess
 import sys
 import tempfile
+import time
 import unittest
 
 ROOT = pathlib.Path(__file__).resolve().parent.parent
@@ -57,6 +58,38 @@ def in_version_3(name, **keys):
     """An example with other values, as a file of version 3."""
     value = example(name)
     return changed({"group": value["nodes"], **value, "version": 3}, **keys)
+
+
+def row_of_nodes(number, k, **keys):
+    """A file of version 3 of a row of nodes, each linked to the k before it, which is split by k nodes in its midst."""
+    nodes = list(range(7, 7 + number))
+    cut = number // 2
+    value = {
+        "cut": nodes[cut:cut + k], "far": nodes[-1], "group": nodes, "k": k, "moment": 65537, "near": nodes[0],
+        "fans": [{"j": j, "paths": [[j, j - step] for step in range(1, k + 1)]} for j in nodes[k:]],
+        "links": [[a, b] for a in nodes for b in range(a + 1, min(a + k, nodes[-1]) + 1)],
+        "nodes": nodes, "pairs": [], "side": nodes[:cut], "verdict": "split", "version": 3}
+    return {**value, **keys}
+
+
+def rows_of_nodes():
+    """Files of rows of nodes, some of them with a fault near their end: each with the line that is printed of it."""
+    number, k = 2000, 3
+    value = row_of_nodes(number, k)
+    holds = f"holds 65537 split k 3 cut 1007,1008,1009 near 7 far 2006 side {','.join(map(str, range(7, 1007)))}"
+    yield value, holds
+    yield {**value, "version": 2, "moment": 0}, "refused 31"
+    yield {**value, "fans": value["fans"][:-1]}, "fails 44 2006"
+    yield {**value, "fans": [*value["fans"][:-1], {"j": 2006, "paths": [[2006, 2005], [2006, 2004], [2006, 2005]]}]}, \
+        "fails 44 2006"
+    yield {**value, "links": value["links"][:-1]}, "fails 44 2006"
+    yield {**value, "links": [*value["links"], [2005, 2007]]}, "refused 33"
+    yield {**value, "links": [*value["links"][:-2], [2003, 2006], *value["links"][-2:]]}, "refused 32"
+    yield {**value, "nodes": [*value["nodes"][:-1], 2005]}, "refused 32"
+    yield {**value, "group": [*value["nodes"], 2007]}, "fails 49"
+    yield {**value, "side": value["side"][:-1]}, "fails 42"
+    yield {**value, "fans": [*value["fans"], value["fans"][-1]]}, "fails 45"
+    yield {**value, "far": 2007}, "fails 42"
 
 
 def files_of_version_3():
@@ -237,10 +270,22 @@ class LargeFiles(unittest.TestCase):
             self.assertEqual(large_line_of(data[:end]), "refused 60", end)
 
     def test_nodes(self):
-        for number, line in (1024, "fails 46"), (1025, "refused 31"):
+        for number, line in (1024, "fails 46"), (1025, "fails 46"), (32768, "fails 46"), (32769, "refused 31"):
             nodes = list(range(number))
-            value = {"group": nodes, "k": number - 1, "links": [], "moment": 70000, "nodes": nodes, "verdict": "linked"}
+            value = {"group": nodes, "k": number - 1, "links": [], "moment": 0, "nodes": nodes, "verdict": "linked"}
             self.assertEqual(large_line_of(changed(value, version=3)), line)
+            self.assertEqual(large_line_of(changed(value, version=2)), line if number == 1024 else "refused 31")
+
+    def test_rows_of_nodes(self):
+        for value, line in rows_of_nodes():
+            self.assertEqual(large_line_of(changed(value)), line)
+            self.assertEqual(line_of(changed(value)), "refused 31" if value["version"] == 2 else "refused 64")
+
+    def test_ten_thousand_nodes(self):
+        data = changed(row_of_nodes(10_000, 5))
+        started = time.process_time()
+        self.assertEqual(large_line_of(data)[:42], "holds 65537 split k 5 cut 5007,5008,5009,5")
+        self.assertLess(time.process_time() - started, 20)
 
     def test_versions_1_and_2(self):
         for path in [*EXAMPLES.glob("*.json"), *EXAMPLES.glob("mistakes/*.json")]:
@@ -406,6 +451,12 @@ class BesideOverlayCheck(BesideAProgram, unittest.TestCase):
 class BesideOverlayCheckLarge(BesideAProgram, unittest.TestCase):
     variable, line_of = "TAGZIRK_OVERLAY_CHECK_LARGE", staticmethod(large_line_of)
     more = [in_version_3(name, moment=70000) for name in HOLDING]
+
+    def test_rows_of_nodes(self):
+        for value, _ in rows_of_nodes():
+            self.compare(changed(value))
+        for number in 32_768, 32_769:
+            self.compare(changed(row_of_nodes(number, 2)))
 
 
 if __name__ == "__main__":

@@ -45,10 +45,18 @@ def named(text):
     return re.sub(r"\\u\{([0-9a-f]+)\}", lambda it: chr(int(it[1], 16)), text)
 
 
-def graph_file(names, links):
-    """The graph file of these names and pairs of names: ids in the order of the bytes of names, from 1."""
+def in_order_of_ids(names):
+    """The names in the order of their nodes: ascending, byte by byte; more than 1,024 in the order of the keys of their
+    places among the ascending ones, which are counted from 0."""
     names = sorted(names, key=str.encode)
-    ids = {name: at for at, name in enumerate(names, 1)}
+    if len(names) <= 1024:
+        return names
+    return [names[place] for place in sorted(range(len(names)), key=lambda place: place * 20251 % 32768)]
+
+
+def graph_file(names, links):
+    """The graph file of these names and pairs of names."""
+    ids = {name: at for at, name in enumerate(in_order_of_ids(names), 1)}
     pairs = sorted({tuple(sorted((ids[a], ids[b]))) for a, b in links})
     nodes = (f"# {at} {shown(name)}\nnode {at}\n" for name, at in ids.items())
     return "".join([*nodes, *(f"link {a} {b}\n" for a, b in pairs)])
@@ -187,6 +195,22 @@ class Dumps(unittest.TestCase):
                 for words in ("import", form), ("import", form, "-"), ("import",):
                     with self.subTest(count=count, words=words):
                         self.assertEqual(overlay(*words, given=dump), (wanted, "", 0))
+
+    def test_ids_of_many_names_are_scattered(self):
+        for count in 1024, 1025, 5000, 32768:
+            names, pairs = some_overlay(count, 2 * count, count)
+            for form, dump in ("--views", views_of(names, pairs)), ("--edges", edges_of(pairs, count)):
+                with self.subTest(count=count, form=form):
+                    self.assertEqual(overlay("import", "--large", form, given=dump), (graph_file(names, pairs), "", 0))
+
+    def test_one_name_too_many(self):
+        for words, most in ((), 1024), (("--large",), 32768):
+            lines = "".join(f"{at} {at + 1}\n" for at in range(most))
+            text, told, status = overlay("import", *words, "--edges", given=lines)
+            with self.subTest(words=words):
+                self.assertEqual((text, status), ("", 1))
+                self.assertIn(f"line {most}: {most} is one name too many", told)
+                self.assertIn(f"{most} nodes", told)
 
     def test_views_that_differ(self):
         chance = random.Random(4)

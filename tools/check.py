@@ -25,7 +25,7 @@ LINKED = {"k", "links", "moment", "nodes", "verdict", "version"}
 SPLIT = LINKED | {"cut", "fans", "far", "near", "pairs", "side"}
 MOST_ID = 2**32 - 1
 KEYS_OF_VERSION = {1: set(), 2: {"group"}, 3: {"group"}}
-MOST_NODES = {1: 256, 2: 1024, 3: 1024}
+MOST_NODES = {1: 256, 2: 1024, 3: 32768}
 LAST_MOMENT = {1: 65536, 2: 65536, 3: MOST_ID}
 # The newest version that is read, without --large and with it.
 NEWEST, NEWEST_LARGE = 2, 3

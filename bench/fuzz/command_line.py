@@ -8,8 +8,8 @@ alone. That `--` alone is bare `overlay` was taken from the program, when the pa
 from growing_words import BadArguments, is_value, read_grow, read_sweep
 from scenario_lines import MOST_WORKERS, Unreadable, ids, number
 
-# k is below the number of nodes, of which there are 1,024 at most.
-MOST_K = 1023
+# k is below the number of nodes, of which there are 1,024 at most, or 32,768 with `--large`.
+MOST_K, MOST_K_OF_LARGE = 1023, 32767
 
 # What reads the words of the commands that grow overlays.
 GROWING = {"grow": read_grow, "sweep": read_sweep}
@@ -24,9 +24,9 @@ def workers(word):
 
 
 def least(word):
-    """A number that k may be."""
+    """A number that k may be of a large graph."""
     found = number(word)
-    if found > MOST_K:
+    if found > MOST_K_OF_LARGE:
         raise Unreadable
     return found
 
@@ -50,10 +50,10 @@ def so_many_ids(count):
 OPTIONS = {
     "run": {"explain": None, "progress": None, "strict": None},
     "analyse": {"group": text, "without": text, "at-least": least, "workers": workers, "certificate": None,
-                "names": None, "explain": None, "progress": None},
-    "import": {"views": None, "edges": None, "dot": None, "either": None, "entries": None},
+                "names": None, "explain": None, "progress": None, "large": None},
+    "import": {"views": None, "edges": None, "dot": None, "either": None, "entries": None, "large": None},
     "picture": {"names": text, "pair": so_many_ids(2), "fan": so_many_ids(1), "dot": None},
-    "graph": {},
+    "graph": {"large": None},
 }
 # Words that ask to be told what the program is, and all commands of which help tells.
 HELP, VERSION = {"--help", "-h"}, {"--version", "-V"}
@@ -96,8 +96,11 @@ def is_file(text):
 
 
 def judge_together(request):
-    """Refuses options that don't go together, and a group that is to have ids and has none."""
+    """Refuses options that don't go together, a number that k is of a large graph alone, and a group that is to have ids
+    and has none."""
     if len(ONE_OF.get(request.command, set()) & request.options.keys()) > 1:
+        raise BadArguments
+    if request.options.get("at-least", 0) > MOST_K and "large" not in request.options:
         raise BadArguments
     if "group" in request.options and "names" not in request.options and not is_file(request.options["group"]):
         try:

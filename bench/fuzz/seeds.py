@@ -64,6 +64,8 @@ COMMANDS = (
     "analyse --group a --names", "analyse --names --group=", "analyse --names --group a,", "analyse --group a",
     "analyse --names --group 1,2 --workers 2", "analyse --names --workers 0", "analyse --names --names",
     "analyse --names=1", "analyse --explain --progress graph", "analyse --names --group -a",
+    "analyse --large", "analyse --large --at-least 1024", "analyse --at-least 1024", "analyse --at-least 32768 --large",
+    "analyse --large=1", "analyse --large --large", "import --large --edges", "graph --large", "picture --large",
 )
 OPTIONS = (b"", b"# --certificate\n", b"# --workers 2 --certificate\n", b"# --group 1,3\n")
 

@@ -3,12 +3,15 @@
 from __future__ import annotations
 
 import sys
+from functools import cached_property
 from typing import Any, Iterable, Iterator, List
 
 from .graphs import NamedGraph
 
 # A set of hosts: bit i is the host at place i among the nodes of a graph, in the order of their ids.
 Hosts = int
+# Of a set with more places it is faster to look at its bits as a text than to take its lowest one away again and again.
+WIDE = 1024
 
 
 def number_of(hosts: Hosts) -> int:
@@ -25,7 +28,16 @@ def places_of(hosts: Hosts) -> Iterator[int]:
 
     >>> list(places_of(0b1011))
     [0, 1, 3]
+    >>> list(places_of(1 << 5000 | 1 << 7 | 1))
+    [0, 7, 5000]
     """
+    if hosts.bit_length() > WIDE:
+        signs = f"{hosts:b}"[::-1]
+        at = signs.find("1")
+        while at >= 0:
+            yield at
+            at = signs.find("1", at + 1)
+        return
     while hosts:
         lowest = hosts & -hosts
         yield lowest.bit_length() - 1
@@ -58,11 +70,32 @@ class Bits:
 
     def piece(self, start: Hosts, left: Hosts) -> Hosts:
         """All that are reached from a set of hosts, where only the hosts `left` are left."""
+        if len(self.nodes) > WIDE:
+            return self.piece_by_lists(start, left)
         piece = more = start
         while more:
             more = self.around(more) & left & ~piece
             piece |= more
         return piece
+
+    @cached_property
+    def lists(self) -> List[List[int]]:
+        """The places of the hosts that each host is linked to, by its place."""
+        return [list(places_of(it)) for it in self.peers]
+
+    def piece_by_lists(self, start: Hosts, left: Hosts) -> Hosts:
+        """The same of many hosts, link by link: so it takes no longer where they are far from each other."""
+        yes, no, count = ord("1"), ord("0"), len(self.nodes)
+        free, found = bytearray(f"{left & ~start:0{count}b}".encode())[::-1], bytearray(b"0") * count
+        more = list(places_of(start))
+        for at in more:
+            found[at] = yes
+        while more:
+            for peer in self.lists[more.pop()]:
+                if free[peer] == yes:
+                    free[peer], found[peer] = no, yes
+                    more.append(peer)
+        return int(found[::-1].decode(), 2)
 
     def pieces(self, crashed: Hosts = 0) -> List[Hosts]:
         """The connected components that a crash leaves, in the order of their lowest ids."""

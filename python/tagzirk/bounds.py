@@ -25,25 +25,31 @@ that overlay-check confirmed, and from above on hosts that don't reach each othe
 
 from __future__ import annotations
 
+import sys
 from dataclasses import dataclass
 from typing import Any, Callable, Dict, Iterable, List, Optional, Sequence, Tuple
 
 from .bits import Bits, Hosts, number_of, places_of
 from .graphs import NamedGraph
+from .limits import USUAL_HOSTS
 from .progress import Progress, each_at_once
 from .reports import Report
 
+# Of a large graph questions are asked as long as so many hosts are asked about in all.
+MOST_ASKED = 1_000_000
 # Asks about a graph, and a group in it.
 Ask = Callable[[NamedGraph[Any], Optional[List[int]]], Report[Any]]
 
 
 @dataclass(frozen=True)
 class Number:
-    """How few crashes split a graph, and the ids of such a cut; or that every two hosts are linked."""
+    """How few crashes split a graph, and the ids of such a cut; or that every two hosts are linked. If it is not known,
+    `k` is so many that fewer do not."""
 
     k: int
     is_linked: bool
     cut: Tuple[int, ...]
+    is_known: bool = True
 
 
 def number_in(report: Report[Any]) -> Number:
@@ -61,6 +67,8 @@ class Bounds:
         self.least = {crash: max(0, base.k - number_of(crash)) for crash in crashes}
         self.most = {crash: self.links_cut(crash) for crash in self.least}
         self.numbers: Dict[Hosts, Number] = {}
+        hosts = len(self.bits.nodes)
+        self.questions = MOST_ASKED // hosts if hosts > USUAL_HOSTS else sys.maxsize
         self.learn_cut(self.bits.of(base.cut))
 
     def links_cut(self, crash: Hosts) -> Optional[Hosts]:
@@ -107,8 +115,9 @@ class Bounds:
     def ask_groups(self, ask: Ask, workers: int, progress: Optional[Progress]) -> None:
         """Settles the crashes of single hosts by groups of their peers."""
         parts = [[it for it in self.least if number_of(it) == 1 and self.least[it] < self.k]]
-        while any(parts):
-            parts = [part for part in parts if part]
+        while any(parts) and self.questions > 0:
+            parts = [part for part in parts if part][: self.questions]
+            self.questions -= len(parts)
             groups = [self.bits.ids(self.bits.around(sum(part))) for part in parts]
             answers = each_at_once(lambda group: ask(self.graph, group), groups, workers)
             parts = [rest for part, report in zip(parts, answers) for rest in self.shared_out(part, report)]
@@ -131,12 +140,29 @@ class Bounds:
         return parts
 
     def ask_alone(self, ask: Ask, workers: int, progress: Optional[Progress]) -> None:
-        """Asks about each crash by itself that is not known yet."""
-        crashes = list(self.least)
+        """Asks about each crash by itself that is not known yet: of a large graph about those alone that may leave the
+        lowest numbers, as long as there are questions."""
+        if len(self.bits.nodes) > USUAL_HOSTS:
+            self.count_split(progress)
+        crashes = sorted(self.least, key=lambda it: self.least[it])[: self.questions]
         asked = (self.graph.without(set(self.bits.ids(crash))) for crash in crashes)
-        answers = each_at_once(lambda graph: ask(graph, None), asked, workers, "crash", progress)
-        for crash, report in zip(crashes, answers):
-            self.know(crash, number_in(report))
+        answers = each_at_once(lambda graph: number_in(ask(graph, None)), asked, workers, "crash", progress)
+        for crash, number in zip(crashes, answers):
+            self.know(crash, number)
+        for crash, least in list(self.least.items()):
+            self.know(crash, Number(least, False, (), is_known=False))
+
+    def count_split(self, progress: Optional[Progress]) -> None:
+        """Settles the crashes that split a graph, by plain reachability; others leave 1 at least."""
+        crashes = [it for it, least in self.least.items() if least == 0]
+        for at, crash in enumerate(crashes, 1):
+            if self.bits.is_split(crash):
+                self.know(crash, Number(0, False, ()))
+            else:
+                self.least[crash] = 1
+                self.settle(crash)
+            if progress:
+                progress.tell(f"crashes: {at} of {len(crashes)} counted")
 
 
 def numbers_after(

@@ -10,6 +10,10 @@ from .answers import Answer, read_answer
 from .errors import ProgramFailed
 from .programs import Data, Program, call, find, opened, refuse
 
+# The checker, and that which reads files of version 3 too; and what the first says of such a file.
+CHECKERS = ("overlay_check", "overlay_check_large")
+UNKNOWN_VERSION = "refused 64"
+
 
 @dataclass(frozen=True)
 class Verdict:
@@ -44,15 +48,22 @@ def check(certificate: Union[str, bytes, "os.PathLike[str]"], *, overlay_check: 
     >>> verdict.holds, verdict.line
     (False, 'fails 40')
 
+    A file of version 3, as one of more than 1,024 nodes, is given to overlay-check-large, unless a program is named.
+
     It holds of the graph in the file. Whether this is your graph is to be compared: docs/CHECK-A-REPORT.md says how.
     """
     with opened(certificate) as data:
-        return judged(data, overlay_check)
+        verdict = judged(data, overlay_check)
+    if overlay_check or verdict.line != UNKNOWN_VERSION:
+        return verdict
+    with opened(certificate) as data:
+        return judged(data, is_large=True)
 
 
-def judged(data: Data, overlay_check: Optional[Program]) -> Verdict:
-    """What overlay-check says of a certificate that it reads as its standard input."""
-    program = find("overlay_check", overlay_check)
+def judged(data: Data, overlay_check: Optional[Program] = None, is_large: bool = False) -> Verdict:
+    """What overlay-check says of a certificate that it reads as its standard input; or overlay-check-large, if it
+    `is_large`. A program that is given is asked in any case."""
+    program = find(CHECKERS[is_large], overlay_check)
     ended = call(program, [], data)
     line = ended.out.rstrip("\n")
     if not line:

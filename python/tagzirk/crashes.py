@@ -27,7 +27,8 @@ class Crash(Generic[Node]):
     `k` is how few further crashes of hosts split what is left, and `is_linked` says that none do, as every two hosts
     that are left are linked. `k` is None if no host is left. That no fewer crashes do was confirmed by overlay-check,
     of the rest or of graphs that tell of it (`tagzirk/bounds.py` has the argument). `cut_off` has the hosts that no
-    longer reach the largest connected component, in the order of their ids.
+    longer reach the largest connected component, in the order of their ids. Of a large overlay `k` is None too where
+    too many crashes would be asked about: then fewer than `at_least` crashes split nothing.
     """
 
     name: Any
@@ -35,6 +36,7 @@ class Crash(Generic[Node]):
     k: Optional[int]
     is_linked: bool
     cut_off: Tuple[Node, ...]
+    at_least: Optional[int] = None
 
 
 def cut_off_by(graph: NamedGraph[Node], crashed: Set[int]) -> List[int]:
@@ -80,8 +82,7 @@ def each(
         crashes = [((a, b), one | other) for (a, one), (b, other) in itertools.combinations(crashes, 2)]
     if not numbers:
         numbers = numbers_after(named, base, left_by(crashes, bits), ask, at_once, progress)
-    names = named.names
-    return sorted((crash_of(name, hosts, numbers.get(hosts), bits, names) for name, hosts in crashes), key=badness)
+    return sorted((crash_of(name, hosts, numbers.get(hosts), bits, named) for name, hosts in crashes), key=badness)
 
 
 def crashes_of(
@@ -93,17 +94,21 @@ def crashes_of(
     return [(rack, bits.of(ids_of_rack(graph, rack, hosts))) for rack, hosts in racks.items()]
 
 
-def crash_of(name: Any, hosts: Hosts, number: Optional[Number], bits: Bits, names: Dict[int, Node]) -> Crash[Node]:
+def crash_of(
+    name: Any, hosts: Hosts, number: Optional[Number], bits: Bits, graph: NamedGraph[Node]
+) -> Crash[Node]:
     """A crash, and what it does: the number of what is left, if a host is."""
     # where k is above 0 all that are left are joined
-    is_split = number is not None and number.k == 0 and not number.is_linked
+    is_known = number is not None and number.is_known
+    is_split = number is not None and is_known and number.k == 0 and not number.is_linked
     cut_off = bits.cut_off(hosts) if is_split else 0
     return Crash(
         name,
-        tuple(names[it] for it in bits.ids(hosts)),
-        number.k if number else None,
+        graph.named(bits.ids(hosts)),
+        number.k if number and is_known else None,
         number is not None and number.is_linked,
-        tuple(names[it] for it in bits.ids(cut_off)),
+        graph.named(bits.ids(cut_off)),
+        number.k if number and not is_known else None,
     )
 
 
@@ -122,4 +127,5 @@ def demand_few_pairs(crashes: Sequence[Tuple[Any, Hosts]]) -> None:
 
 def badness(crash: Crash[Any]) -> Tuple[int, bool, int]:
     """Where a crash stands among others, the worst first."""
-    return -len(crash.cut_off), crash.is_linked, -1 if crash.k is None else crash.k
+    known = crash.at_least if crash.k is None else crash.k
+    return -len(crash.cut_off), crash.is_linked, -1 if known is None else known

@@ -10,6 +10,8 @@ from .differences import Difference, Link, Side
 from .markup import counted, doubts_html, names_html, shown_html, table
 from .taken import doubts_in
 
+# So many links that went or came are shown.
+MOST_LINKS = 1000
 # How a page begins; by this line a command knows its own page again.
 FIRST_LINE = "<!DOCTYPE html><!-- tagzirk diff -->"
 PAGE = Template(
@@ -93,8 +95,10 @@ def changes_of(hosts: Sequence[str], links: Sequence[Link]) -> str:
     if not hosts and not links:
         return "<p>Nothing.</p>"
     lines = [f"{counted(len(hosts), 'host')}: {names_html(hosts)}"] if hosts else []
-    lines += [f"{counted(len(links), 'link')} between hosts that both dumps have:"] if links else []
-    return paragraphs(lines) + (table(("from", "to"), [tuple(map(shown_html, it)) for it in links]) if links else "")
+    first = f", of which {MOST_LINKS:,} are shown" if len(links) > MOST_LINKS else ""
+    lines += [f"{counted(len(links), 'link')} between hosts that both dumps have{first}:"] if links else []
+    rows = [tuple(map(shown_html, it)) for it in links[:MOST_LINKS]]
+    return paragraphs(lines) + (table(("from", "to"), rows) if rows else "")
 
 
 def causes_of(it: Difference) -> str:
@@ -102,9 +106,13 @@ def causes_of(it: Difference) -> str:
     then, lines = it.old.report.k, []  # type: int, List[str]
     if not it.is_lower:
         return "<p>It is not lower.</p>"
+    if it.untried:
+        number = counted(it.untried, "change")
+        lines.append(f"{number} may be such a cause too, and were not tried, since there are so many hosts.")
     if it.restoring:
         rows = [("host" if len(them) == 1 else "link", link_html(them)) for them in it.restoring]
-        return f"<p>Each of these alone, put back, gives k {then} again:</p>" + table(("", "what went"), rows)
+        told = f"<p>Each of these alone, put back, gives k {then} again:</p>"
+        return told + table(("", "what went"), rows) + paragraphs(lines)
     if it.hosts_went or it.links_went:
         lines.append(f"Nothing that went gives k {then} again if it alone is put back.")
         lines += [] if it.with_all_back is None else [f"With all that went put back k is {it.with_all_back}."]

@@ -18,14 +18,14 @@ from .errors import BadDump, LibraryMissing, Refused
 from .dot import of_dot
 from .folders import of_hosts
 from .forms import NATIVE, form_of, listings_of
-from .graphs import NamedGraph
+from .graphs import MOST_ID, NamedGraph, of_file
 from .hosts import SeveralLists
 from .limits import GZIP
 from .marks import said_by_names
 from .notes import Line, lines_in, notes_on
 from .only import only_graph, only_views, plain_views
 from .outputs import files_in
-from .programs import Program, call, find, refuse
+from .programs import Program, call_for_any, find, refuse
 from .contents import of_contents
 from .taken import taken_of
 from .texts import decoded, text_of
@@ -33,6 +33,7 @@ from .values import Views
 from .written import tell_how_often
 
 GRAPH_FILE = re.compile(r"(?:[ \t\r]*(?:#[^\n]*)?\n)*[ \t\r]*(?:node|link) +\d")
+NODE = re.compile(r"^[ \t\r]*node +0*([0-9]{1,10})(?![0-9])", re.MULTILINE)
 # The first line of a graph file that `tagzirk mend` wrote.
 OF_MEND = re.compile(r"# tagzirk mend --to [0-9]+")
 NAME = re.compile(r"# ([0-9]+) (.*)")
@@ -139,7 +140,7 @@ def read_graph_file(text: str) -> NamedGraph[str]:
         if words[:1] == ["node"]:
             said = NAME.fullmatch(before.rstrip("\r"))
             place = id_of(words[1])
-            names[place] = said[2] if said and said[1].lstrip("0") == words[1].lstrip("0") else str(place)
+            names[place] = of_file(said[2]) if said and said[1].lstrip("0") == words[1].lstrip("0") else str(place)
         elif words[:1] == ["link"]:
             links.append([id_of(words[1]), id_of(words[2])])
         before = line
@@ -392,10 +393,13 @@ def of_overlay(
 def of_graph_file(data: bytes, name: str, options: Options, notes: List[str], overlay: Optional[Program]) -> Dump:
     """The dump that a graph file is. overlay says what is wrong with it; what it accepts is read here."""
     demand_used(options.asked, "it is a graph file", "skip")
-    ended = call(find("overlay", overlay), ["analyse"], data)
+    text = data.decode(errors="backslashreplace")
+    node = NODE.search(text)
+    # a question about one node takes no time
+    alone = [f"--group={node[1]}"] if node and int(node[1]) <= MOST_ID else []
+    ended = call_for_any(find("overlay", overlay), ["analyse", *alone], data)
     if ended.status != 0:
         refuse(*ended.err.partition("\n")[::2])
-    text = data.decode(errors="backslashreplace")
     beside = [*(("comments", it) for it in comments_of(text)), *(("zeros in front", it) for it in ids_with_zeros(text))]
     told = [*notes, *taken_of(Views("", [*beside]), options.asked)[1]]
     dump = with_only(Dump(name, text, tuple(told), None, None), options.only)
@@ -441,7 +445,7 @@ def more_in_dot(data: bytes, dump: Dump, options: Options, overlay: Optional[Pro
 
 def imported(data: bytes, name: str, words: Sequence[str], notes: Sequence[str], overlay: Optional[Program]) -> Dump:
     """The graph file that `overlay import` makes of a dump."""
-    ended = call(find("overlay", overlay), ["import", *words], data)
+    ended = call_for_any(find("overlay", overlay), ["import", *words], data)
     if ended.status != 0:
         refuse(*ended.err.partition("\n")[::2])
     one_sided, lost = (

@@ -14,7 +14,7 @@ from .errors import in_words
 from .graphs import shown
 from .outputs import write
 from .programs import Program
-from .proofs import programs
+from .proofs import asked_of
 from .reports import Report, analysed
 from .stale import one_sided
 from .taken import DOUBT, doubts_in
@@ -150,21 +150,21 @@ def metrics(
     (0.0, False, True)
     """
     values = {"tagzirk_dump_read": 0.0, "tagzirk_run_timestamp_seconds": float(int(time.time()))}
-    named = dict(labels or {})
     try:
         values.update(time_of(places))
         dump = read_dump(places, options.living, overlay=overlay)
         report = analysed(dump.graph, overlay=overlay, overlay_check=overlay_check)
         found = worst(dump.graph, report, overlay=overlay, overlay_check=overlay_check)
         stale = one_sided(dump, overlay)
-        proved = {name: it.is_proved is True for name, it in programs(overlay, overlay_check).items()}
+        asked = asked_of(len(dump.graph.ids), overlay, overlay_check).items()
+        proved = {name: it.is_proved is True for name, it in asked}
     except Exception as why:
         # whatever a dump does, an alarm must hear of it
-        return Metrics(values, fault=in_words(why), labels=named)
+        return Metrics(values, fault=in_words(why), labels=dict(labels or {}))
     cut = found.cuts[0].crashed if found.cuts else report.cut
     values.update(tagzirk_dump_read=1.0, **numbers(dump, report, cut))
     hosts, doubts = {shown(host): number for host, number in stale.items()}, tuple(doubts_in(dump.notes))
-    return Metrics(values, tuple(map(shown, cut)), "", named, hosts, proved, doubts)
+    return Metrics(values, tuple(map(shown, cut)), "", dict(labels or {}), hosts, proved, doubts)
 
 
 def time_of(places: Sequence[str]) -> Dict[str, float]:

@@ -7,7 +7,7 @@ import re
 from typing import Dict, List, Mapping, NamedTuple, Optional, Tuple
 
 from .errors import BadDump
-from .limits import need_few
+from .limits import MOST_LINKS, need_few
 from .values import Said, Scalar, Views
 from .written import Written
 
@@ -56,7 +56,8 @@ class Graph:
         if self.is_open:
             for key in (one, other):
                 self.hosts.setdefault(key, {})
-        need_few(max(len(self.links), len(self.hosts)), "links")
+        need_few(len(self.hosts), "hosts")
+        need_few(len(self.links), "links", MOST_LINKS)
         self.links.append(Link(one, other, is_directed, said or {}, way))
 
     def pass_over(self, what: str, value: Scalar) -> None:

@@ -10,18 +10,22 @@ from typing import (AbstractSet, Any, Dict, Generic, Hashable, Iterable, List, M
                     TypeVar, Union, cast)
 
 from .errors import BadGraph, ViewsDiffer
+from .limits import MOST_HOSTS, USUAL_HOSTS
 
 Node = TypeVar("Node", bound=Hashable)
 # A networkx graph is not named, since networkx need not be there.
 Graph = Union[Any, Iterable[Sequence[Node]], Mapping[Node, Iterable[Node]]]
 
 MOST_ID = 2**32 - 1
+# By this number, modulo 32,768, the key of each place goes on from that before, where the ids of nodes are scattered.
+SCATTER = 20251
 # How many names, or listings, a message tells at most.
 MOST_TOLD = 10
 # Control characters, and halves of surrogate pairs, which a graph file shows as codes; and what a person does not see,
 # or what lets a text look like another one: spaces without width, what turns the direction of text, ends of lines.
 CONTROLS = "\0-\x1f\x7f-\x9f\ud800-\udfff"
 OF_FILES = re.compile(f"[{CONTROLS}]")
+CODES = re.compile(r"\\u\{(?:(5c)(?=\}u\{)|([0-9a-f]{1,4}))\}")
 UNSHOWN = re.compile(f"[{CONTROLS}\u061c\u200b\u200e\u200f\u2028-\u202e\u2060-\u206f\ufeff]")
 
 
@@ -32,10 +36,26 @@ def in_file(name: Any) -> str:
 
 
 # One graph is written again and again, of at most so many hosts.
-@lru_cache(maxsize=1024)
+@lru_cache(maxsize=MOST_HOSTS)
 def as_line(text: str) -> str:
     """The same of a text."""
     return OF_FILES.sub(code, text.replace("\\u{", "\\u{5c}u{"))
+
+
+def of_file(text: str) -> str:
+    """The name that stands in a graph file as one line.
+
+    >>> of_file("a\\\\u{a}b") == "a\\nb", print(of_file(in_file("a\\\\u{a}")), of_file("\\\\u{41}"))
+    a\\u{a} \\u{41}
+    (True, None)
+    """
+    return CODES.sub(of_code, text) if "\\u{" in text else text
+
+
+def of_code(found: "re.Match[str]") -> str:
+    """The character of a code, if names have such in graph files."""
+    sign = chr(int(found[1] or found[2], 16))
+    return sign if found[1] or OF_FILES.match(sign) else found[0]
 
 
 def shown(name: Any) -> str:
@@ -69,10 +89,18 @@ class NamedGraph(Generic[Node]):
     ids: Dict[Node, int]
     links: List[List[int]]
 
-    @property
+    @cached_property
     def names(self) -> Dict[int, Node]:
         """The name that each id has."""
         return {place: name for name, place in self.ids.items()}
+
+    def named(self, ids: Iterable[int]) -> Tuple[Node, ...]:
+        """The names of these nodes: of a large graph, whose ids are scattered, in the order of names if all are texts,
+        and else in the order in which they are given."""
+        names: List[Any] = [self.names[it] for it in ids]
+        if len(self.ids) > USUAL_HOSTS and all(isinstance(it, str) for it in names):
+            names.sort()
+        return tuple(names)
 
     @property
     def nodes(self) -> List[int]:
@@ -188,15 +216,31 @@ def in_order(names: Iterable[Node]) -> List[Node]:
     return different
 
 
+def ids_of_places(number: int) -> List[int]:
+    """The ids of so many nodes by their places, as `overlay import` gives them: 1, 2, 3, .., and of more than 1,024
+    nodes in the order of keys that are scattered. So names that follow each other have ids far apart, and what is
+    near each other by name, and often by links, does not come one after the other in an analysis.
+
+    >>> ids_of_places(3), ids_of_places(1025)[:4]
+    ([1, 2, 3], [1, 634, 243, 876])
+    """
+    if number <= USUAL_HOSTS:
+        return [*range(1, number + 1)]
+    ids = [0] * number
+    for at, place in enumerate(sorted(range(number), key=lambda it: it * SCATTER % MOST_HOSTS), 1):
+        ids[place] = at
+    return ids
+
+
 def numbered(names: Iterable[Node], pairs: Iterable[Tuple[Node, Node]]) -> NamedGraph[Node]:
-    """A graph of these nodes and links. Its ids are the names, if all of these are ids, and else 1, 2, 3, ..: in the
-    order of the bytes of names in UTF-8 if all are texts, as `overlay import` has it, and else as they are given. A
-    link of a name to itself is passed over."""
+    """A graph of these nodes and links. Its ids are the names, if all of these are ids, and else those of their places:
+    in the order of the bytes of names in UTF-8 if all are texts, as `overlay import` has it, and else as they are
+    given. A link of a name to itself is passed over."""
     names = in_order(names)
     if all(type(name) is int and 0 <= name <= MOST_ID for name in names):
         ids: Dict[Node, int] = {name: name for name in names}  # type: ignore[misc]
     else:
-        ids = {name: place for place, name in enumerate(names, 1)}
+        ids = dict(zip(names, ids_of_places(len(names))))
     links: Set[Tuple[int, int]] = set()
     for one, other in pairs:
         a, b = sorted((ids[one], ids[other]))

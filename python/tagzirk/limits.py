@@ -1,4 +1,4 @@
-"""How much a dump may ask for. A graph has at most 1,024 hosts; what asks for far more is refused before it takes much
+"""How much a dump may ask for. A graph has at most 32,768 hosts; what asks for far more is refused before it takes much
 time or memory, and not read half."""
 
 from __future__ import annotations
@@ -8,8 +8,10 @@ from typing import List, Optional
 
 from .errors import BadDump
 
-# How many hosts, links or listings are taken in. A graph of 1,024 hosts has fewer links.
-MOST = 600_000
+# How many hosts a graph may have, and up to how many the programs take it without a word.
+MOST_HOSTS, USUAL_HOSTS = 32_768, 1024
+# How many hosts, or values that stand for many, are taken in; and how many links or rows.
+MOST, MOST_LINKS = 600_000, 2_000_000
 # How many links, hosts or values a short text may stand for: by subgraphs as ends in DOT, by aliases in YAML, by a
 # count of hosts.
 MOST_IMPLIED = 100_000
@@ -29,10 +31,10 @@ DEEPEST = 100
 GZIP = b"\x1f\x8b"
 
 
-def need_few(count: int, kind: str) -> None:
-    """Refuses more hosts or links than any graph has that can be analysed."""
-    if count >= MOST:
-        raise BadDump(f"it has more than {MOST:,} {kind}; a graph has at most 1,024 hosts")
+def need_few(count: int, kind: str, most: int = MOST) -> None:
+    """Refuses far more hosts or links than a graph has that can be analysed."""
+    if count >= most:
+        raise BadDump(f"it has more than {most:,} {kind}; a graph has at most {MOST_HOSTS:,} hosts")
 
 
 def need_few_implied(count: int, what: str) -> None:
@@ -57,7 +59,7 @@ def need_few_members(count: int) -> None:
 def need_declarable(count: int) -> None:
     """Refuses a number of hosts that a file declares in a few bytes, if it is far too large."""
     if not 0 <= count <= MOST_IMPLIED:
-        raise BadDump(f"it declares {count:,} hosts; a graph has at most 1,024")
+        raise BadDump(f"it declares {count:,} hosts; a graph has at most {MOST_HOSTS:,}")
 
 
 def unpacked(data: bytes, heads: Optional[List[bytes]] = None) -> bytes:

@@ -23,12 +23,12 @@ def hosts_of(words: Iterable[str], names: Sequence[str], option: str) -> List[st
     >>> hosts_of(["fra-1,hel-1"], ["fra-1.example.net", "hel-1.example.net"], "--without")
     ['fra-1.example.net', 'hel-1.example.net']
     """
-    known = dict.fromkeys(names)
+    known = {**{shown(name): name for name in names}, **{name: name for name in names}}
     short = short_names(names)
     found: Dict[str, None] = {}
     for word in words:
         for part in [word] if word in known else parts_of(word, option):
-            found[part if part in known else full_name(part, short, names, option)] = None
+            found[known[part] if part in known else full_name(part, short, names, option)] = None
     return list(found)
 
 

@@ -3,7 +3,7 @@
 from __future__ import annotations
 
 import html
-from typing import Iterable, Optional, Tuple
+from typing import Iterable, Optional, Sequence, Tuple
 
 from .markup import counted, joined_html, names_html, table
 from .reports import Report
@@ -28,19 +28,14 @@ def site_of(sites: Optional[Sites], crashed: Iterable[str], cut_off: Iterable[st
     return f"<p>{said[:1].upper()}{said[1:]}.</p>" if said else ""
 
 
-def worse_of(found: Worst[str], report: Report[str], away: int, sites: Optional[Sites], ending: str) -> str:
-    """Which crash of as few hosts cuts off more than that of the picture."""
-    if not found.cuts or report.k == 0 or len(found.cuts[0].cut_off) <= away:
-        return ""
-    cut = found.cuts[0]
-    crash = "another crash cuts off more" if report.k == 1 else "as few crashes cut off more"
-    pieces = f", in {cut.pieces - 1} pieces" if cut.pieces > 2 else ""
-    who = names_html(cut.cut_off, MOST_NAMES)
+def of_certificate(report: Report[str], cut_off: Sequence[str], sites: Optional[Sites], ending: str) -> str:
+    """What the cut of the certificate does, where a worse one is told first."""
+    crash = f"{joined_html(report.cut)} crash{'es' if report.k == 1 else ''}"
+    away = counted(len(cut_off), "host is", "hosts are")
     return (
-        f'<p>But {crash}: if <strong class="t-warm">'
-        f"{joined_html(cut.crashed)}</strong> crash{'es' if report.k == 1 else ''}, "
-        f"{counted(len(cut.cut_off), 'host is', 'hosts are')} cut off{pieces}: {who}.</p>"
-        + site_of(sites, cut.crashed, cut.cut_off, ending)
+        f"<p>This is the worst of the smallest cuts that were found. Picture, pieces and certificate have another one: "
+        f"if {crash}, {away} cut off: {names_html(cut_off, MOST_NAMES)}.</p>"
+        + site_of(sites, report.cut, cut_off, ending)
     )
 
 

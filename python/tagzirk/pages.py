@@ -8,28 +8,31 @@ import os
 import shlex
 from typing import Dict, List, Optional, Sequence, Tuple
 
-from .checks import check
 from .dumps import Dump
 from .errors import BadGraph
 from .frame import COLOURS, PAGE, colour_rules, framed, severity_of
 from .graphs import NamedGraph, shown
+from .limits import USUAL_HOSTS
 from .markup import counted, doubts_html, file_link, joined_html, names_html, shown_html, table
 from .mending import Mended, mend
-from .other_cuts import other_cuts, site_of, wider_of, worse_of
-from .programs import Program
+from .other_cuts import of_certificate, other_cuts, site_of, wider_of
+from .programs import Program, words_for
 from .progress import Progress
-from .proofs import VERSION, programs
+from .proofs import VERSION, asked_of, checker_for
 from .reports import Report, analysed
 from .sites import Sites
 from .stale import one_sided
 from .taken import doubts_in
 from .wide import widest
-from .worst import Worst, worst
+from .worst import Cut, Worst, worst
 
 # A certificate of more bytes is not put into the page, but told.
 MOST_BYTES = 16_000_000
 # So many hosts that are cut off, or weak, or have one-sided listings, are named.
 MOST_CUT_OFF, MOST_WEAK, MOST_STALE = 8, 10, 20
+# So many hosts of a piece are named where there are very many hosts; and so many links to add, or names to paste, stand
+# there.
+MOST_NAMED, MOST_ADDED, MOST_PASTED = 200, 1000, 1100
 
 
 def title_of(report: Report[str]) -> str:
@@ -58,14 +61,16 @@ def without_ending(graph: NamedGraph[str]) -> Tuple[str, NamedGraph[str]]:
     return ending, NamedGraph({name[: -len(ending)]: place for name, place in graph.ids.items()}, graph.links)
 
 
-def answer_of(report: Report[str], graph: NamedGraph[str], pieces: List[List[int]]) -> str:
-    """The answer in sentences."""
+def answer_of(
+    report: Report[str], graph: NamedGraph[str], crashed: Sequence[str], pieces: List[List[int]]
+) -> str:
+    """The answer in sentences, by the crash of a smallest cut and the pieces that it leaves."""
     if report.is_linked:
         return f"Every two of its {counted(len(graph.ids), 'host')} are linked, so no crash parts two that survive."
     away = sum(map(len, pieces)) - max(map(len, pieces))
     if report.k == 0:
         return f"Without any crash, {counted(away, 'host')} can't reach the largest piece."
-    cut = f'<strong class="t-warm">{joined_html(report.cut)}</strong>'
+    cut = f'<strong class="t-warm">{joined_html(crashed)}</strong>'
     fewer = (
         "No single crash parts two hosts that survive."
         if report.k == 2
@@ -79,7 +84,7 @@ def answer_of(report: Report[str], graph: NamedGraph[str], pieces: List[List[int
         else f"the largest of the {len(pieces)} pieces that are left has {max(map(len, pieces))}"
     )
     largest = max(pieces, key=len)
-    who = names_html((graph.names[it] for piece in pieces if piece is not largest for it in piece), MOST_CUT_OFF)
+    who = names_html(graph.named(it for piece in pieces if piece is not largest for it in piece), MOST_CUT_OFF)
     return (
         f"If {cut} {'crashes' if report.k == 1 else 'crash'}, {counted(away, 'host is', 'hosts are')} cut off, and "
         f"{rest}. {fewer}</p><p>Cut off: {who}"
@@ -103,13 +108,16 @@ def pieces_title(report: Report[str], pieces: List[List[int]]) -> str:
 
 def pieces_of(report: Report[str], graph: NamedGraph[str], pieces: List[List[int]]) -> str:
     """Who is in which connected component after the crash, the largest first."""
-    names, colours = graph.names, colours_of(report, pieces)
+    colours = colours_of(report, pieces)
+    most = MOST_NAMED if len(graph.ids) > USUAL_HOSTS else None
     rows = []
     for piece in sorted(pieces, key=len, reverse=True)[:50]:
         kind = f'<span class="t-swatch t-piece-{colours.get(piece[0], 0)}"></span>'
-        rows.append((kind + counted(len(piece), "host"), names_html(names[it] for it in piece)))
+        rows.append((kind + counted(len(piece), "host"), names_html(graph.named(piece), most)))
     more = f"<p>{len(pieces) - 50} further pieces are not shown.</p>" if len(pieces) > 50 else ""
     told = "" if not report.cut else f"<p>Crashed: {names_html(report.cut)}</p>"
+    if most and any(len(it) > most for it in pieces):
+        more += f"<p>Of each piece {most} hosts are named. The picture has a disc for each side.</p>"
     return told + table(("piece", "its hosts"), rows) + more
 
 
@@ -134,32 +142,53 @@ def added_of(report: Report[str], to: int, mended: Optional[Mended[str]], why: s
         return "<p>Nothing: all links are there.</p>"
     if not mended:
         return f"<p>{html.escape(why)}</p>"
-    rows = ((shown_html(a), shown_html(b)) for a, b in mended.links)
+    rows = ((shown_html(a), shown_html(b)) for a, b in mended.links[:MOST_ADDED])
+    number = len(mended.links) - MOST_ADDED
+    more = f"<p>{number:,} further links are not shown.</p>" if number > 0 else ""
+    spare = f"{mended.untried} of them may be to spare." if mended.untried else "None of them can be left out."
     return (
         f"<p>With {counted(len(mended.links), 'more link')} k is {mended.after.k}, which overlay-check confirmed: few "
-        f"links, though others may be fewer. None of them can be left out. "
-        f"(<code>tagzirk mend --to {to}</code>)</p>" + table(("from", "to"), rows)
+        f"links, though others may be fewer. {spare} "
+        f"(<code>tagzirk mend --to {to}</code>)</p>" + table(("from", "to"), rows) + more
     )
 
 
-def checking_of(report: Report[str], graph_file: str, line: str) -> str:
+def line_of(report: Report[str]) -> str:
+    """What the checker says of the certificate of a report, which it said yes to.
+
+    >>> from tagzirk import analyse, check
+    >>> report = analyse([("a", "b"), ("b", "c")])
+    >>> line_of(report), line_of(report) == check(report.certificate).line
+    ('holds 0 split k 1 cut 2 near 3 far 1 side 3', True)
+    """
+    if report.near is None or report.far is None:
+        return f"holds 0 linked k {report.k}"
+    cut, side = (",".join(str(it) for it in sorted(report.ids[name] for name in told)) or "-"
+                 for told in (report.cut, report.side))
+    near, far = report.ids[report.near], report.ids[report.far]
+    return f"holds 0 split k {report.k} cut {cut} near {near} far {far} side {side}"
+
+
+def checking_of(report: Report[str], graph_file: str) -> str:
     """The certificate, and how to check it."""
+    line, large, checker = line_of(report), "".join(words_for(len(report.ids))), checker_for(len(report.ids))
+    large = f" {large}" if large else ""
     if len(report.certificate) > MOST_BYTES:
         certificate = (
             f"The certificate has {len(report.certificate):,} bytes, and is not in this page: <code>overlay "
-            "analyse --certificate overlay.graph | tail -n 1</code> prints it."
+            f"analyse{large} --certificate overlay.graph | tail -n 1</code> prints it."
         )
     else:
         certificate = f"Save {file_link('certificate.json', 'application/json', report.certificate)}, the certificate,"
     commands = html.escape(
-        f"$ overlay-check certificate.json\n{line if len(line) < 200 else line[:200] + ' ..'}\n"
-        "$ overlay graph certificate.json > theirs.graph\n"
+        f"$ {checker} certificate.json\n{line if len(line) < 200 else line[:200] + ' ..'}\n"
+        f"$ overlay graph{large} certificate.json > theirs.graph\n"
         "$ grep -v '^#' overlay.graph | cmp - theirs.graph"
     )
     return (
         f"<p>{certificate} and {file_link('overlay.graph', 'text/plain', graph_file)}, the graph with its names.</p>"
         f"<pre>{commands}</pre>"
-        "<p>With overlay-check of your own you need not trust who made this page. <code>cmp</code> prints nothing if"
+        f"<p>With {checker} of your own you need not trust who made this page. <code>cmp</code> prints nothing if"
         " the certificate is of this graph; whether this graph is your overlay, only its hosts can say. Who is in "
         "which piece, and the weakest hosts, plain Python has counted.</p>"
     )
@@ -178,10 +207,11 @@ def about_of(dump: Dump, taken: Optional[datetime.datetime], overlay: Tuple[Opti
     """Of what the page is, and who made it when."""
     now = datetime.datetime.now().astimezone().strftime("%Y-%m-%d %H:%M %Z")
     of = f", taken {taken.strftime('%Y-%m-%d %H:%M %Z')}" if taken else ""
-    checker = programs(*overlay).get("overlay-check")
+    name = checker_for(len(dump.graph.ids))
+    checker = asked_of(len(dump.graph.ids), *overlay).get(name)
     proved = {True: "proved", False: "not proved", None: "not known to be proved"}[checker and checker.is_proved]
     return (
-        f"{shown_html(dump.name)}{of}. Page made {now} by tagzirk {VERSION}, with an overlay-check that is {proved}. "
+        f"{shown_html(dump.name)}{of}. Page made {now} by tagzirk {VERSION}, with an {name} that is {proved}. "
         "A dump ages: links come and go."
     )
 
@@ -189,11 +219,15 @@ def about_of(dump: Dump, taken: Optional[datetime.datetime], overlay: Tuple[Opti
 def paste_of(report: Report[str], cut_off: Sequence[str], found: Worst[str], ending: str) -> str:
     """Whole names, for the command line."""
     told = [("The cut", report.cut), ("Cut off", cut_off)]
-    if report.k and found.cuts and len(found.cuts[0].cut_off) > len(cut_off):
-        told += [("The cut that cuts off more", found.cuts[0].crashed), ("Cut off", found.cuts[0].cut_off)]
+    worse = found.worse_than(report.k, len(cut_off))
+    if worse:
+        told += [("The cut that cuts off more", worse.crashed), ("Cut off", worse.cut_off)]
     parts = []
     for title, names in told:
-        if names:
+        if len(names) > MOST_PASTED:
+            has_all = "<code>tagzirk status FILE --json</code> has all names"
+            parts.append(f"<p>{title}: {len(names):,} hosts. {has_all}.</p>")
+        elif names:
             whole = ",".join(shown(f"{it}{ending}") for it in names)
             parts.append(f'<p>{title}</p><pre class="t-paste">{html.escape(shlex.quote(whole))}</pre>')
     if not parts:
@@ -246,14 +280,13 @@ def page(
             why = str(reason)
     wide = widest(graph, report, overlay=overlay, overlay_check=overlay_check, progress=progress)
     found = worst(graph, report, overlay=overlay, overlay_check=overlay_check, progress=progress)
-    line = check(report.certificate, overlay_check=overlay_check).line
     return PAGE.substitute(
         **parts_of(dump, graph, report),
         **parts_of_cuts(graph, ending, report, found, wide, Sites(site, dump.graph.ids) if site else None),
         about=about_of(dump, taken, (overlay, overlay_check)),
         picture=framed(report.picture(overlay=overlay)),
         added=added_of(report, wanted, mended, why),
-        checking=checking_of(report, dump.graph.text_with_names, line),
+        checking=checking_of(report, dump.graph.text_with_names),
         notes=notes_of(dump, one_sided(dump, overlay)),
     )
 
@@ -282,10 +315,14 @@ def parts_of_cuts(
     """The parts of a page that tell who is cut off by what."""
     pieces = graph.pieces({graph.ids[it] for it in report.cut})
     largest = max(pieces, key=len)
-    cut_off = [graph.names[it] for piece in pieces if piece is not largest for it in piece]
+    cut_off = graph.named(it for piece in pieces if piece is not largest for it in piece)
+    worse = found.worse_than(report.k, len(cut_off))
+    told = worse or Cut(report.cut, cut_off, len(pieces))
+    left = graph.pieces({graph.ids[it] for it in told.crashed})
     return {
-        "answer": f"<p>{answer_of(report, graph, pieces)}</p>{site_of(sites, report.cut, cut_off, ending)}"
-        + worse_of(found, report, len(cut_off), sites, ending)
+        "answer": f"<p>{answer_of(report, graph, told.crashed, left)}</p>"
+        + site_of(sites, told.crashed, told.cut_off, ending)
+        + (of_certificate(report, cut_off, sites, ending) if worse else "")
         + wider_of(wide, report, found)
         + (f'<p class="t-soft">All names end in {shown_html(ending)}, which is left out here.</p>' if ending else ""),
         "pieces_title": pieces_title(report, pieces),

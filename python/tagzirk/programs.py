@@ -15,6 +15,7 @@ import threading
 from typing import IO, Dict, Iterator, List, NamedTuple, NoReturn, Optional, Sequence, Set, Tuple, Union
 
 from .errors import ProgramFailed, ProgramMissing, Refused
+from .limits import USUAL_HOSTS
 
 Program = Union[str, "os.PathLike[str]"]
 # What a program reads: bytes, or an open file, from where it stands.
@@ -31,8 +32,13 @@ beginning: Set[int] = set()
 ending: List[int] = []
 # How many characters of a text are put into a file at once.
 BLOCK = 1 << 20
-# No line of an answer has so many bytes: 2,048 ids of ten digits, and some words.
-LINE = 1 << 16
+# No line of an answer has so many bytes: 65,536 ids of ten digits, and some words.
+LINE = 1 << 20
+# No word is longer that a program is given: the system takes few that are.
+MOST_WORD = 60_000
+# The option by which `overlay` takes graphs of more nodes than it does without, what it says of more nodes, and of an
+# option that it does not know.
+LARGE, TOO_MANY, UNKNOWN = "--large", "refused 31", "unexpected argument"
 
 
 class Ended(NamedTuple):
@@ -44,9 +50,10 @@ class Ended(NamedTuple):
 
 
 def find(crate: str, given: Optional[Program]) -> str:
-    """The program of a crate, `overlay` or `overlay_check`: the one that is given; or that of the variable
-    TAGZIRK_OVERLAY or TAGZIRK_OVERLAY_CHECK; or that on PATH; or that of the checkout in which this file is: the one
-    that bin/build made, which is proved, or else the one that bin/overlay or bin/overlay-check made, which is not."""
+    """The program of a crate, `overlay`, `overlay_check` or `overlay_check_large`: the one that is given; or that of
+    the variable TAGZIRK_OVERLAY, TAGZIRK_OVERLAY_CHECK or TAGZIRK_OVERLAY_CHECK_LARGE; or that on PATH; or that of the
+    checkout in which this file is: the one that bin/build made, which is proved, or else the one that bin/overlay,
+    bin/overlay-check or bin/overlay-check-large made, which is not."""
     name, variable = crate.replace("_", "-"), f"TAGZIRK_{crate.upper()}"
     named = given or os.environ.get(variable)
     if named:
@@ -59,8 +66,9 @@ def find(crate: str, given: Optional[Program]) -> str:
     place = unproved(crate)
     if place:
         return place
+    argument = crate.replace("_large", "")
     raise ProgramMissing(
-        f"the program {name} was not found: name it by the argument {crate} or the variable {variable}, put it on "
+        f"the program {name} was not found: name it by the argument {argument} or the variable {variable}, put it on "
         f"PATH by bin/install, or build it in the checkout, by bin/build or, without a proof, by bin/{name} --version"
     )
 
@@ -139,6 +147,39 @@ def end_all(status: int) -> None:
         raise SystemExit(status)
 
 
+def words_for(nodes: int) -> List[str]:
+    """The words that `overlay` needs for a graph of so many nodes."""
+    return [LARGE] if nodes > USUAL_HOSTS else []
+
+
+def call_for_any(program: str, words: Sequence[str], data: bytes) -> Ended:
+    """The same of `overlay`, where it is not known how many nodes are in what it reads: with `--large` only if they are
+    too many without. A program that does not know this option has said so of them already."""
+    ended = call(program, words, data)
+    if ended.status == 0 or ended.err.partition("\n")[0] != TOO_MANY:
+        return ended
+    of_large = call(program, [*words, LARGE], data)
+    return ended if knows_no_large(of_large) else of_large
+
+
+@contextlib.contextmanager
+def group_word(members: Optional[Sequence[int]]) -> Iterator[List[str]]:
+    """The option that names a group by its ids, if there is one: in a file, if it is longer than a word may be."""
+    ids = ",".join(map(str, members or ()))
+    if len(ids) <= MOST_WORD:
+        yield [] if members is None else [f"--group={ids}"]
+        return
+    with tempfile.NamedTemporaryFile("w", suffix=".ids") as file:
+        file.write(ids)
+        file.flush()
+        yield [f"--group=@{file.name}"]
+
+
+def knows_no_large(ended: Ended) -> bool:
+    """Whether a program does not know the option `--large`."""
+    return ended.status == 2 and UNKNOWN in ended.err and LARGE in ended.err
+
+
 def refuse(line: str, reason: str) -> NoReturn:
     """Raises what a line such as `refused 31` says."""
     said = REFUSED.fullmatch(line)
@@ -149,6 +190,8 @@ def refuse(line: str, reason: str) -> NoReturn:
 
 def demand_end(ended: Ended) -> None:
     """Raises what standard error says of a program that did not reach its end."""
+    if knows_no_large(ended):
+        raise ProgramFailed(f"this overlay is older than the package, and takes at most {USUAL_HOSTS:,} nodes")
     if ended.status != 0:
         line, _, reason = ended.err.partition("\n")
         refuse(line, reason)

@@ -7,16 +7,22 @@ import os
 import pathlib
 import re
 import shutil
-from typing import Dict, List, NamedTuple, Optional
+from typing import Dict, List, Mapping, NamedTuple, Optional
 
 from .errors import ProgramMissing, TagzirkError
+from .limits import USUAL_HOSTS
 from .programs import CHECKOUT, Program, call, find
 
 VERSION = "1.0"
 # Where bin/install tells of the programs that it put into PREFIX/bin, as seen from that folder.
 RECORD = pathlib.Path("..", "share", "tagzirk", "programs")
 LINE = re.compile(r"([0-9a-f]{64}) (proved|unproved) (\S+)")
-NAMES = {"overlay": "overlay", "overlay_check": "overlay-check"}
+LARGE = "overlay_check_large"
+NAMES = {
+    "overlay": "overlay",
+    "overlay_check": "overlay-check",
+    LARGE: "overlay-check-large",
+}
 
 
 class Known(NamedTuple):
@@ -30,12 +36,27 @@ class Known(NamedTuple):
         return f"{self.place}: {words[self.is_proved]}"
 
 
-def programs(overlay: Optional[Program] = None, overlay_check: Optional[Program] = None) -> Dict[str, Known]:
-    """Both programs, by their names. One that is not there is left out."""
+def checker_for(nodes: int) -> str:
+    """The name of the checker of certificates of so many nodes."""
+    return NAMES[LARGE if nodes > USUAL_HOSTS else "overlay_check"]
+
+
+def asked_of(
+    nodes: int, overlay: Optional[Program] = None, overlay_check: Optional[Program] = None
+) -> Dict[str, Known]:
+    """Both programs that are asked about a graph of so many nodes, by their names; a checker that is given is asked
+    about any. One that is not there is left out."""
+    checker = LARGE if nodes > USUAL_HOSTS else "overlay_check"
+    return programs({"overlay": overlay, checker: overlay_check})
+
+
+def programs(given: Mapping[str, Optional[Program]]) -> Dict[str, Known]:
+    """The programs of these crates, by their names, or those that are given for them. One that is not there is left
+    out."""
     found = {}
-    for crate, given in ("overlay", overlay), ("overlay_check", overlay_check):
+    for crate, program in given.items():
         try:
-            place = find(crate, given)
+            place = find(crate, program)
         except ProgramMissing:
             continue
         found[NAMES[crate]] = Known(place, is_proved(pathlib.Path(place), crate))
@@ -63,12 +84,15 @@ def is_proved(place: pathlib.Path, crate: str) -> Optional[bool]:
 
 def versions() -> str:
     """The version of the package, and the programs that it asks, a line each."""
-    found = programs()
+    found = programs(dict.fromkeys(NAMES))
     lines = [f"tagzirk {VERSION}"]
     for crate, name in NAMES.items():
         variable = f"TAGZIRK_{crate.upper()}"
         if name not in found:
-            lines.append(f"{name} was not found: put it on PATH by bin/install, or set the variable {variable} to it")
+            of = f", which more than {USUAL_HOSTS:,} nodes need," if crate == LARGE else ""
+            lines.append(
+                f"{name}{of} was not found: put it on PATH by bin/install, or set the variable {variable} to it"
+            )
         elif not shutil.which(found[name].place):
             lines.append(f"{name} was not found: {variable} is {found[name].place}, which is no program")
         else:
@@ -89,9 +113,9 @@ def what_it_says(place: str) -> str:
 def strangers() -> List[str]:
     """What is said of a program that does not call itself as the one whose place it takes."""
     told = []
-    for name, known in programs().items():
+    for name, known in programs(dict.fromkeys(NAMES)).items():
         if not re.search(rf"\b{name}(?!-)\b", what_it_says(known.place)):
             variable = f"TAGZIRK_{name.replace('-', '_').upper()}"
             by = f", which {variable} names," if os.environ.get(variable) else ""
-            told.append(f"{known.place}{by} does not say that it is {name}: `tagzirk --version` tells both programs")
+            told.append(f"{known.place}{by} does not say that it is {name}: `tagzirk --version` tells all programs")
     return told

@@ -13,10 +13,13 @@ from .bits import Bits, Hosts, number_of
 from .errors import BadDump, BadGraph
 from .graphs import NamedGraph, Node, is_name, shown
 from .json_files import parsed
+from .limits import USUAL_HOSTS
 from .progress import Progress
 
 # So many racks at most are lost at once, and so many sets of racks are tried.
 MOST_RACKS, MOST_SETS = 3, 200_000
+# Of a large overlay several racks at once are lost only where so many hosts are looked at in all.
+MOST_READ = 40_000_000
 
 
 @dataclass(frozen=True)
@@ -43,17 +46,18 @@ def fewest_racks(
     >>> fewest_racks(ring, {"R1": ["a"], "R2": ["b"], "R3": ["d", "e"], "R4": ["c"]})
     Loss(racks=('R1', 'R4'), crashed=('a', 'c'), cut_off=('b',), number=2, tried=2)
     """
-    bits, names = Bits(graph), graph.names
+    bits = Bits(graph)
     groups = [(rack, bits.of(ids_of_rack(graph, rack, hosts))) for rack, hosts in racks.items()]
     tried = -1
     for number in range(min(MOST_RACKS, len(groups)) + 1):
-        if math.comb(len(groups), number) > MOST_SETS:
+        sets = math.comb(len(groups), number)
+        if sets > MOST_SETS or number > 1 and len(bits.nodes) > USUAL_HOSTS and sets * len(bits.nodes) > MOST_READ:
             break
         lost = [(them, crashed) for them, crashed in sets_of(groups, number, progress) if bits.is_split(crashed)]
         tried = number
         if lost:
             them, crashed = max(lost, key=lambda it: number_of(bits.cut_off(it[1])))
-            struck, cut_off = (tuple(names[it] for it in bits.ids(of)) for of in (crashed, bits.cut_off(crashed)))
+            struck, cut_off = (graph.named(bits.ids(of)) for of in (crashed, bits.cut_off(crashed)))
             return Loss(them, struck, cut_off, len(lost), tried)
     return Loss(None, (), (), 0, tried)
 

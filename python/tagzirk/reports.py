@@ -9,10 +9,12 @@ from typing import Any, Dict, Generic, Iterable, List, Optional, Tuple
 from .answers import Answer, read_answer
 from .certificates import members_of
 from .checks import Verdict, judged
+from .discs import discs
 from .errors import BadGraph, NotConfirmed
 from .graphs import Graph, NamedGraph, Node, is_name, named_graph, shown
 from .pictures import drawn
-from .programs import Program, call, demand_end, find, first_line, refuse, text_from
+from .limits import USUAL_HOSTS
+from .programs import Program, call, demand_end, find, first_line, group_word, refuse, text_from, words_for
 
 
 @dataclass(frozen=True)
@@ -65,19 +67,37 @@ class Report(Generic[Node]):
         `pair` draws the paths between two members that are not linked, and `fan` those from a member to members
         before it, each in a colour of its own. A certificate has them for some members only; for others `Refused` (86)
         is raised, which names those that there are, and `BadGraph` for what is no node. `overlay picture` draws it, and
-        only if the certificate holds.
+        only if the certificate holds. Of more than 1,024 nodes each side is one disc, and no paths are drawn.
 
         >>> picture = analyse([("a", "b"), ("b", "c"), ("c", "d"), ("d", "a")]).picture(fan="c")
         >>> picture.startswith("<svg")
         True
         """
         entry = []
+        if len(self.ids) > USUAL_HOSTS:
+            return self._discs(is_of_paths=pair is not None or fan is not None)
         if pair is not None:
             entry.append(self._pair(pair))
         if fan is not None:
             entry.append(f"--fan={self._id_of(fan)}")
         names = {place: name for name, place in self.ids.items()}
         return drawn(self.certificate, self.graph_file, names, entry, overlay)
+
+    def _discs(self, is_of_paths: bool) -> str:
+        """The picture of a large graph."""
+        if is_of_paths:
+            raise BadGraph(f"paths are drawn of at most {USUAL_HOSTS:,} nodes, and the graph has {len(self.ids):,}")
+        (links,) = members_of(self.certificate, "links")
+        ends = (None if name is None else self.ids[name] for name in (self.near, self.far))
+        return discs(NamedGraph(self.ids, links), self._title, [self.ids[it] for it in self.cut], *ends)
+
+    @property
+    def _title(self) -> str:
+        """What it says, in few words."""
+        if self.near is None:
+            return "Every two nodes are linked: no crash parts two that survive"
+        ends = f"{shown(self.near)} from {shown(self.far)}"
+        return f"Without a crash {ends} is separated" if self.k == 0 else f"Crashing {self.k} nodes separates {ends}"
 
     def _pair(self, pair: Tuple[Node, Node]) -> str:
         """The option that names two nodes."""
@@ -160,7 +180,7 @@ def analyse(graph: Graph[Node], group: Optional[Iterable[Node]] = None, workers:
     What is trusted: overlay-check, Python, and a few lines here. A report is given only after overlay-check said yes
     to its certificate, and the graph and the group in the certificate were compared with those that were given; else
     this raises `NotConfirmed`. The program overlay, which makes the certificate, need not be trusted. `Refused` says
-    why it refuses a graph: it takes 1 to 1,024 nodes.
+    why it refuses a graph: it takes 1 to 32,768 nodes. Of more than 1,024 the checker is overlay-check-large.
     """
     named = named_graph(graph)
     return analysed(named, named.members(group), workers, overlay=overlay, overlay_check=overlay_check)
@@ -169,16 +189,14 @@ def analyse(graph: Graph[Node], group: Optional[Iterable[Node]] = None, workers:
 def analysed(named: NamedGraph[Node], members: Optional[List[int]] = None, workers: int = 1, *,
              overlay: Optional[Program] = None, overlay_check: Optional[Program] = None) -> Report[Node]:
     """The same for a graph whose nodes have ids already, and a group of these."""
-    words = ["analyse", "--certificate", f"--workers={workers}"]
-    if members is not None:
-        words.append(f"--group={','.join(map(str, members))}")
-    with tempfile.TemporaryFile(buffering=0) as printed:
-        ended = call(find("overlay", overlay), words, named.text.encode(), printed)
+    words = ["analyse", "--certificate", f"--workers={workers}", *words_for(len(named.ids))]
+    with tempfile.TemporaryFile(buffering=0) as printed, group_word(members) as group:
+        ended = call(find("overlay", overlay), [*words, *group], named.text.encode(), printed)
         demand_end(ended)
         line, begin = first_line(printed)
         if line.startswith("refused "):
             refuse(line, ended.err)
-        answer = confirmed(judged(printed, overlay_check))
+        answer = confirmed(judged(printed, overlay_check, len(named.ids) > USUAL_HOSTS))
         certificate = text_from(printed, begin)
     if read_answer(line, "report") != answer:
         raise NotConfirmed(f"the report is not that of the certificate: {line}")
@@ -187,10 +205,10 @@ def analysed(named: NamedGraph[Node], members: Optional[List[int]] = None, worke
     return Report(
         k=answer.k,
         is_linked=answer.is_linked,
-        cut=tuple(names[place] for place in answer.cut),
+        cut=named.named(answer.cut),
         near=None if answer.near is None else names[answer.near],
         far=None if answer.far is None else names[answer.far],
-        side=tuple(names[place] for place in answer.side),
+        side=named.named(answer.side),
         group=None if members is None else tuple(names[place] for place in members),
         certificate=certificate,
         ids=named.ids,

@@ -6,7 +6,7 @@ from collections import Counter
 from typing import Dict, FrozenSet, Optional, Sequence, Set
 
 from .dumps import Dump, read_graph_file
-from .programs import Program, call, demand_end, find
+from .programs import Program, call_for_any, demand_end, find
 
 
 def one_sided(dump: Dump, overlay: Optional[Program] = None) -> Dict[str, int]:
@@ -31,7 +31,7 @@ def one_sided(dump: Dump, overlay: Optional[Program] = None) -> Dict[str, int]:
 
 def links_in(data: bytes, words: Sequence[str], overlay: Optional[Program]) -> Set[FrozenSet[str]]:
     """The links that `overlay import` finds in a dump, by names."""
-    ended = call(find("overlay", overlay), ["import", *words], data)
+    ended = call_for_any(find("overlay", overlay), ["import", *words], data)
     demand_end(ended)
     graph = read_graph_file(ended.out)
     return {frozenset(graph.names[it] for it in link) for link in graph.links}

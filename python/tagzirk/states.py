@@ -115,12 +115,18 @@ def by_writing(field: Field) -> Optional[Kind]:
     return Kind.NONE if field.name in (WRITTEN, REPEATED) and is_plain else None
 
 
+def all_down(field: Field) -> bool:
+    """Whether each value says that something is down."""
+    is_of_kind = is_kind(field, KIND_NAMES)
+    return not field.missing and all(len(it) <= MOST_LONG and says_down(field, it, is_of_kind) for it in field.counts)
+
+
 def by_one_value(field: Field) -> Optional[Kind]:
     """One value for all says no difference; if it is one of a state, it is told. That all are down is asked about."""
     if len(field.counts) != 1:
         return None
     value = next(iter(field.counts))
-    if len(value) <= MOST_LONG and says_down(field, value, is_kind(field, KIND_NAMES)):
+    if all_down(field):
         return Kind.ASKED
     is_number = value == "1" or value == "0" and is_kind(field, MEASURE_NAMES)
     is_answer = is_pair({value.casefold()}) and not is_number and not is_kind(field, KIND_NAMES)
@@ -147,7 +153,8 @@ def by_contact(field: Field) -> Optional[Kind]:
 
 
 def by_words(field: Field) -> Optional[Kind]:
-    """Values with words of states. If all have the same such words, as `Up 3 hours` and `Up 2 days`, they are one."""
+    """Values with words of states. If all have the same such words, as `Up 3 hours` and `Up 2 days`, they are one; and
+    it is asked about where all say that they are down, as `Down 3 hours` and `Down 2 days` do."""
     words = {text: frozenset(state_words(text)) for text in field.counts if text != MISSING}
     with_words = sum(field.counts[text] for text, it in words.items() if it)
     if not with_words:
@@ -158,7 +165,7 @@ def by_words(field: Field) -> Optional[Kind]:
     if len(words) > MOST_VALUES and 2 * with_words < len(field.said):
         # a word of some among other values, as a timeout among round trips
         return Kind.TOLD
-    return Kind.TOLD if len(set(words.values())) == 1 and not field.missing else Kind.ASKED
+    return Kind.TOLD if len(set(words.values())) == 1 and not field.missing and not all_down(field) else Kind.ASKED
 
 
 def by_name(field: Field) -> Optional[Kind]:

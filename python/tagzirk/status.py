@@ -114,9 +114,8 @@ def members_of(group: Iterable[str], graph: NamedGraph[str], left_out: Sequence[
 
 def pieces_after(report: Report[str], graph: NamedGraph[str]) -> Tuple[Tuple[str, ...], ...]:
     """The connected components that the crash of the cut leaves, the largest first."""
-    names = graph.names
     pieces = graph.pieces({graph.ids[it] for it in report.cut})
-    return tuple(tuple(names[it] for it in piece) for piece in sorted(pieces, key=len, reverse=True))
+    return tuple(graph.named(piece) for piece in sorted(pieces, key=len, reverse=True))
 
 
 def with_dead(

@@ -12,7 +12,7 @@ from typing import Dict, Iterable, List, NamedTuple, Optional, Sequence, Set, Tu
 from .beside import said_behind
 from .cells import peers_in_cell
 from .errors import BadDump
-from .limits import need_few
+from .limits import MOST_LINKS, need_few
 from .rows import rows_of
 from .values import FURTHER, HOST_FIELDS, LINK_ENDS, LISTING_ENDS, MOST_DIFFERENT as MOST_COLUMNS, Said, Scalar, Views
 from .written import Written
@@ -180,7 +180,7 @@ def parsed_rows(text: str, begin: int, between: str) -> List[Tuple[int, List[str
             if any("\n" in it for it in cells):
                 raise csv.Error("a text in quotes goes on in the next line")
             if any(cells):
-                need_few(len(rows), "rows")
+                need_few(len(rows), "rows", MOST_LINKS)
                 rows.append((begin + reader.line_num, cells))
     except csv.Error as why:
         raise BadDump(f"line {begin + reader.line_num}: it is no row of a table: {why}") from None

@@ -9,7 +9,7 @@ from .account import LEFT, MOST_NAMED, MOST_VALUES, RARE, account_of, doubtful, 
 from .asked import Asked
 from .errors import BadDump
 from .fields import MISSING, Field, fields_of, moment_of, most_of, number_of, span_of, text_of
-from .states import STATE_NAMES, Kind, clearness, kind_of
+from .states import STATE_NAMES, Kind, all_down, clearness, kind_of
 from .values import Scalar, Statement, Views, one_of
 from .written import tell_how_often
 
@@ -227,7 +227,7 @@ def question(fields: Sequence[Field]) -> str:
     word = f"{first.name}={'LOW..HIGH' if is_range else 'VALUE[,VALUE]'}"
     unit = ", in seconds before the newest," if is_range and first.moments else ""
     word = f'"{word}"' if " " in word else word
-    some = "all" if all(len(it.counts) == 1 for it in fields) else "some"
+    some = "all" if all(map(all_down, fields)) else "some"
     return f"{some} may be down: {many(fields)}; say --up {word}{unit} to take those that are up, or --all to take all"
 
 

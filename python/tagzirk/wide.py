@@ -25,6 +25,7 @@ from typing import Any, Callable, Generic, Iterable, List, Optional, Sequence, S
 from .bits import Bits, number_of, places_of
 from .crashes import cut_off_by
 from .graphs import Graph, NamedGraph, Node, named_graph
+from .limits import USUAL_HOSTS
 from .programs import Program
 from .progress import Progress, each_at_once, processors
 from .reports import Report, analysed
@@ -35,6 +36,8 @@ Question = Tuple[List[Link], List[Link]]
 # So many links at most are asked about two by two, and so many pairs. Of many links at once no more is asked than takes
 # some ten seconds where there are 300 hosts: this is the most questions, times the crashes in question.
 MOST_LINKS, MOST_PAIRS, MOST_WORK = 400, 2000, 3000
+# Of a large graph no more is asked than reads so many links.
+MOST_READ = 2_000_000
 
 
 @dataclass(frozen=True)
@@ -125,8 +128,9 @@ class Search:
                     taken |= {a, b, *(self.around(a, b) if is_apart else ())}
         return [chosen[at::3] for at in range(3)]
 
-    def batches(self, anchors: List[List[Link]]) -> List[Question]:
-        """All links, in lists of such as are not linked to each other, each with anchors that they have no host of."""
+    def batches(self, anchors: List[List[Link]], most: int) -> Optional[List[Question]]:
+        """All links, in lists of such as are not linked to each other, each with anchors that they have no host of; or
+        None, if these are more than so many lists."""
         batches: List[Tuple[List[Link], List[Link], Set[int]]] = []
         hosts = [{host for link in them for host in link} for them in anchors]
         own = {link for them in anchors for link in them}
@@ -136,6 +140,8 @@ class Search:
             at = next(at for at in range(3) if hosts[at].isdisjoint((a, b)))
             batch = next((it for it in batches if it[1] is anchors[at] and it[2].isdisjoint((a, b))), None)
             if batch is None:
+                if len(batches) >= most:
+                    return None
                 batch = [], anchors[at], set()
                 batches.append(batch)
             batch[0].append((a, b))
@@ -198,10 +204,10 @@ def widest(
     if search.best is None:
         return None
     is_fewest = settle(search, report.k, workers or processors(), progress)
-    names, at = named.names, len(search.best)
+    at = len(search.best)
     return Wide(
-        tuple(names[it] for it in sorted(search.best)),
-        tuple(names[it] for it in cut_off_by(named, search.best)),
+        named.named(sorted(search.best)),
+        named.named(cut_off_by(named, search.best)),
         is_fewest,
         at if is_fewest else report.k,
     )
@@ -225,8 +231,11 @@ def questions_of(search: Search) -> Optional[List[Question]]:
     number = len(search.best)
     anchors = search.anchors(number)
     if all(len(it) == number for it in anchors):
-        questions: List[Question] = [([], [link for them in anchors for link in them]), *search.batches(anchors)]
-        return questions if len(questions) * number <= MOST_WORK else None
+        most = MOST_WORK // number
+        if len(search.graph.ids) > USUAL_HOSTS:
+            most = min(most, MOST_READ // len(search.graph.links))
+        batches = search.batches(anchors, most - 1)
+        return None if batches is None else [([], [link for them in anchors for link in them]), *batches]
     if len(search.graph.links) > MOST_LINKS:
         return None
     around = {link: search.around(*link) for link in search.graph.pairs}

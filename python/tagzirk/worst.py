@@ -10,6 +10,7 @@ from typing import Any, Callable, Dict, Generic, Iterable, Iterator, List, Optio
 
 from .bits import Bits, Hosts, number_of, places_of
 from .graphs import Graph, NamedGraph, Node, named_graph
+from .limits import USUAL_HOSTS
 from .programs import Program
 from .progress import Progress, each_at_once, processors
 from .reports import Report, analysed
@@ -20,6 +21,8 @@ MOST_STEPS, MOST_HOSTS, ENOUGH_STEPS = 3_000_000, 400, 300_000
 # So many hosts, at most one more, are taken two by two, to ask for a smallest cut that parts them; and of so many hosts
 # with k links these are taken for a cut.
 SPREAD, MOST_WEAK = 6, 64
+# Of a large overlay it is told of so many cuts whom they cut off.
+MOST_OF = 200
 # A pair is asked about four times or so, and each time all links are read: so many pairs at most are taken that so many
 # links are read.
 MOST_READ = 1_000_000
@@ -40,12 +43,17 @@ class Cut(Generic[Node]):
 @dataclass(frozen=True)
 class Worst(Generic[Node]):
     """The smallest cuts that cut off most of those that were `found`, which is a number; the worst first. If `is_all`,
-    these are all smallest cuts that there are. `of` has for each host that is in one of them the worst of these."""
+    these are all smallest cuts that there are. `of` has for each host that is in one of them the worst of these; of a
+    large overlay it has hosts of the worst 200 alone."""
 
     cuts: Tuple[Cut[Node], ...]
     found: int
     is_all: bool
     of: Dict[Node, Cut[Node]] = field(repr=False, compare=False)
+
+    def worse_than(self, k: int, cut_off: int) -> Optional[Cut[Node]]:
+        """The worst cut, if it cuts off more hosts than so many, and something must crash."""
+        return self.cuts[0] if k and self.cuts and len(self.cuts[0].cut_off) > cut_off else None
 
 
 def parting(peers: Sequence[Sequence[int]], gone: Iterable[int]) -> Dict[int, int]:
@@ -268,14 +276,13 @@ def worst_of(hunt: Hunt, graph: NamedGraph[Node], most: int, is_all: bool) -> Wo
     def cut_of(hosts: Hosts) -> Cut[Node]:
         pieces = bits.pieces(hosts)
         crashed, away = (
-            tuple(names[it] for it in bits.ids(them))
-            for them in (hosts, bits.all & ~hosts & ~max(pieces, key=number_of))
+            graph.named(bits.ids(them)) for them in (hosts, bits.all & ~hosts & ~max(pieces, key=number_of))
         )
         return Cut(crashed, away, len(pieces))
 
     cuts = sorted(hunt.found, key=hunt.badness)
     worst_with: Dict[int, Hosts] = {}
-    for cut in cuts:
+    for cut in cuts if len(bits.nodes) <= USUAL_HOSTS else cuts[:MOST_OF]:
         for at in places_of(cut):
             worst_with.setdefault(at, cut)
     of = {names[bits.nodes[at]]: cut_of(cut) for at, cut in sorted(worst_with.items())}

@@ -144,7 +144,7 @@ class Import(Commands):
             (["each", empty], "refused 30", 1),
             (["mend", empty, "--to", 1], "refused 30", 1),
             (["report", empty], "refused 30", 1),
-            (["import", DUMPS / "too-many.json"], "1024", 1),
+            (["import", self.file("many", "".join(f"hub leaf-{at}\n" for at in range(32768)))], "--only PATTERN", 1),
             (["import", self.file("x", "a b c\nd e\n")], "is no pair of names", 1),
             (["import", self.file("t", "a b rtt\nd e 3\n")], "--columns FROM,TO names the columns", 1),
             (["import", self.file("h", "from_host to_host\na b\nb c\n")], "say --columns from_host,to_host\n", 0),
@@ -157,8 +157,9 @@ class Import(Commands):
             (["each", self.file("worse.graph", "node 1\nnoode 2\n")], "worse.graph: line 2: no line begins", 1),
             (["import", self.file("a.json", '{"\\u001b[2J": 7}')], "the entry of \\u{1b}[2J is no list of peers", 1),
             (["mend", graph], "--to", 2),
-            (["mend", graph, "--to", 0], "from 1 to 1024", 2),
-            (["mend", graph, "--to", "x"], "1024", 2),
+            (["mend", graph, "--to", 0], "from 1 to 32768", 2),
+            (["mend", graph, "--to", 32769], "from 1 to 32768", 2),
+            (["mend", graph, "--to", "x"], "32768", 2),
             ([], "usage", 2),
             (["imprt", graph], "imprt", 2),
             (["history"], "FILE", 2),
@@ -409,8 +410,13 @@ class Pages(Commands):
         links += [(f"{pod}1", "hub-a") for pod in "pqr"] + [(f"{pod}2", "hub-b") for pod in "pqr"]
         out, _, _ = self.tagzirk("report", "--site", "^[pqr]", given=edges_of(links))
         words = re.sub("</?(?:span|strong)[^>]*>", "", out)
-        more = "But as few crashes cut off more: if hub-a, hub-b crash, 6 hosts are cut off, in 2 pieces:"
-        self.assertIn(more, words)
+        first = words.index("<p>If hub-a, hub-b crash, 6 hosts are cut off, and the largest of the 3 pieces")
+        self.assertLess(first, words.index("Picture, pieces and certificate have another one: if hub-a, p2 crash"))
+        self.assertIn("another one: if hub-a, p2 crash, 2 hosts are cut off: p1, p3.", words)
+        out, _, _ = self.tagzirk("each", given=edges_of(links))
+        told = "k is 2 now: Crashing hub-a, hub-b cuts off 6 hosts, the most of the smallest cuts found."
+        other = " The certificate has another one: Crashing hub-a, p2 separates hub-b from p1."
+        self.assertEqual(out.partition(other)[0], told)
         # by hand: the hubs, and in each pod its first two, or one of these with the hub of the other
         self.assertIn("There are 10 smallest cuts, of 2 hosts each.", words)
         self.assertRegex(words, r"<tr><td>hub-a, hub-b</td><td[^>]*>6</td><td[^>]*>3</td><td>sites \w \(3 hosts\), ")

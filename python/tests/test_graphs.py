@@ -1,10 +1,12 @@
 """Tests of how graphs are read. They need no program."""
 
+import random
 import unittest
 import warnings
 
+from tagzirk.dumps import read_graph_file
 from tagzirk.errors import BadGraph, ViewsDiffer
-from tagzirk.graphs import named_graph
+from tagzirk.graphs import in_file, named_graph, of_file
 
 try:
     import networkx
@@ -99,6 +101,11 @@ class Names(unittest.TestCase):
         self.assertEqual(text, "# 1 \\u{5c}u{d}\nnode 1\n# 2 b\\u{d}\nnode 2\n# 3 \\u{d800}\nnode 3\n"
                                "link 1 2\nlink 2 3\n")
         self.assertEqual(named_graph([(9, 4)]).text_with_names, "# 4 4\nnode 4\n# 9 9\nnode 9\nlink 4 9\n")
+        source, parts = random.Random(1), ["\\", "u", "{", "}", "5c", "a", "1b", "41", "\n", "\x1b", "d800", "\ud800"]
+        for _ in range(3000):
+            name = "".join(source.choices(parts, k=source.randint(0, 7)))
+            self.assertEqual(of_file(in_file(name)), name)
+        self.assertEqual(read_graph_file(text).ids, {"\\u{d}": 1, "b\r": 2, "\ud800": 3})
 
     def test_other_names_are_numbered(self):
         for names in ("a", "b"), (1, 2**32), (1, -1), (1, 2.5), (None, ("a", 1)), (False, True), (frozenset(), 3):

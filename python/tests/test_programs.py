@@ -25,8 +25,11 @@ import tagzirk
 from tagzirk.answers import read_answer
 from tagzirk.certificates import members_of
 from tagzirk.graphs import named_graph
+from tagzirk.limits import MOST_HOSTS
 from tagzirk.programs import CHECKOUT, find
 from tagzirk.reports import analysed
+
+from .large_overlays import no_large
 
 EXAMPLES = CHECKOUT / "examples"
 CHECKER = CHECKOUT / "tools" / "check.py"
@@ -177,13 +180,18 @@ class Analyses(unittest.TestCase):
     def test_what_is_refused(self):
         for graph, workers, number, reason in [
             ([], 1, 30, "the graph has no nodes"),
-            ({at: [] for at in range(1025)}, 1, 31, "a graph has at most 1024 nodes"),
             ([(1, 2)], 65, 73, "it takes a number from 1 to 64"),
         ]:
             with self.assertRaises(tagzirk.Refused) as raised:
                 tagzirk.analyse(graph, workers=workers)
             self.assertEqual((raised.exception.number, raised.exception.line), (number, f"refused {number}"))
             self.assertIn(reason, raised.exception.reason)
+
+    def test_too_many_nodes(self):
+        with self.assertRaises(tagzirk.ProgramFailed if no_large() else tagzirk.Refused) as raised:
+            tagzirk.analyse({at: [] for at in range(MOST_HOSTS + 1)})
+        told = "takes at most 1,024 nodes" if no_large() else "refused 31"
+        self.assertIn(told, str(raised.exception))
 
 
 class LargeCertificates(unittest.TestCase):

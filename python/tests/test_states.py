@@ -161,6 +161,7 @@ ALL_DOWN = [
     ("below.json", hosts(*[{"status": {"up": False}}] * 2), r"30 listings status.up is false \(30\)"),
     ("not-ready.json", hosts({"x": "NotReady"}, {"x": "NotReady"}), r"30 listings x is NotReady \(30\)"),
     ("idle.json", hosts({"state": "Idle"}, {"state": "Idle"}), r"30 listings state is Idle \(30\)"),
+    ("for.json", seen("x", ["Down 3 days", "Down 2 days"], ["Down 5 days"]), r"30 listings x is Down 5 days \(16\), D"),
     ("never.json", hosts({"handshake": "never"}, {"handshake": "never"}), r"30 listings handshake is never \(30\)"),
     ("hosts.json", each(lambda it: {"status": "dead", "peers": others(it)}), r"6 hosts status is dead \(6\)"),
     ("alive.json", each(lambda it: {"alive": "no", "peers": others(it)}), r"6 hosts alive is no \(6\)"),
@@ -208,7 +209,8 @@ class FalseAlarms(Dumps):
     def test_all_down_is_asked(self):
         for name, text, told in ALL_DOWN:
             with self.subTest(name):
-                with self.assertRaisesRegex(BadDump, f"all may be down: of {told}; say --up .*, or --all to take all"):
+                asked = f"all may be down: of {told}.*; say --up .*, or --all to take all"
+                with self.assertRaisesRegex(BadDump, asked):
                     taken(name, text)
                 links, _, notes = taken(name, text, Asked(all=True))
                 self.assertEqual(links, set(ALL))

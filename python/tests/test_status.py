@@ -134,7 +134,7 @@ class Status(Commands):
 
 class Only(Commands):
     def test_each_form(self):
-        # three rings of 400 hosts, which are more than can be analysed, joined in one place
+        # three rings of 400 hosts, joined in one place; and so many that they are more than can be analysed
         links = [(f"{site}-{at}", f"{site}-{(at + 1) % 400}") for site in ("ams", "fra", "hel") for at in range(400)]
         links += [("ams-0", "fra-0"), ("fra-1", "hel-1")]
         nodes = sorted(set(itertools.chain(*links)))
@@ -146,12 +146,15 @@ class Only(Commands):
             ("net.csv", "source,target\n" + "".join(f"{a},{b}\n" for a, b in links)),
         ):
             path = self.file(name, text)
-            _, err, status = self.tagzirk("import", path)
-            self.assertEqual((status, "--only PATTERN looks at hosts" in err), (1, True), err)
             out, err, status = self.tagzirk("import", path, "--only", "ams-*")
             self.assertEqual((out, status), (wanted, 0), name)
             self.assertIn("looked at alone, as --only ams-* asks: 400 of 1200 hosts", err)
         self.assertIn("--only oslo* matches the name of no host", self.tagzirk("import", path, "--only", "oslo*")[1])
+        most = self.file("most.edges", edges_of(links) + edges_of((f"ams-{at}", f"leaf-{at}") for at in range(32768)))
+        _, err, status = self.tagzirk("import", most)
+        self.assertEqual((status, "--only PATTERN looks at hosts" in err), (1, True), err)
+        out, _, status = self.tagzirk("import", most, "--only", "ams-?", "--only", "ams-??", "--only", "ams-[123]??")
+        self.assertEqual((out, status), (wanted, 0))
 
     def test_all_hosts_are_as_without_it(self):
         path = self.file("net.json", dump_with_dead())

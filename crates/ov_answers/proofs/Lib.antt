@@ -7,3 +7,4 @@ pub mod Fewer
 pub mod Tellings
 pub mod OfGraph
 pub mod Written
+pub mod Left

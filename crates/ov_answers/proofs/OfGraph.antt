@@ -1,9 +1,10 @@
 -- What was told of a graph and written, and what follows of the file that says the graph.
 use Rattle.std.proofs.Common.{◌≡◌, ◌∙◌, ◌⊎◌, ◌+◌, ℕ, Bool, true, false, List, Option, Some, Result, Ok, Err}
-use Rattle.std.proofs.Common.{inl, inr, refl, sym, ap, subst, arith, ◌++◌}
+use Rattle.std.proofs.Common.{inl, inr, refl, sym, ap, subst, arith, ◌++◌, ◌≤◌, length}
 use Rattle.std.specs.Prelude.{IfOk, IfErr, OnOk}
 use Rattle.std.specs.Io.KnownBytes.{Appends}
-use Rattle.ov_graph.specs.Links.{LinkGraph}
+use Rattle.ov_graph.specs.Links.{LinkGraph, most_of}
+use Rattle.ov_graph.specs.declared.size_limit.SizeLimit.{SizeLimit}
 use Rattle.ov_graphfile.specs.GraphFiles.{IsGraphFile}
 use Rattle.ov_graphfile.specs.NamesState.{NamesState}
 use Rattle.ov_graphfile.specs.NameLines.{AreNamesOf}
@@ -79,107 +80,122 @@ written g q names certificate named contents before after answer text (Err f) te
     }
 
 -- a fault of writing is one of an analysis
-writing_fault : (bytes : List ℕ) (f : RunFault) → IsWritingFault f → IsAnalysisFault (Some bytes) f
-writing_fault bytes fault.Write is = tt
-writing_fault bytes fault.OutOfMemory is = tt
-writing_fault bytes (fault.Line n) is = absurd is
-writing_fault bytes (fault.Params n) is = absurd is
-writing_fault bytes (fault.Graph g line) is = absurd is
-writing_fault bytes fault.Read is = absurd is
-writing_fault bytes (fault.Refused n refusal) is = absurd is
+writing_fault : (limit : SizeLimit) (bytes : List ℕ) (f : RunFault) → IsWritingFault f
+    → IsAnalysisFault limit (Some bytes) f
+writing_fault limit bytes fault.Write is = tt
+writing_fault limit bytes fault.OutOfMemory is = tt
+writing_fault limit bytes (fault.Line n) is = absurd is
+writing_fault limit bytes (fault.Params n) is = absurd is
+writing_fault limit bytes (fault.Graph g line) is = absurd is
+writing_fault limit bytes fault.Read is = absurd is
+writing_fault limit bytes (fault.Refused n refusal) is = absurd is
 
 -- ---- of a file without names
 
-plain_begun : {W : Type 0} (bytes : List ℕ) (g : LinkGraph) (q : List ℕ) (names : NamesState)
+plain_begun : {W : Type 0} (limit : SizeLimit) (bytes : List ℕ) (g : LinkGraph) (q : List ℕ) (names : NamesState)
     (group : Option (List ℕ)) (certificate named : Bool) (contents : W → Option (List ℕ)) (before after : SinkState W)
-    (result : Result ToldAnalysis RunFault) → named ≡ false → IsGraphFile bytes g → q ≡ members_of group g
+    (result : Result ToldAnalysis RunFault) → named ≡ false → IsGraphFile bytes g
+    → length g.nodes ≤ most_of limit → q ≡ members_of group g
     → IsToldOfGraph g q names certificate named contents before after result
     → (after ≡ before)
-    ⊎ BeginsAnalysis (Some bytes) group certificate (contents before.writer) (contents after.writer)
-plain_begun bytes g q names group certificate named contents before after result plain says members t = elim t.begun [
-  | inl e ↦ inl e
-  | inr b ↦ inr (
-    bytes,
-    b.0,
-    b.1,
-    refl,
-    unnamed bytes b.1 group certificate named b.0 g q names plain says members b.2,
-    b.3,
-  )
-]
+    ⊎ BeginsAnalysis limit (Some bytes) group certificate (contents before.writer) (contents after.writer)
+plain_begun limit bytes g q names group certificate named contents before after result plain says within members t =
+    elim t.begun [
+      | inl e ↦ inl e
+      | inr b ↦ inr (
+        bytes,
+        b.0,
+        b.1,
+        refl,
+        unnamed limit bytes b.1 group certificate named b.0 g q names plain says within members b.2,
+        b.3,
+      )
+    ]
 
-pub of_file : {W : Type 0} (bytes : List ℕ) (g : LinkGraph) (q : List ℕ) (names : NamesState)
+pub of_file : {W : Type 0} (limit : SizeLimit) (bytes : List ℕ) (g : LinkGraph) (q : List ℕ) (names : NamesState)
     (group : Option (List ℕ)) (certificate named : Bool) (contents : W → Option (List ℕ)) (before after : SinkState W)
-    (result : Result ToldAnalysis RunFault) → named ≡ false → IsGraphFile bytes g → q ≡ members_of group g
+    (result : Result ToldAnalysis RunFault) → named ≡ false → IsGraphFile bytes g
+    → length g.nodes ≤ most_of limit → q ≡ members_of group g
     → IsToldOfGraph g q names certificate named contents before after result
-    → IsAnalysisOf (Some bytes) contents before group certificate after (answered_of result)
-of_file bytes g q names group certificate named contents before after (Ok told) plain says members t = record {
-  prints = let p = t.tells in (
-    bytes,
-    p.0,
-    refl,
-    unnamed bytes p.0 group certificate named told.answered g q names plain says members p.1,
-    p.2,
-  );
-  begun = plain_begun bytes g q names group certificate named contents before after (Ok told) plain says members t;
-  sink = t.sink;
-  unwritten = tt;
-  fault = tt;
-}
-of_file bytes g q names group certificate named contents before after (Err f) plain says members t = record {
-  prints = tt;
-  begun = plain_begun bytes g q names group certificate named contents before after (Err f) plain says members t;
-  sink = t.sink ∙ ap (λ n. before.faults + n) (same_faults ToldAnalysis ReportOrRefusal f);
-  unwritten = t.unwritten;
-  fault = writing_fault bytes f t.kind;
-}
+    → IsAnalysisOf limit (Some bytes) contents before group certificate after (answered_of result)
+of_file limit bytes g q names group certificate named contents before after (Ok told) plain says within members t =
+    record {
+      prints = let p = t.tells in (
+        bytes,
+        p.0,
+        refl,
+        unnamed limit bytes p.0 group certificate named told.answered g q names plain says within members p.1,
+        p.2,
+      );
+      begun = plain_begun limit bytes g q names group certificate named contents before after (Ok told) plain says
+          within members t;
+      sink = t.sink;
+      unwritten = tt;
+      fault = tt;
+    }
+of_file limit bytes g q names group certificate named contents before after (Err f) plain says within members t =
+    record {
+      prints = tt;
+      begun = plain_begun limit bytes g q names group certificate named contents before after (Err f) plain says
+          within members t;
+      sink = t.sink ∙ ap (λ n. before.faults + n) (same_faults ToldAnalysis ReportOrRefusal f);
+      unwritten = t.unwritten;
+      fault = writing_fault limit bytes f t.kind;
+    }
 
 -- ---- of a file with names, of which nodes are gone
 
-named_begun : {W : Type 0} (bytes gone : List ℕ) (g h : LinkGraph) (q : List ℕ) (names : NamesState)
-    (group : Option (List ℕ)) (certificate named : Bool) (contents : W → Option (List ℕ)) (before after : SinkState W)
-    (result : Result ToldAnalysis RunFault) → IsGraphFile bytes g → AreNamesOf bytes g names → LosesNodes g gone h
+named_begun : {W : Type 0} (limit : SizeLimit) (bytes gone : List ℕ) (g h : LinkGraph) (q : List ℕ)
+    (names : NamesState) (group : Option (List ℕ)) (certificate named : Bool) (contents : W → Option (List ℕ))
+    (before after : SinkState W)
+    (result : Result ToldAnalysis RunFault) → IsGraphFile bytes g → length g.nodes ≤ most_of limit
+    → AreNamesOf bytes g names → LosesNodes g gone h
     → q ≡ members_of group h → IsToldOfGraph h q names certificate named contents before after result
     → (after ≡ before) ⊎ ((answered : ReportOrRefusal) × (text : List ℕ)
-    × IsTelling bytes gone group certificate named answered text
+    × IsTelling limit bytes gone group certificate named answered text
     × AppendsPrefixOf text (contents before.writer) (contents after.writer))
-named_begun bytes gone g h q names group certificate named contents before after result says keeps loses members t =
+named_begun limit bytes gone g h q names group certificate named contents before after result says within keeps loses
+    members t =
     elim t.begun [
       | inl e ↦ inl e
       | inr b ↦ inr (
         b.0,
         b.1,
-        told bytes b.1 gone group certificate named b.0 g h q names says keeps loses members b.2,
+        told limit bytes b.1 gone group certificate named b.0 g h q names says within keeps loses members b.2,
         b.3,
       )
     ]
 
-pub of_named_file : {W : Type 0} (bytes gone : List ℕ) (g h : LinkGraph) (q : List ℕ) (names : NamesState)
-    (group : Option (List ℕ)) (certificate named : Bool) (contents : W → Option (List ℕ)) (before after : SinkState W)
-    (result : Result ToldAnalysis RunFault) → IsGraphFile bytes g → AreNamesOf bytes g names → LosesNodes g gone h
+pub of_named_file : {W : Type 0} (limit : SizeLimit) (bytes gone : List ℕ) (g h : LinkGraph) (q : List ℕ)
+    (names : NamesState) (group : Option (List ℕ)) (certificate named : Bool) (contents : W → Option (List ℕ))
+    (before after : SinkState W)
+    (result : Result ToldAnalysis RunFault) → IsGraphFile bytes g → length g.nodes ≤ most_of limit
+    → AreNamesOf bytes g names → LosesNodes g gone h
     → q ≡ members_of group h → IsToldOfGraph h q names certificate named contents before after result
-    → IsToldOf bytes contents before gone group certificate named after result
-of_named_file bytes gone g h q names group certificate named contents before after (Ok x) says keeps loses members t =
+    → IsToldOf limit bytes contents before gone group certificate named after result
+of_named_file limit bytes gone g h q names group certificate named contents before after (Ok x) says within keeps loses
+    members t =
     record {
       tells = let p = t.tells in (
         p.0,
-        told bytes p.0 gone group certificate named x.answered g h q names says keeps loses members p.1,
+        told limit bytes p.0 gone group certificate named x.answered g h q names says within keeps loses members p.1,
         p.2,
       );
-      begun = named_begun bytes gone g h q names group certificate named contents before after (Ok x) says keeps loses
-          members t;
+      begun = named_begun limit bytes gone g h q names group certificate named contents before after (Ok x) says within
+          keeps loses members t;
       sink = t.sink;
       unwritten = tt;
       fault = tt;
     }
-of_named_file bytes gone g h q names group certificate named contents before after (Err f) says keeps loses members t =
+of_named_file limit bytes gone g h q names group certificate named contents before after (Err f) says within keeps loses
+    members t =
     record {
       tells = tt;
-      begun = named_begun bytes gone g h q names group certificate named contents before after (Err f) says keeps loses
-          members t;
+      begun = named_begun limit bytes gone g h q names group certificate named contents before after (Err f) says within
+          keeps loses members t;
       sink = t.sink;
       unwritten = t.unwritten;
-      fault = writing_fault bytes f t.kind;
+      fault = writing_fault limit bytes f t.kind;
     }
 
 -- ---- answers that begin
@@ -204,5 +220,6 @@ pub file_told : (g : LinkGraph) (q : List ℕ) (c : CheckedState) (outline : Cer
     × (answer.text.items ≡ report_line 0 outline g q ++ lines))
     → TellsAnswer g q names true named answer.told.answered (with_file_of answer.text.items (Some c))
 file_told g q c outline names named answer is valid alike said begun =
-    subst (λ (a : ReportOrRefusal). TellsAnswer g q names true named a (with_file_of answer.text.items (Some c))) (sym said)
+    subst (λ (a : ReportOrRefusal). TellsAnswer g q names true named a (with_file_of answer.text.items (Some c)))
+    (sym said)
     (certified g q c outline names named begun.0 answer.text.items is valid alike begun.1 begun.2)

@@ -1,7 +1,8 @@
 -- What is told of an answer, and of the file that it is for.
 use Rattle.std.proofs.Common.{◌≡◌, ◌∙◌, ◌⊎◌, ◌+◌, ℕ, Bool, true, false, List, [], ◌++◌, Option, Some, Result, Ok, Err}
-use Rattle.std.proofs.Common.{inl, inr, refl, sym, ap, subst, arith, append-nil, append_assoc}
-use Rattle.ov_graph.specs.Links.{LinkGraph}
+use Rattle.std.proofs.Common.{◌≤◌, length, inl, inr, refl, sym, ap, subst, arith, append-nil, append_assoc}
+use Rattle.ov_graph.specs.Links.{LinkGraph, most_of}
+use Rattle.ov_graph.specs.declared.size_limit.SizeLimit.{SizeLimit}
 use Rattle.ov_graphfile.specs.GraphFiles.{IsGraphFile}
 use Rattle.ov_cert.specs.State.{CheckedState}
 use Rattle.ov_cert.specs.Valid.{IsValidForGroup, k_of}
@@ -84,13 +85,15 @@ certified g q c outline names named lines text answer valid same are is =
     )
 
 -- with the file that says the graph and keeps the names it is what is told of the file
-pub told : (bytes text gone : List ℕ) (group : Option (List ℕ)) (certificate named : Bool) (answered : ReportOrRefusal)
-    (g h : LinkGraph) (q : List ℕ) (names : NamesState) → IsGraphFile bytes g → AreNamesOf bytes g names
+pub told : (limit : SizeLimit) (bytes text gone : List ℕ) (group : Option (List ℕ)) (certificate named : Bool)
+    (answered : ReportOrRefusal) (g h : LinkGraph) (q : List ℕ) (names : NamesState) → IsGraphFile bytes g
+    → length g.nodes ≤ most_of limit → AreNamesOf bytes g names
     → LosesNodes g gone h → q ≡ members_of group h → TellsAnswer h q names certificate named answered text
-    → IsTelling bytes gone group certificate named answered text
-told bytes text gone group certificate named answered g h q names says keeps loses members tells = record {
+    → IsTelling limit bytes gone group certificate named answered text
+told limit bytes text gone group certificate named answered g h q names says within keeps loses members tells = record {
   graph = g;
   says = says;
+  within = within;
   names = names;
   keeps = keeps;
   left = h;
@@ -102,28 +105,28 @@ same : (m : ℕ) → m ≡ m + 0
 same m = omega arith
 
 -- nothing was written of a file that was refused
-pub refused : {W : Type 0} (bytes : List ℕ) (contents : W → Option (List ℕ)) (sink : SinkState W) (gone : List ℕ)
-    (group : Option (List ℕ)) (certificate named : Bool) (f : RunFault) → IsTextFault bytes f
-    → IsToldOf bytes contents sink gone group certificate named sink (Err f)
-refused bytes contents sink gone group certificate named (fault.Line n) is = record {
+pub refused : {W : Type 0} (limit : SizeLimit) (bytes : List ℕ) (contents : W → Option (List ℕ)) (sink : SinkState W)
+    (gone : List ℕ) (group : Option (List ℕ)) (certificate named : Bool) (f : RunFault) → IsTextFault limit bytes f
+    → IsToldOf limit bytes contents sink gone group certificate named sink (Err f)
+refused limit bytes contents sink gone group certificate named (fault.Line n) is = record {
   tells = tt;
   begun = inl refl;
   sink = same sink.faults;
   unwritten = λ other. refl;
   fault = is;
 }
-refused bytes contents sink gone group certificate named (fault.Params n) is = absurd is
-refused bytes contents sink gone group certificate named (fault.Graph g line) is = record {
+refused limit bytes contents sink gone group certificate named (fault.Params n) is = absurd is
+refused limit bytes contents sink gone group certificate named (fault.Graph g line) is = record {
   tells = tt;
   begun = inl refl;
   sink = same sink.faults;
   unwritten = λ other. refl;
   fault = is;
 }
-refused bytes contents sink gone group certificate named fault.Read is = absurd is
-refused bytes contents sink gone group certificate named fault.Write is = absurd is
-refused bytes contents sink gone group certificate named (fault.Refused n refusal) is = absurd is
-refused bytes contents sink gone group certificate named fault.OutOfMemory is = record {
+refused limit bytes contents sink gone group certificate named fault.Read is = absurd is
+refused limit bytes contents sink gone group certificate named fault.Write is = absurd is
+refused limit bytes contents sink gone group certificate named (fault.Refused n refusal) is = absurd is
+refused limit bytes contents sink gone group certificate named fault.OutOfMemory is = record {
   tells = tt;
   begun = inl refl;
   sink = same sink.faults;
@@ -148,23 +151,29 @@ plain_answer g q names certificate NoNodes text t = t
 plain_answer g q names certificate BadGroup text t = t
 
 -- of a file whose names were not read
-pub unnamed : (bytes text : List ℕ) (group : Option (List ℕ)) (certificate named : Bool) (answered : ReportOrRefusal)
-    (g : LinkGraph) (q : List ℕ) (names : NamesState) → named ≡ false → IsGraphFile bytes g → q ≡ members_of group g
-    → TellsAnswer g q names certificate named answered text → IsAnalysis bytes group certificate answered text
-unnamed bytes text group certificate named answered g q names plain says members tells = record {
+pub unnamed : (limit : SizeLimit) (bytes text : List ℕ) (group : Option (List ℕ)) (certificate named : Bool)
+    (answered : ReportOrRefusal) (g : LinkGraph) (q : List ℕ) (names : NamesState) → named ≡ false
+    → IsGraphFile bytes g → length g.nodes ≤ most_of limit → q ≡ members_of group g
+    → TellsAnswer g q names certificate named answered text → IsAnalysis limit bytes group certificate answered text
+unnamed limit bytes text group certificate named answered g q names plain says within members tells = record {
   graph = g;
   says = says;
+  within = within;
   prints = subst (λ r. PrintsAnswer g r certificate answered text) members
       (plain_answer g q names certificate answered text
       (subst (λ (b : Bool). TellsAnswer g q names certificate b answered text) plain tells));
 }
 
 -- of a graph of which no node is gone
-plain_file : (bytes : List ℕ) (group : Option (List ℕ)) (certificate : Bool) (answered : ReportOrRefusal) (text : List ℕ)
-    → IsTelling bytes [] group certificate false answered text → IsAnalysis bytes group certificate answered text
-plain_file bytes group certificate answered text t = record {
+plain_file : (limit : SizeLimit) (bytes : List ℕ) (group : Option (List ℕ)) (certificate : Bool)
+    (answered : ReportOrRefusal) (text : List ℕ)
+    → IsTelling limit bytes [] group certificate false answered text
+    → IsAnalysis limit bytes group certificate answered text
+plain_file limit bytes group certificate answered text t = record {
   graph = t.left;
   says = subst (IsGraphFile bytes) (sym (loses_none t.graph t.left t.says.graph t.loses)) t.says;
+  within = subst (λ (g : LinkGraph). length g.nodes ≤ most_of limit)
+      (sym (loses_none t.graph t.left t.says.graph t.loses)) t.within;
   prints = plain_answer t.left (members_of group t.left) t.names certificate answered text t.tells;
 }
 
@@ -178,31 +187,31 @@ same_faults A B fault.Write = refl
 same_faults A B (fault.Refused n refusal) = refl
 same_faults A B fault.OutOfMemory = refl
 
-plain_begun : {W : Type 0} (bytes : List ℕ) (contents : W → Option (List ℕ)) (before after : SinkState W)
-    (group : Option (List ℕ)) (certificate : Bool) (result : Result ToldAnalysis RunFault)
-    → IsToldOf bytes contents before [] group certificate false after result
+plain_begun : {W : Type 0} (limit : SizeLimit) (bytes : List ℕ) (contents : W → Option (List ℕ))
+    (before after : SinkState W) (group : Option (List ℕ)) (certificate : Bool) (result : Result ToldAnalysis RunFault)
+    → IsToldOf limit bytes contents before [] group certificate false after result
     → (after ≡ before)
-    ⊎ BeginsAnalysis (Some bytes) group certificate (contents before.writer) (contents after.writer)
-plain_begun bytes contents before after group certificate result t = elim t.begun [
+    ⊎ BeginsAnalysis limit (Some bytes) group certificate (contents before.writer) (contents after.writer)
+plain_begun limit bytes contents before after group certificate result t = elim t.begun [
   | inl e ↦ inl e
-  | inr b ↦ inr (bytes, b.0, b.1, refl, plain_file bytes group certificate b.0 b.1 b.2, b.3)
+  | inr b ↦ inr (bytes, b.0, b.1, refl, plain_file limit bytes group certificate b.0 b.1 b.2, b.3)
 ]
 
-pub plain : {W : Type 0} (bytes : List ℕ) (contents : W → Option (List ℕ)) (before after : SinkState W)
-    (group : Option (List ℕ)) (certificate : Bool) (result : Result ToldAnalysis RunFault)
-    → IsToldOf bytes contents before [] group certificate false after result
-    → IsAnalysisOf (Some bytes) contents before group certificate after (answered_of result)
-plain bytes contents before after group certificate (Ok told) t = record {
+pub plain : {W : Type 0} (limit : SizeLimit) (bytes : List ℕ) (contents : W → Option (List ℕ))
+    (before after : SinkState W) (group : Option (List ℕ)) (certificate : Bool) (result : Result ToldAnalysis RunFault)
+    → IsToldOf limit bytes contents before [] group certificate false after result
+    → IsAnalysisOf limit (Some bytes) contents before group certificate after (answered_of result)
+plain limit bytes contents before after group certificate (Ok told) t = record {
   prints = let p = t.tells in
-      (bytes, p.0, refl, plain_file bytes group certificate told.answered p.0 p.1, p.2);
-  begun = plain_begun bytes contents before after group certificate (Ok told) t;
+      (bytes, p.0, refl, plain_file limit bytes group certificate told.answered p.0 p.1, p.2);
+  begun = plain_begun limit bytes contents before after group certificate (Ok told) t;
   sink = t.sink;
   unwritten = tt;
   fault = tt;
 }
-plain bytes contents before after group certificate (Err f) t = record {
+plain limit bytes contents before after group certificate (Err f) t = record {
   prints = tt;
-  begun = plain_begun bytes contents before after group certificate (Err f) t;
+  begun = plain_begun limit bytes contents before after group certificate (Err f) t;
   sink = t.sink ∙ ap (λ n. before.faults + n) (same_faults ToldAnalysis ReportOrRefusal f);
   unwritten = t.unwritten;
   fault = t.fault;

@@ -4,5 +4,6 @@ pub mod Begun
 pub mod Files
 pub mod Sentences
 pub mod GivenNames
+pub mod Left
 pub mod TextFaults
 pub mod ToldOfGraph

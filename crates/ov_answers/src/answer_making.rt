@@ -1,5 +1,7 @@
 //! The one way in which the answer for a graph and a group is made, with names and sentences or without them.
-ghost use Rattle.std.specs.Prelude.{◌≡◌, ◌⊎◌, ◌++◌, ℕ, Bool, List, false, option_map, Some, IfOk, IfErr, OnOk};
+ghost use Rattle.std.specs.Prelude.{◌≡◌, ◌⊎◌, ◌≤◌, ◌++◌, ℕ, Bool, List, false, length, option_map, Some};
+ghost use Rattle.std.specs.Prelude.{IfOk, IfErr, OnOk};
+ghost use Rattle.ov_graph.specs.Links.{most_of};
 ghost use Rattle.ov_cert.specs.Valid.{k_of};
 ghost use Rattle.ov_even.specs.Faults.{GroupJudged};
 ghost use Rattle.ov_even.specs.declared.fault.AnalyseFault.TheVariants.{OutOfMemory as out_of_memory};
@@ -19,7 +21,7 @@ use crate::sentences::explanation;
 use ov_cert::Cert;
 use ov_crew::{OpenGate, outline_group_watched};
 use ov_even::{AnalyseFault, Watcher};
-use ov_graph::Graph;
+use ov_graph::{Graph, SizeLimit};
 use ov_graphfile::{Names, read_graph};
 use ov_ids::{NodeId, OutOfMemory};
 use ov_run_meaning::{RunFault, cert_line, refused_line};
@@ -36,13 +38,14 @@ pub(crate) struct Answer {
     pub text: Vec<u8>,
 }
 
-/// The graph that these bytes say.
+/// The graph that these bytes say, of as many nodes as the limit says at most.
 #[tactic(auto, using(crate::proofs::Refused::of_graph_file))]
-pub(crate) fn graph_of(alloc: Global, bytes: &[u8]) -> Result<Graph, RunFault>
+pub(crate) fn graph_of(alloc: Global, limit: SizeLimit, bytes: &[u8]) -> Result<Graph, RunFault>
     ensures graph { IfOk result (IsGraphFile bytes.now) }
-    ensures fault { IfErr result (IsTextFault bytes.now) }
+    ensures within { IfOk result (λ g. length g.nodes ≤ most_of limit) }
+    ensures fault { IfErr result (IsTextFault limit bytes.now) }
 {
-    match read_graph(alloc, bytes) {
+    match read_graph(alloc, limit, bytes) {
         Ok(graph) => Ok(graph),
         Err(fault) => Err(RunFault::of_graph_file(&fault)),
     }

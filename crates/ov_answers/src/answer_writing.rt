@@ -13,7 +13,7 @@ ghost use Rattle.ov_answers.specs.Code.ToldOfGraph.{IsToldOfGraph};
 
 use crate::answer_making::{Answer, FILE_MOMENT, answer_without_file, begun_answer, refusal};
 use crate::request::{Request, ToldAnalysis};
-use ov_certwriter::{CertificateWriteFault, PlacedAnswer, place_answer, write_certificate};
+use ov_certwriter::{CertificateWriteFault, PlacedAnswer, place_answer, write_large_certificate};
 use ov_crew::{OpenGate, settle_group_watched};
 use ov_even::{Haul, Watcher};
 use ov_graph::Graph;
@@ -148,7 +148,7 @@ fn write_file<T: Threads + Sync, W: Write>(
     ensures unwritten { IfErr result (λ f. ¬ (f ≡ RunFault.Write) → sink.new ≡ sink.old) }
     ensures kind { IfErr result IsWritingFault }
 {
-    match write_certificate(rt, alloc, workers, front, placed, FILE_MOMENT, sink) {
+    match write_large_certificate(rt, alloc, workers, front, placed, FILE_MOMENT, sink) {
         Ok(()) => Ok(()),
         Err(CertificateWriteFault::Write) => Err(RunFault::Write),
         Err(CertificateWriteFault::OutOfMemory) => Err(RunFault::OutOfMemory),

@@ -7,6 +7,7 @@ use crate::answer_writing::tell_graph;
 use crate::report_or_refusal::ReportOrRefusal;
 use crate::request::Request;
 use ov_even::Watcher;
+use ov_graph::SizeLimit;
 use ov_ids::{NodeId, Workers};
 use ov_io::{Sink, Source};
 use ov_run_meaning::{RunFault, members_of};
@@ -20,14 +21,16 @@ use std::thread::Threads;
 /// are printed, and no faults. The watcher sees how far the analysis has come.
 ///
 /// Line (70) is returned for the first line that can't be read, Graph with the number of its fault if the lines say
-/// no graph, and Read (71) if the reader failed in this call. Write (72) is returned if the writer failed in this call,
-/// and then a prefix of the text was written. With any other fault nothing was written. OutOfMemory (99) is returned if
-/// an allocation was refused. The numbers and the form of what is printed are chosen here.
+/// no graph of at most as many nodes as the limit says, and Read (71) if the reader failed in this call. Write (72) is
+/// returned if the writer failed in this call, and then a prefix of the text was written. With any other fault nothing
+/// was written. OutOfMemory (99) is returned if an allocation was refused. The numbers and the form of what is printed
+/// are chosen here.
 ///
 /// What was settled for each certificate that was written keeps its memory until the process ends.
 pub fn analyse_file<T: Threads + Sync, R: Read, W: Write, P: Watcher>(
     rt: &T,
     alloc: Global,
+    limit: SizeLimit,
     source: &mut Source<R>,
     sink: &mut Sink<W>,
     group: Option<&[NodeId]>,
@@ -37,13 +40,14 @@ pub fn analyse_file<T: Threads + Sync, R: Read, W: Write, P: Watcher>(
 ) -> Result<ReportOrRefusal, RunFault>
     requires reads { source.old.faults < most_faults }
     requires writes { sink.old.faults < most_faults }
-    ensures analysis { IsFileAnalysis R.remaining W.contents source.old sink.old
+    ensures analysis { IsFileAnalysis limit R.remaining W.contents source.old sink.old
         (option_map (λ ids. ids.now) group.entry) certificate source.new sink.new result }
 {
     let bytes = source.read_all(alloc)?;
     analyse_bytes(
         rt,
         alloc,
+        limit,
         &bytes,
         sink,
         group,
@@ -58,6 +62,7 @@ pub fn analyse_file<T: Threads + Sync, R: Read, W: Write, P: Watcher>(
 pub fn analyse_bytes<T: Threads + Sync, W: Write, P: Watcher>(
     rt: &T,
     alloc: Global,
+    limit: SizeLimit,
     bytes: &[u8],
     sink: &mut Sink<W>,
     group: Option<&[NodeId]>,
@@ -66,11 +71,12 @@ pub fn analyse_bytes<T: Threads + Sync, W: Write, P: Watcher>(
     watcher: &mut P,
 ) -> Result<ReportOrRefusal, RunFault>
     requires writes { sink.old.faults < most_faults }
-    ensures analysis { IsAnalysisOf (Some bytes.now) W.contents sink.old (option_map (λ ids. ids.now) group.entry)
-        certificate sink.new result }
+    ensures analysis { IsAnalysisOf limit (Some bytes.now) W.contents sink.old
+        (option_map (λ ids. ids.now) group.entry) certificate sink.new result }
     ensures read { result ≢ Err RunFault.Read }
 {
     let request = Request {
+        limit,
         gone: &[],
         group,
         workers,
@@ -78,7 +84,7 @@ pub fn analyse_bytes<T: Threads + Sync, W: Write, P: Watcher>(
         names: false,
         explain: false,
     };
-    let graph = graph_of(alloc, bytes)?;
+    let graph = graph_of(alloc, limit, bytes)?;
     let members = members_of(request.group, &graph);
     match tell_graph(rt, alloc, &graph, members, None, &request, watcher, sink) {
         Ok(told) => Ok(told.answered),

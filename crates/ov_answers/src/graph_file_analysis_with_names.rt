@@ -29,10 +29,10 @@ pub fn analyse_told<T: Threads + Sync, W: Write, P: Watcher>(
     watcher: &mut P,
 ) -> Result<ToldAnalysis, RunFault>
     requires writes { sink.old.faults < most_faults }
-    ensures told { IsToldOf bytes.now W.contents sink.old request.now.gone.now
+    ensures told { IsToldOf request.now.limit bytes.now W.contents sink.old request.now.gone.now
         (option_map (λ ids. ids.now) request.now.group) request.now.certificate request.now.names sink.new result }
     ensures plain { request.now.names ≡ false → request.now.gone.now ≡ []
-        → IsAnalysisOf (Some bytes.now) W.contents sink.old
+        → IsAnalysisOf request.now.limit (Some bytes.now) W.contents sink.old
         (option_map (λ ids. ids.now) request.now.group) request.now.certificate sink.new (answered_of result) }
 {
     tell(rt, alloc, bytes, sink, request, watcher)
@@ -49,15 +49,15 @@ fn tell<T: Threads + Sync, W: Write, P: Watcher>(
     watcher: &mut P,
 ) -> Result<ToldAnalysis, RunFault>
     requires writes { sink.old.faults < most_faults }
-    ensures told { IsToldOf bytes.now W.contents sink.old request.now.gone.now
+    ensures told { IsToldOf request.now.limit bytes.now W.contents sink.old request.now.gone.now
         (option_map (λ ids. ids.now) request.now.group) request.now.certificate request.now.names sink.new result }
 {
-    let (graph, told) = match read_named_graph(alloc, bytes) {
+    let (graph, told) = match read_named_graph(alloc, request.limit, bytes) {
         Ok(read) => read,
         Err(fault) => return Err(RunFault::of_graph_file(&fault)),
     };
     let names = Names::new(&graph, told);
-    let left = graph_without(&graph, request.gone)?;
+    let left = graph_without(alloc, &graph, request.gone)?;
     let members = members_of(request.group, &left);
     tell_graph(
         rt,

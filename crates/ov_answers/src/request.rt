@@ -1,9 +1,12 @@
 use crate::report_or_refusal::ReportOrRefusal;
+use ov_graph::SizeLimit;
 use ov_ids::{NodeId, Workers};
 
 /// What an analysis of a graph file is asked for.
 #[derive(Clone, Copy)]
 pub struct Request<'a> {
+    /// How many nodes the graph of the file may have.
+    pub limit: SizeLimit,
     /// The nodes that are taken away, with their links, before the analysis.
     pub gone: &'a [NodeId],
     /// The members of the group, ascending. Without them, all nodes that are left are the group.

@@ -1,10 +1,9 @@
 //! What sentences count: members of components, and links of nodes.
-ghost use Rattle.std.specs.Prelude.{◌<◌, length};
+ghost use Rattle.ov_ids.specs.Members.{Has};
 
 use crate::component_texts::component_at;
 use ov_components::Components;
 use ov_graph::Graph;
-use ov_graph::bit_rows::WORDS;
 use ov_ids::{NodeId, OutOfMemory};
 use std::alloc::Global;
 
@@ -49,16 +48,15 @@ pub(crate) fn least_linked(
     let mut members = Vec::new(alloc);
     let nodes = graph.nodes();
     let mut least = nodes.len();
-    for place in 0..nodes.len() {
-        let id = nodes[place];
-        if is_among(group, id) {
-            let degree = degree_at(graph, place);
+    for node in nodes {
+        if is_among(group, *node) {
+            let degree = degree_of(graph, *node);
             if degree < least {
                 members.clear();
                 least = degree;
             }
             if degree == least {
-                members.push(id)?;
+                members.push(*node)?;
             }
         }
     }
@@ -70,14 +68,13 @@ fn is_among(ids: &[NodeId], id: NodeId) -> bool {
     ids.binary_search(&id).is_ok()
 }
 
-/// How many links the node at a place has.
-fn degree_at(graph: &Graph, place: usize) -> usize
-    requires { place < length graph.now.nodes }
+/// How many links a node has.
+fn degree_of(graph: &Graph, node: NodeId) -> usize
+    requires { Has graph.now.nodes node }
 {
-    let row = graph.row_at(place);
-    let mut degree = 0;
-    for word in 0..WORDS {
-        degree += row[word].count_ones() as usize;
+    let mut degree: usize = 0;
+    for _ in graph.neighbours(node) {
+        degree = degree.saturating_add(1);
     }
     degree
 }

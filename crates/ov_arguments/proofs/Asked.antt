@@ -167,12 +167,13 @@ asked_same c d t u e f (Analyse file analysis) a = (
   ap₂ group_asked (ap is_flagged (f (codes "names"))) (f (codes "group")) ∙ a.2,
   ap₂ group_list_asked (ap is_flagged (f (codes "names"))) (f (codes "group")) ∙ a.3,
   f (codes "without") ∙ a.4,
-  ap least_asked (f (codes "at-least")) ∙ a.5,
+  ap₂ least_asked (ap is_flagged (f (codes "large"))) (f (codes "at-least")) ∙ a.5,
   ap workers_asked (f (codes "workers")) ∙ a.6,
   ap is_flagged (f (codes "certificate")) ∙ a.7,
   ap is_flagged (f (codes "names")) ∙ a.8,
   ap is_flagged (f (codes "explain")) ∙ a.9,
   ap is_flagged (f (codes "progress")) ∙ a.10,
+  ap is_flagged (f (codes "large")) ∙ a.11,
 )
 asked_same c d t u e f (Import file dump) a = (
   e ∙ a.0,
@@ -180,6 +181,7 @@ asked_same c d t u e f (Import file dump) a = (
   format_same t u f ∙ a.2,
   ap is_flagged (f (codes "either")) ∙ a.3,
   ap is_flagged (f (codes "entries")) ∙ a.4,
+  ap is_flagged (f (codes "large")) ∙ a.5,
 )
 asked_same c d t u e f (Picture file picture) a = (
   e ∙ a.0,
@@ -188,9 +190,10 @@ asked_same c d t u e f (Picture file picture) a = (
   entry_same t u f ∙ a.3,
   ap is_flagged (f (codes "dot")) ∙ a.4,
 )
-asked_same c d t u e f (Graph file) a = (
+asked_same c d t u e f (Graph file large) a = (
   e ∙ a.0,
   ap file_asked (f (codes "file")) ∙ a.1,
+  ap is_flagged (f (codes "large")) ∙ a.2,
 )
 asked_same c d t u e f (Tell telling) a = absurd a
 
@@ -201,7 +204,8 @@ readable_same c d t u e f r = record {
   analysis = λ is. record {
     group = λ x. (r.analysis (e ∙ is)).group
         (ap₂ group_asked (ap is_flagged (f (codes "names"))) (f (codes "group")) ∙ x);
-    least = λ x. (r.analysis (e ∙ is)).least (ap least_asked (f (codes "at-least")) ∙ x);
+    least = λ x. (r.analysis (e ∙ is)).least
+        (ap₂ least_asked (ap is_flagged (f (codes "large"))) (f (codes "at-least")) ∙ x);
     workers = λ x. (r.analysis (e ∙ is)).workers (ap workers_asked (f (codes "workers")) ∙ x);
   };
   dump = λ is none. r.dump (e ∙ is) (format_same t u f ∙ none);
@@ -244,7 +248,7 @@ asked_readable command text (Picture file picture) a = record {
       (λ e. let bad : 112 ≡ 105 = e in absurd (omega arith));
   picture = λ is none. cc;
 }
-asked_readable command text (Graph file) a = record {
+asked_readable command text (Graph file large) a = record {
   analysis = λ is. other_name command (codes "graph") (codes "analyse") a.0 is
       (λ e. let bad : 103 ≡ 97 = e in absurd (omega arith));
   dump = λ is. other_name command (codes "graph") (codes "import") a.0 is

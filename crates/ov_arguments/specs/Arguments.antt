@@ -59,22 +59,24 @@ abbrev pub group_list_asked : Bool → Option (List ℕ) → Option (List ℕ)
 group_list_asked names None = None
 group_list_asked names (Some text) = if is_read_later names text then Some text else None
 
--- the largest number k: it is smaller than the number of nodes, of which there are 1,024 at most
-abbrev pub largest_k : ℕ
-largest_k = 1023
+-- the largest number k: it is smaller than the number of nodes, of which there are 1,024 at most, or 32,768 if a large
+-- graph is asked for
+abbrev pub largest_k : Bool → ℕ
+largest_k false = 1023
+largest_k true = 32767
 
 -- the number, if it may be asked for as the least k
-abbrev pub as_least : ℕ → Option ℕ
-as_least n = if nat_le n largest_k then Some n else None
+abbrev pub as_least : Bool → ℕ → Option ℕ
+as_least large n = if nat_le n (largest_k large) then Some n else None
 
 -- the least number k that a text spells
-abbrev pub least_of : List ℕ → Option ℕ
-least_of text = number_within long_bits text >>= as_least
+abbrev pub least_of : Bool → List ℕ → Option ℕ
+least_of large text = number_within long_bits text >>= as_least large
 
 -- the least number k that the text of `--at-least` asks for, and none if it is not there
-abbrev pub least_asked : Option (List ℕ) → Option (Option ℕ)
-least_asked None = Some None
-least_asked (Some text) = option_map Some (least_of text)
+abbrev pub least_asked : Bool → Option (List ℕ) → Option (Option ℕ)
+least_asked large None = Some None
+least_asked large (Some text) = option_map Some (least_of large text)
 
 -- the number of workers that the text of `--workers` asks for, and one if it is not there
 abbrev pub workers_asked : Option (List ℕ) → Option ℕ
@@ -145,33 +147,36 @@ IsAsked command text (Analyse file analysis) =
     × (group_list_asked (is_flagged (text (codes "names"))) (text (codes "group"))
     ≡ option_map (λ list. string_bytes list) analysis.group_list)
     × (text (codes "without") ≡ option_map (λ list. string_bytes list) analysis.gone)
-    × (least_asked (text (codes "at-least")) ≡ Some analysis.at_least)
+    × (least_asked (is_flagged (text (codes "large"))) (text (codes "at-least")) ≡ Some analysis.at_least)
     × (workers_asked (text (codes "workers")) ≡ Some analysis.workers)
     × (is_flagged (text (codes "certificate")) ≡ analysis.certificate)
     × (is_flagged (text (codes "names")) ≡ analysis.names)
     × (is_flagged (text (codes "explain")) ≡ analysis.explain)
     × (is_flagged (text (codes "progress")) ≡ analysis.progress)
+    × (is_flagged (text (codes "large")) ≡ analysis.large)
 IsAsked command text (Import file dump) =
     (command ≡ Some (codes "import"))
     × (file_asked (text (codes "file")) ≡ option_map (λ f. string_bytes f) file)
     × (format_of text ≡ Some dump.format)
     × (is_flagged (text (codes "either")) ≡ dump.either)
     × (is_flagged (text (codes "entries")) ≡ dump.entries)
+    × (is_flagged (text (codes "large")) ≡ dump.large)
 IsAsked command text (Picture file picture) =
     (command ≡ Some (codes "picture"))
     × (file_asked (text (codes "file")) ≡ option_map (λ f. string_bytes f) file)
     × (text (codes "names") ≡ option_map (λ f. string_bytes f) picture.names)
     × (entry_of text ≡ Some picture.entry)
     × (is_flagged (text (codes "dot")) ≡ picture.dot)
-IsAsked command text (Graph file) =
+IsAsked command text (Graph file large) =
     (command ≡ Some (codes "graph"))
     × (file_asked (text (codes "file")) ≡ option_map (λ f. string_bytes f) file)
+    × (is_flagged (text (codes "large")) ≡ large)
 IsAsked command text (Tell telling) = ⊥
 
 -- the group, the least number and the number of workers that these texts ask for can be read
 pub record AreReadable (text : List ℕ → Option (List ℕ)) : Type 0 where
   pub group : group_asked (is_flagged (text (codes "names"))) (text (codes "group")) ≢ None
-  pub least : least_asked (text (codes "at-least")) ≢ None
+  pub least : least_asked (is_flagged (text (codes "large"))) (text (codes "at-least")) ≢ None
   pub workers : workers_asked (text (codes "workers")) ≢ None
 
 -- the texts of a command of this name can be read: of `analyse` the group, the least number and the workers, of

@@ -6,7 +6,7 @@ ghost use Rattle.ov_command_tree.specs.Flags.{is_flagged};
 ghost use Rattle.ov_arguments.specs.Arguments.{AreReadable, AreReadableFor, AreTaken, AreTakenAsCommand, HasGroupOfIds};
 ghost use Rattle.ov_arguments.specs.Arguments.{IsAsked, IsAskedByCommand, IsOfGiven, entry_of, file_asked, group_asked};
 ghost use Rattle.ov_arguments.specs.Arguments.{group_list_asked};
-ghost use Rattle.ov_arguments.specs.Arguments.{is_read_later, least_asked, least_of, workers_asked};
+ghost use Rattle.ov_arguments.specs.Arguments.{is_read_later, largest_k, least_asked, least_of, workers_asked};
 ghost use Rattle.ov_arguments.specs.Arguments.{fault_of_parse, fault_of_text, format_of, number_of};
 ghost use Rattle.ov_arguments.specs.declared.arguments.ArgumentsFault.TheVariants.{BadArguments};
 ghost use Rattle.ov_arguments.specs.declared.arguments.ArgumentsFault.TheVariants.{OutOfMemory as out_of_memory};
@@ -25,6 +25,9 @@ use std::io::ErrorKind as IoErrorKind;
 
 /// The largest number k: it is smaller than the number of nodes, of which there are 1,024 at most.
 const LARGEST_K: u64 = 1023;
+
+/// The same of a large graph, which has 32,768 at most.
+const LARGEST_K_OF_LARGE: u64 = 32767;
 
 /// What the arguments of a command line ask for. Without a file, standard input is read.
 #[derive(Drop)]
@@ -52,6 +55,8 @@ pub enum Request {
     /// To write the graph of a certificate file as a graph file.
     Graph {
         file: Option<String>,
+        /// Whether certificate files of version 3 are read too.
+        large: bool,
     },
     /// To print help, or the version.
     Tell(Telling),
@@ -90,6 +95,8 @@ pub struct AnalysisRequest {
     pub explain: bool,
     /// Whether to print how far the analysis has come.
     pub progress: bool,
+    /// Whether graphs of up to 32,768 nodes are taken, and not of 1,024.
+    pub large: bool,
 }
 
 /// Why the arguments of a command line can't be read. It is shown as the line that `overlay` prints of it on standard
@@ -174,13 +181,14 @@ impl From<ClapError> for ArgumentsFault {
 ///
 /// - `run [FILE] [--explain] [--strict] [--progress]`, which no argument asks for too;
 /// - `analyse [FILE] [--group IDS] [--without LIST] [--at-least K] [--workers N] [--certificate] [--names] [--explain]
-/// [--progress]`. IDS are one or more ids of decimal digits and 32 bits, with commas between them; beside `--names`, or
-/// after `@`, they may be any text, which is not read here. Nor is LIST. K is decimal digits, and from 0 to 1,023. N is
-/// decimal digits, and from 1 to 64; without it there is one worker;
-/// - `import [FILE] [--views] [--edges] [--dot] [--either] [--entries]`, with one of the first three flags at most;
+/// [--progress] [--large]`. IDS are one or more ids of decimal digits and 32 bits, with commas between them; beside
+/// `--names`, or after `@`, they may be any text, which is not read here. Nor is LIST. K is decimal digits, and from 0
+/// to 1,023, or with `--large` to 32,767. N is decimal digits, and from 1 to 64; without it there is one worker;
+/// - `import [FILE] [--views] [--edges] [--dot] [--either] [--entries] [--large]`, with one of the first three flags at
+/// most;
 /// - `picture [FILE] [--names GRAPHFILE] [--pair I,J] [--fan J] [--dot]`, with ids, and with `--pair` or `--fan` at
 /// most;
-/// - `graph [FILE]`.
+/// - `graph [FILE] [--large]`.
 ///
 /// A file that is absent or `-` is standard input. No option may be given twice. After `--` an argument that begins
 /// with `-` is a file.
@@ -244,7 +252,8 @@ fn request_of(alloc: Global, command: &str, found: &ArgMatches) -> Result<Reques
     }
     if command == "graph" {
         let file = file_of(alloc, found)?;
-        return Ok(Request::Graph { file });
+        let large = has_flag(found, "large");
+        return Ok(Request::Graph { file, large });
     }
     let file = file_of(alloc, found)?;
     let run = run_of(found);
@@ -293,7 +302,8 @@ fn analysis_of(alloc: Global, found: &ArgMatches) -> Result<Request, ArgumentsFa
     ensures readable { AreReadable (first_value (found_of found.now)) → (result ≢ Err BadArguments) }
 {
     let names = has_flag(found, "names");
-    let at_least = least_number_of(found)?;
+    let large = has_flag(found, "large");
+    let at_least = least_number_of(found, large)?;
     let workers = workers_of(found)?;
     let group = group_of(alloc, found, names)?;
     Ok(Request::Analyse {
@@ -308,6 +318,7 @@ fn analysis_of(alloc: Global, found: &ArgMatches) -> Result<Request, ArgumentsFa
             names,
             explain: has_flag(found, "explain"),
             progress: has_flag(found, "progress"),
+            large,
         },
     })
 }
@@ -380,30 +391,37 @@ fn group_list_of(
 }
 
 /// The least number k that is asked for, or nothing.
-fn least_number_of(matches: &ArgMatches) -> Result<Option<u32>, ArgumentsFault>
+fn least_number_of(matches: &ArgMatches, large: bool) -> Result<Option<u32>, ArgumentsFault>
     ensures given { IfOk result
-        (λ k. least_asked (first_value (found_of matches.now) (codes "at-least")) ≡ Some k) }
+        (λ k. least_asked large (first_value (found_of matches.now) (codes "at-least")) ≡ Some k) }
     ensures bad { IsErrOf result BadArguments
-        → (least_asked (first_value (found_of matches.now) (codes "at-least")) ≡ None) }
+        → (least_asked large (first_value (found_of matches.now) (codes "at-least")) ≡ None) }
 {
     let Some(text) = matches.get_str("at-least") else {
         return Ok(None);
     };
-    let Some(least) = read_least(text) else {
+    let Some(least) = read_least(text, large) else {
         return Err(ArgumentsFault::BadArguments);
     };
     Ok(Some(least))
 }
 
-/// The least number k that a text spells: from 0 to 1,023.
-pub(crate) fn read_least(text: &str) -> Option<u32>
-    ensures { result ≡ least_of text.now }
+/// The least number k that a text spells: from 0 to 1,023, or of a large graph to 32,767.
+pub(crate) fn read_least(text: &str, large: bool) -> Option<u32>
+    ensures { result ≡ least_of large text.now }
 {
     let number = read_number(text.as_bytes())?;
-    if number <= LARGEST_K {
+    if number <= largest_k(large) {
         return u32::try_from(number).ok();
     }
     None
+}
+
+/// The largest number k of a graph, or of a large one.
+fn largest_k(large: bool) -> u64
+    ensures { result ≡ largest_k large }
+{
+    if large { LARGEST_K_OF_LARGE } else { LARGEST_K }
 }
 
 /// The number of workers that is given, or one.

@@ -32,6 +32,8 @@ pub struct ImportRequest {
     pub either: bool,
     /// Whether to leave out names that have no entry.
     pub entries: bool,
+    /// Whether up to 32,768 names are taken, and not 1,024.
+    pub large: bool,
 }
 
 /// An entry of a certificate, by the ids of its members.
@@ -61,6 +63,7 @@ pub(crate) fn import_of(found: &ArgMatches) -> Result<ImportRequest, ArgumentsFa
         is_flagged (first_value (found_of found.now) (codes "either")) ≡ dump.either) }
     ensures entries { IfOk result
         (λ dump. is_flagged (first_value (found_of found.now) (codes "entries")) ≡ dump.entries) }
+    ensures large { IfOk result (λ dump. is_flagged (first_value (found_of found.now) (codes "large")) ≡ dump.large) }
     ensures bad { IsErrOf result BadArguments → (format_of (first_value (found_of found.now)) ≡ None) }
 {
     let format = asked_format(
@@ -72,6 +75,7 @@ pub(crate) fn import_of(found: &ArgMatches) -> Result<ImportRequest, ArgumentsFa
         format,
         either: has_flag(found, "either"),
         entries: has_flag(found, "entries"),
+        large: has_flag(found, "large"),
     })
 }
 

@@ -2,7 +2,8 @@ use crate::arguments::{is_read_later, read_least};
 use clap::error::ErrorKind;
 use clap::{ArgMatches, Command, Error as ClapError};
 use ov_command_tree::{
-    HELP_BELOW, command, command_tree, is_command, joined_list, push_list, shown, with_tip,
+    HELP_BELOW, command, command_tree, has_flag, is_command, joined_list, push_list, shown,
+    with_tip,
 };
 use ov_ids::OutOfMemory;
 use ov_lines::{comma_hint, read_ids, read_workers};
@@ -15,7 +16,9 @@ const NO_TEXT: &str = "error: an argument is no UTF-8 text\n";
 /// What the texts of `--group`, `--at-least` and `--workers` must be. `clap` takes any text; they are read here.
 const GROUP: &str = "ids from 0 to 4294967295, with one comma between two, or names beside --names";
 
-const LEAST: &str = "a number from 0 to 1023";
+const LEAST: &str = "a number from 0 to 1023, or beside --large to 32767";
+
+const LEAST_OF_LARGE: &str = "a number from 0 to 32767";
 
 const WORKERS: &str = "a number from 1 to 64";
 
@@ -126,8 +129,10 @@ fn wrong_in_analysis<'a>(
         return Ok(wrong("group", group, GROUP));
     }
     let least = found.get_str("at-least").unwrap_or("0");
-    if read_least(least).is_none() {
-        return Ok(wrong("at-least", least, LEAST));
+    let large = has_flag(found, "large");
+    if read_least(least, large).is_none() {
+        let wanted = if large { LEAST_OF_LARGE } else { LEAST };
+        return Ok(wrong("at-least", least, wanted));
     }
     let workers = found.get_str("workers").unwrap_or("1");
     if read_workers(workers.as_bytes()).is_none() {

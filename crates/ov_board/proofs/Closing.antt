@@ -65,7 +65,7 @@ fresh_once w i (suc m) up low = elim (first_or_later w i up) [
     first_or_later w i up = grind arith
 
 -- the state at the opening
-pub opens : (p : BoardSize) → p.total < 2 ^ 32 → MayWork p.workers
+pub opens : (p : BoardSize) → p.total < 2 ^ 62 → MayWork p.workers
     → ShowsClaims p (opening (0 ∷ p.total ∷ []) [] (opening_view p))
 opens p small may =
     let n = p.workers in

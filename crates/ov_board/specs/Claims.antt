@@ -4,7 +4,7 @@
 use Rattle.std.specs.Prelude.{◌≡◌, ◌↔◌, ◌⊎◌, ℕ, ◌+◌, ◌<◌, ◌≤◌, Bool, true, false, List, [], length, replicate}
 use Rattle.std.specs.Prelude.{Option, Some, None, slice_get}
 use Rattle.std.specs.List.{filter}
-use Rattle.ov_ids.specs.Limits.{number_limit}
+use Rattle.ov_board.specs.Limits.{piece_limit}
 use Rattle.ov_ids.specs.Members.{Has, Ascends}
 use Rattle.ov_ids.specs.Workers.{MayWork}
 
@@ -70,9 +70,9 @@ pub record IsLegal (s : DeskState) : Type 0 where
   pub least_failed : (HasFailed s s.least) ⊎ (s.least ≡ s.total)
   pub least : (x : ℕ) → HasFailed s x → s.least ≤ x
 
--- sound claims, as those of a desk or a board are: they are legal, the total fits 32 bits, and there are 1 to 64
--- workers
+-- sound claims, as those of a desk or a board are: they are legal, the total is below `piece_limit`, and there are
+-- 1 to 64 workers
 pub record AreSoundClaims (s : DeskState) : Type 0 where
   pub legal : IsLegal s
-  pub total : s.total < number_limit
+  pub total : s.total < piece_limit
   pub may_work : MayWork (length s.workers)

@@ -1,3 +1,4 @@
+pub mod Limits
 pub mod Claims
 pub mod Steps
 pub mod Theorems

@@ -1,5 +1,5 @@
 ghost use Rattle.std.specs.Prelude.{◌≡◌, ℕ, ◌<◌, true, false, length, slice_get, All, IfOk, Some};
-ghost use Rattle.ov_ids.specs.Limits.{number_limit};
+ghost use Rattle.ov_board.specs.Limits.{piece_limit};
 ghost use Rattle.ov_ids.specs.Members.{Has};
 ghost use Rattle.ov_board.specs.Steps.{Claims, Looks, Fails, claiming, looking, failing};
 ghost use Rattle.ov_board.specs.Board.{IsClosed, IsExchange, after, new_seat};
@@ -46,7 +46,7 @@ impl Board {
         total: u64,
         workers: Workers,
     ) -> Result<(Board, Vec<Seat>), OutOfMemory>
-        requires { total < number_limit }
+        requires { total < piece_limit }
         ensures total { IfOk result (λ r. r.0.total ≡ total) }
         ensures workers { IfOk result (λ r. r.0.workers ≡ workers) }
         ensures count { IfOk result (λ r. length r.1.items ≡ workers) }

@@ -1,5 +1,5 @@
 ghost use Rattle.std.specs.Prelude.{◌≡◌, ◌↔◌, ℕ, ◌<◌, false, length, IsTrue, IfOk, OnOk, OnErr};
-ghost use Rattle.ov_ids.specs.Limits.{number_limit};
+ghost use Rattle.ov_board.specs.Limits.{piece_limit};
 ghost use Rattle.ov_board.specs.Claims.{HasWorker, WorkerState, IsLegal, opening_claims};
 ghost use Rattle.ov_ids.specs.Workers.{MayWork};
 ghost use Rattle.ov_board.specs.Steps.{Claims, Looks, Fails, IsLast};
@@ -11,7 +11,7 @@ use std::alloc::Global;
 use std::marker::Model;
 
 /// The claims of workers that take turns at one desk. Contracts see the state of the claims, which is always legal. A
-/// claimed number takes four bytes, and a failed number four more.
+/// claimed number takes eight bytes, and a failed number eight more.
 #[derive(Drop)]
 pub struct Desk {
     total: u64,
@@ -34,7 +34,7 @@ impl Model for Desk {
 impl Desk {
     /// A desk for `workers` workers, which share out the numbers below `total`. Faults: out of memory.
     pub fn new(alloc: Global, total: u64, workers: Workers) -> Result<Desk, OutOfMemory>
-        requires { total < number_limit }
+        requires { total < piece_limit }
         ensures { IfOk result (λ d. d ≡ opening_claims total workers) }
     {
         let mut fresh = Vec::new(alloc);
@@ -91,7 +91,7 @@ impl Desk {
             return Ok(());
         };
         own.fail(number)?;
-        self.least = self.least.min(number as u64);
+        self.least = self.least.min(number);
         Ok(())
     }
 

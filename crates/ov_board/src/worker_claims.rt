@@ -1,6 +1,5 @@
 ghost use Rattle.std.specs.Prelude.{◌≡◌, ℕ, ◌<◌, ◌≤◌, [], OnOk, OnErr, IfSome, IfNone};
 ghost use Rattle.std.specs.List.{list_all};
-ghost use Rattle.ov_ids.specs.Limits.{number_limit};
 ghost use Rattle.ov_ids.specs.Members.{Has, Ascends};
 ghost use Rattle.ov_board.specs.Claims.{WorkerState, fresh};
 ghost use Rattle.ov_board.specs.Steps.{IsLast, claiming, looking, failing};
@@ -13,9 +12,9 @@ use std::marker::Model;
 /// ended.
 #[derive(Drop)]
 pub(crate) struct Worker {
-    claimed: Vec<u32>,
-    failed: Vec<u32>,
-    skipped: Option<u32>,
+    claimed: Vec<u64>,
+    failed: Vec<u64>,
+    skipped: Option<u64>,
     ended: bool,
 }
 
@@ -45,12 +44,11 @@ impl Worker {
 
     /// Claims this number, or ends if the number is not below the total. Out of memory changes nothing.
     pub(crate) fn claim(&mut self, total: u64, number: u64) -> Result<(), OutOfMemory>
-        requires { total < number_limit }
         ensures ok { OnOk result (self.new ≡ claiming total number self.old) }
         ensures err { OnErr result (self.new ≡ self.old) }
     {
         if number < total {
-            self.claimed.push(number as u32)?;
+            self.claimed.push(number)?;
         } else {
             self.ended = true;
         }
@@ -62,7 +60,7 @@ impl Worker {
         ensures { (x : ℕ) → IsLast self.old x → self.new ≡ looking least x self.old }
     {
         if let Some(number) = self.claimed.last().copied() {
-            if least < number as u64 {
+            if least < number {
                 self.skipped = Some(number);
                 self.ended = true;
             }
@@ -70,7 +68,7 @@ impl Worker {
     }
 
     /// Marks this number as failed. No earlier failed number is higher. Out of memory changes nothing.
-    pub(crate) fn fail(&mut self, number: u32) -> Result<(), OutOfMemory>
+    pub(crate) fn fail(&mut self, number: u64) -> Result<(), OutOfMemory>
         requires ascends { Ascends self.old.failed }
         requires last { (x : ℕ) → Has self.old.failed x → x ≤ number }
         ensures ok { OnOk result (self.new ≡ failing number self.old) }
@@ -83,7 +81,7 @@ impl Worker {
     }
 
     /// The number claimed last, if any.
-    pub(crate) fn last(&self) -> Option<u32>
+    pub(crate) fn last(&self) -> Option<u64>
         ensures some { IfSome result (IsLast self.now) }
         ensures none { IfNone result (self.now.claimed ≡ []) }
     {

@@ -1,5 +1,6 @@
-ghost use Rattle.std.specs.Prelude.{◌≡◌, ◌&&◌, not, [], Some, None, IfOk, IfErr, if◌then◌else◌};
+ghost use Rattle.std.specs.Prelude.{◌≡◌, ◌≤◌, ◌*◌, ◌&&◌, length, not, [], Some, None, IfOk, IfErr, if◌then◌else◌};
 ghost use Rattle.ov_ids.specs.Sets.{has, adding};
+ghost use Rattle.ov_graph.specs.Row.{word_bits};
 ghost use Rattle.ov_cert.specs.Code.Kept.{NodeSetState};
 ghost use Rattle.ov_cert.specs.Code.Tests.{entered};
 ghost use Rattle.ov_cert.specs.Code.Flaws.{first_taken};
@@ -7,33 +8,46 @@ ghost use Rattle.ov_cert.specs.Code.FrameFlaws.{order_flaw, set_flaw};
 
 use crate::flaw_types_apart_from_paths::SetFlaw;
 use ov_graph::Graph;
-use ov_graph::bit_rows::{EMPTY, Row, has, put};
+use ov_graph::bit_rows::{ALL_WORDS, has, put};
 use ov_ids::NodeId;
 use std::marker::Model;
 
-/// A set of nodes of a graph, as a row with a bit for the place of each node. Allocates nothing. Contracts see the
-/// graph and the ascending members.
-#[derive(Drop)]
-pub(crate) struct NodeSet<'g> {
-    graph: &'g Graph,
-    row: Row,
+/// A bit for each place.
+#[derive(Clone, Copy)]
+struct PlaceBits<const W: usize> {
+    words: [u64; W],
 }
 
-impl<'g> Model for NodeSet<'g> {
-    ghost use Rattle.ov_graph.specs.Row.{picked};
+/// A set of nodes of a graph, as `W` words with a bit for the place of each node. Allocates nothing. Contracts see the
+/// graph and the ascending members.
+#[derive(Drop)]
+pub(crate) struct NodeSet<'g, const W: usize> {
+    graph: &'g Graph,
+    bits: PlaceBits<W>,
+}
+
+impl<'g, const W: usize> Model for NodeSet<'g, W> {
+    ghost use Rattle.std.specs.Prelude.{◌≤◌, ◌*◌, length};
+    ghost use Rattle.ov_graph.specs.Row.{picked, word_bits};
     ghost use Rattle.ov_cert.specs.Code.Kept.{NodeSetState};
 
     ghost Value = { NodeSetState };
 
-    ghost view = { λ s. record { graph = s.graph.now; members = picked s.row 0 s.graph.now.nodes } };
+    ghost view = { λ s. record { graph = s.graph.now; members = picked s.bits.words 0 s.graph.now.nodes } };
+
+    ghost invariant = { λ s. length s.graph.now.nodes ≤ word_bits * W };
 }
 
-impl<'g> NodeSet<'g> {
+impl<'g, const W: usize> NodeSet<'g, W> {
     /// The empty set.
-    pub(crate) fn new(graph: &'g Graph) -> NodeSet<'g>
+    pub(crate) fn new(graph: &'g Graph) -> NodeSet<'g, W>
+        requires { length graph.now.nodes ≤ word_bits * W }
         ensures { result ≡ record { graph = graph.now; members = [] } }
     {
-        NodeSet { graph, row: EMPTY }
+        NodeSet {
+            graph,
+            bits: PlaceBits { words: [0; W] },
+        }
     }
 
     /// Whether the id is a member.
@@ -42,7 +56,7 @@ impl<'g> NodeSet<'g> {
     {
         let graph = self.graph;
         match graph.place(id) {
-            Some(place) => has(&self.row, place),
+            Some(place) => has(&self.bits.words, place),
             None => false,
         }
     }
@@ -57,10 +71,10 @@ impl<'g> NodeSet<'g> {
         let Some(place) = graph.place(id) else {
             return false;
         };
-        if has(&self.row, place) {
+        if has(&self.bits.words, place) {
             return false;
         }
-        put(&mut self.row, place);
+        put(&mut self.bits.words, place);
         true
     }
 
@@ -90,12 +104,16 @@ fn order_flaw(before: Option<NodeId>, at: usize, id: NodeId) -> Option<SetFlaw>
 }
 
 /// The set of these ids. If they are no set of nodes in ascending order, the first id that does not fit.
-pub(crate) fn node_set<'g>(graph: &'g Graph, ids: &[NodeId]) -> Result<NodeSet<'g>, SetFlaw>
+pub(crate) fn node_set<'g>(
+    graph: &'g Graph,
+    ids: &[NodeId],
+) -> Result<NodeSet<'g, ALL_WORDS>, SetFlaw>
     ensures set { IfOk result (λ s. s ≡ record { graph = graph.now; members = ids.now }) }
     ensures none { IfOk result (λ _. set_flaw graph.now ids.now ≡ None) }
     ensures flaw { IfErr result (λ flaw. set_flaw graph.now ids.now ≡ Some flaw) }
 {
-    let mut set = NodeSet::new(graph);
+    prove!(graph.nodes().len() <= Graph::MOST_OF_ANY);
+    let mut set: NodeSet<'_, ALL_WORDS> = NodeSet::new(graph);
     let mut before = None;
     for (at, id) in ids.iter().enumerate() {
         if let Some(flaw) = order_flaw(before, at, *id) {

@@ -1,4 +1,4 @@
-ghost use Rattle.std.specs.Prelude.{◌≡◌, ◌≢◌, ◌≤◌, [], ◌∷◌, ◌++◌, length, None, MatchOption};
+ghost use Rattle.std.specs.Prelude.{◌≡◌, ◌≢◌, ◌≤◌, ◌*◌, [], ◌∷◌, ◌++◌, length, None, MatchOption};
 ghost use Rattle.ov_ids.specs.Members.{Has, Ascends};
 ghost use Rattle.ov_ids.specs.Sets.{adding};
 ghost use Rattle.ov_graph.specs.Code.Tests.{are_joined};
@@ -9,6 +9,7 @@ use crate::first_and_later_members::is_earlier;
 use crate::node_set::NodeSet;
 use crate::path_and_entry_flaws::{EntryFlaw, PathFlaw};
 use ov_graph::Graph;
+use ov_graph::bit_rows::{ALL_WORDS, WORDS};
 use ov_ids::NodeId;
 use ov_lists::Paths;
 
@@ -61,9 +62,9 @@ fn ends_of(path: &[NodeId]) -> Option<Ends<'_>>
 
 /// What is wrong with a path that should lead from `i` to `j` over links and unused inner nodes. If it is right, its
 /// inner nodes are then marked as used.
-fn take_pair_path(
+fn take_pair_path<const W: usize>(
     graph: &Graph,
-    used: &mut NodeSet<'_>,
+    used: &mut NodeSet<'_, W>,
     i: NodeId,
     j: NodeId,
     path: &[NodeId],
@@ -98,11 +99,33 @@ pub(crate) fn flaw_of_paths(graph: &Graph, i: NodeId, j: NodeId, paths: &Paths) 
     requires differ { i ≢ j }
     ensures { result ≡ pair_paths_flaw graph.now (adding j (i ∷ [])) i j 0 paths.now }
 {
-    let mut used = NodeSet::new(graph);
+    if graph.nodes().len() <= Graph::MOST_NODES {
+        let mut used: NodeSet<'_, WORDS> = NodeSet::new(graph);
+        return flaw_of_paths_by(graph, &mut used, i, j, paths);
+    }
+    prove!(graph.nodes().len() <= Graph::MOST_OF_ANY);
+    let mut used: NodeSet<'_, ALL_WORDS> = NodeSet::new(graph);
+    flaw_of_paths_by(graph, &mut used, i, j, paths)
+}
+
+/// The same, by a set that is empty at first.
+fn flaw_of_paths_by<const W: usize>(
+    graph: &Graph,
+    used: &mut NodeSet<'_, W>,
+    i: NodeId,
+    j: NodeId,
+    paths: &Paths,
+) -> Option<EntryFlaw>
+    requires used { used.old ≡ record { graph = graph.now; members = [] } }
+    requires i { Has graph.now.nodes i }
+    requires j { Has graph.now.nodes j }
+    requires differ { i ≢ j }
+    ensures { result ≡ pair_paths_flaw graph.now (adding j (i ∷ [])) i j 0 paths.now }
+{
     used.enter(i);
     used.enter(j);
     for (at, path) in paths.iter().enumerate() {
-        if let Some(flaw) = take_pair_path(graph, &mut used, i, j, path) {
+        if let Some(flaw) = take_pair_path(graph, used, i, j, path) {
             return Some(EntryFlaw::Path { at, flaw });
         }
     }
@@ -111,10 +134,10 @@ pub(crate) fn flaw_of_paths(graph: &Graph, i: NodeId, j: NodeId, paths: &Paths) 
 
 /// What is wrong with a path that should lead from `j` over links and unused nodes to a member below `j`. If it is
 /// right, its nodes are then marked as used.
-fn take_fan_path(
+fn take_fan_path<const W: usize>(
     graph: &Graph,
     group: &[NodeId],
-    used: &mut NodeSet<'_>,
+    used: &mut NodeSet<'_, W>,
     j: NodeId,
     path: &[NodeId],
 ) -> Option<PathFlaw>
@@ -153,10 +176,31 @@ pub(crate) fn flaw_of_fan(
     requires j { Has graph.now.nodes j }
     ensures { result ≡ fan_paths_flaw graph.now group.now (j ∷ []) j 0 paths.now }
 {
-    let mut used = NodeSet::new(graph);
+    if graph.nodes().len() <= Graph::MOST_NODES {
+        let mut used: NodeSet<'_, WORDS> = NodeSet::new(graph);
+        return flaw_of_fan_by(graph, group, &mut used, j, paths);
+    }
+    prove!(graph.nodes().len() <= Graph::MOST_OF_ANY);
+    let mut used: NodeSet<'_, ALL_WORDS> = NodeSet::new(graph);
+    flaw_of_fan_by(graph, group, &mut used, j, paths)
+}
+
+/// The same, by a set that is empty at first.
+fn flaw_of_fan_by<const W: usize>(
+    graph: &Graph,
+    group: &[NodeId],
+    used: &mut NodeSet<'_, W>,
+    j: NodeId,
+    paths: &Paths,
+) -> Option<EntryFlaw>
+    requires used { used.old ≡ record { graph = graph.now; members = [] } }
+    requires group { Ascends group.now }
+    requires j { Has graph.now.nodes j }
+    ensures { result ≡ fan_paths_flaw graph.now group.now (j ∷ []) j 0 paths.now }
+{
     used.enter(j);
     for (at, path) in paths.iter().enumerate() {
-        if let Some(flaw) = take_fan_path(graph, group, &mut used, j, path) {
+        if let Some(flaw) = take_fan_path(graph, group, used, j, path) {
             return Some(EntryFlaw::Path { at, flaw });
         }
     }

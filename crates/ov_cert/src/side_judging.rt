@@ -6,11 +6,12 @@ ghost use Rattle.ov_cert.specs.Code.FrameFlaws.{end_flaw, in_cut_flaw, way_out_o
 use crate::cert::Split;
 use crate::flaw_types_apart_from_paths::{EndFlaw, SideFlaw};
 use crate::node_set::{NodeSet, node_set};
+use ov_graph::bit_rows::ALL_WORDS;
 use ov_graph::{Graph, is_member};
 use ov_ids::NodeId;
 
 /// Why the id is no surviving member.
-fn end_flaw(group: &[NodeId], cut: &NodeSet<'_>, id: NodeId) -> Option<EndFlaw>
+fn end_flaw(group: &[NodeId], cut: &NodeSet<'_, ALL_WORDS>, id: NodeId) -> Option<EndFlaw>
     requires { Ascends group.now }
     ensures { result ≡ end_flaw group.now cut.now.members id }
 {
@@ -24,7 +25,7 @@ fn end_flaw(group: &[NodeId], cut: &NodeSet<'_>, id: NodeId) -> Option<EndFlaw>
 }
 
 /// The first of the ids that is in the cut.
-fn in_cut_flaw(cut: &NodeSet<'_>, ids: &[NodeId]) -> Option<SideFlaw>
+fn in_cut_flaw(cut: &NodeSet<'_, ALL_WORDS>, ids: &[NodeId]) -> Option<SideFlaw>
     ensures { result ≡ in_cut_flaw cut.now.members 0 ids.now }
 {
     for (at, id) in ids.iter().enumerate() {
@@ -36,7 +37,12 @@ fn in_cut_flaw(cut: &NodeSet<'_>, ids: &[NodeId]) -> Option<SideFlaw>
 }
 
 /// The first link of a node that ends neither on the side nor in the cut.
-fn way_out_of(graph: &Graph, side: &NodeSet<'_>, cut: &NodeSet<'_>, id: NodeId) -> Option<SideFlaw>
+fn way_out_of(
+    graph: &Graph,
+    side: &NodeSet<'_, ALL_WORDS>,
+    cut: &NodeSet<'_, ALL_WORDS>,
+    id: NodeId,
+) -> Option<SideFlaw>
     requires { Has graph.now.nodes id }
     ensures { result ≡ way_out_of side.now.members cut.now.members id
         (neighbours_in graph.now.links id graph.now.nodes) }
@@ -50,7 +56,12 @@ fn way_out_of(graph: &Graph, side: &NodeSet<'_>, cut: &NodeSet<'_>, id: NodeId) 
 }
 
 /// The first link of these nodes that ends neither on the side nor in the cut.
-fn way_out(graph: &Graph, side: &NodeSet<'_>, cut: &NodeSet<'_>, ids: &[NodeId]) -> Option<SideFlaw>
+fn way_out(
+    graph: &Graph,
+    side: &NodeSet<'_, ALL_WORDS>,
+    cut: &NodeSet<'_, ALL_WORDS>,
+    ids: &[NodeId],
+) -> Option<SideFlaw>
     requires { (a : ℕ) → Has ids.now a → Has graph.now.nodes a }
     ensures { result ≡ way_out graph.now side.now.members cut.now.members ids.now }
 {
@@ -67,7 +78,7 @@ fn way_out(graph: &Graph, side: &NodeSet<'_>, cut: &NodeSet<'_>, ids: &[NodeId])
 pub(crate) fn side_flaw(
     graph: &Graph,
     group: &[NodeId],
-    cut: &NodeSet<'_>,
+    cut: &NodeSet<'_, ALL_WORDS>,
     split: &Split,
 ) -> Option<SideFlaw>
     requires graph { cut.now.graph ≡ graph.now }

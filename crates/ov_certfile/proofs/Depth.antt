@@ -35,6 +35,24 @@ fan_depth p = let a = paths_depth p.paths in omega (arith, a)
 links_depth : (ls : List (ℕ × ℕ)) → depth (list_data link_data ls) ≤ 2
 links_depth = list_depth link_data 1 (λ l. omega arith)
 
+-- version 3 differs from version 2 in a number alone
+two_depth : (c : Cert) (g : LinkGraph) (q : List ℕ) (m : ℕ) → depth (data_in Two c g q m) ≤ max_depth
+unfolding data_in
+two_depth (cert.Linked k) g q m =
+    let a = links_depth g.links in
+    let b = ids_depth g.nodes in
+    let i = ids_depth q in
+    omega (arith, a, b, i)
+two_depth (cert.Split c) g q m =
+    let a = links_depth g.links in
+    let b = ids_depth g.nodes in
+    let d = ids_depth c.cut in
+    let e = list_depth fan_data 3 fan_depth c.fans in
+    let f = list_depth pair_data 3 pair_depth c.pairs in
+    let h = ids_depth c.side in
+    let i = ids_depth q in
+    omega (arith, a, b, d, e, f, h, i)
+
 pub version_depth : (version : Version) (c : Cert) (g : LinkGraph) (q : List ℕ) (m : ℕ)
     → depth (data_in version c g q m) ≤ max_depth
 unfolding data_in
@@ -42,16 +60,6 @@ version_depth One (cert.Linked k) g q m =
     let a = links_depth g.links in
     let b = ids_depth g.nodes in
     omega (arith, a, b)
-version_depth Two (cert.Linked k) g q m =
-    let a = links_depth g.links in
-    let b = ids_depth g.nodes in
-    let i = ids_depth q in
-    omega (arith, a, b, i)
-version_depth Three (cert.Linked k) g q m =
-    let a = links_depth g.links in
-    let b = ids_depth g.nodes in
-    let i = ids_depth q in
-    omega (arith, a, b, i)
 version_depth One (cert.Split c) g q m =
     let a = links_depth g.links in
     let b = ids_depth g.nodes in
@@ -60,24 +68,9 @@ version_depth One (cert.Split c) g q m =
     let f = list_depth pair_data 3 pair_depth c.pairs in
     let h = ids_depth c.side in
     omega (arith, a, b, d, e, f, h)
-version_depth Two (cert.Split c) g q m =
-    let a = links_depth g.links in
-    let b = ids_depth g.nodes in
-    let d = ids_depth c.cut in
-    let e = list_depth fan_data 3 fan_depth c.fans in
-    let f = list_depth pair_data 3 pair_depth c.pairs in
-    let h = ids_depth c.side in
-    let i = ids_depth q in
-    omega (arith, a, b, d, e, f, h, i)
-version_depth Three (cert.Split c) g q m =
-    let a = links_depth g.links in
-    let b = ids_depth g.nodes in
-    let d = ids_depth c.cut in
-    let e = list_depth fan_data 3 fan_depth c.fans in
-    let f = list_depth pair_data 3 pair_depth c.pairs in
-    let h = ids_depth c.side in
-    let i = ids_depth q in
-    omega (arith, a, b, d, e, f, h, i)
+version_depth Two c g q m = two_depth c g q m
+version_depth Three (cert.Linked k) g q m = two_depth (cert.Linked k) g q m
+version_depth Three (cert.Split c) g q m = two_depth (cert.Split c) g q m
 
 pub depth_within : (c : Cert) (g : LinkGraph) (q : List ℕ) (m : ℕ) → depth (data_of c g q m) ≤ max_depth
 unfolding data_of

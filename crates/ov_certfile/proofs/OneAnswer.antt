@@ -5,8 +5,8 @@ use Rattle.serde_json.specs.Data.{Data}
 use Rattle.serde_json.specs.Read.{read}
 use Rattle.ov_ids.specs.Members.{Has}
 use Rattle.ov_ids.specs.FaultOrder.{HoldsThen, Passed}
-use Rattle.ov_graph.specs.Links.{LinkGraph, Precedes, most_nodes}
-use Rattle.ov_graph.specs.Faults.{GraphJudged, NodesJudged, LinksJudged, LinkJoins, LinkComesAfter}
+use Rattle.ov_graph.specs.Links.{LinkGraph, Precedes}
+use Rattle.ov_graph.specs.Faults.{JudgedWithin, NodesJudged, LinksJudged, LinkJoins, LinkComesAfter}
 use Rattle.ov_graph.specs.declared.fault.GraphFault.{GraphFault}
 use Rattle.ov_graph.specs.declared.fault.GraphFault.TheVariants.{TooManyNodes, UnorderedNode, BadLink}
 use Rattle.ov_graph.specs.declared.fault.GraphFault.TheVariants.{UnorderedLink}
@@ -71,17 +71,11 @@ links_one nodes at before (l ∷ links) =
     joins_one nodes at l (LinkComesAfter at before l (LinksJudged nodes (suc at) (Some l) links))
     (comes_one at before l (LinksJudged nodes (suc at) (Some l) links) (links_one nodes (suc at) (Some l) links))
 
-graph_one : (nodes : List ℕ) (links : List (ℕ × ℕ)) → IsOne (GraphJudged nodes links)
-graph_one nodes links =
-    step_one (length nodes ≤ most_nodes) (TooManyNodes (length nodes) most_nodes)
+graph_one : (most : ℕ) (nodes : List ℕ) (links : List (ℕ × ℕ)) → IsOne (JudgedWithin most nodes links)
+graph_one most nodes links =
+    step_one (length nodes ≤ most) (TooManyNodes (length nodes) most)
     (NodesJudged 0 None nodes (LinksJudged nodes 0 None links))
     (nodes_one 0 None nodes (LinksJudged nodes 0 None links) (links_one nodes 0 None links))
-
-judged_one : (version : Version) (g : LinkGraph) → IsOne (FileGraphJudged version g)
-judged_one version g =
-    step_one (length g.nodes ≤ most_nodes_of version)
-    (TooManyNodes (length g.nodes) (most_nodes_of version)) (GraphJudged g.nodes g.links)
-    (graph_one g.nodes g.links)
 
 -- a key has one value
 same : {X : Type 0} (o : Option X) (x y : X) → o ≡ Some x → o ≡ Some y → x ≡ y
@@ -140,7 +134,7 @@ comes_same : (d : Data) (x y : Option GraphFault) → GraphComesTo d x → Graph
 comes_same d x y p q =
     let version : p.0 ≡ q.0 = same _ _ _ p.2 q.2 in
     let graph : p.1 ≡ q.1 = graph_same d p.1 q.1 p.3 q.3 in
-    judged_one q.0 q.1 x y
+    graph_one (most_nodes_of q.0) q.1.nodes q.1.links x y
     (subst (λ v. FileGraphJudged v q.1 x) version (subst (λ g. FileGraphJudged p.0 g x) graph p.4)) q.4
 
 -- a fault is of a demand's kind, or of the graph

@@ -27,10 +27,11 @@ use Rattle.ov_cert.specs.declared.cert.PairPaths.{PairPaths}
 use Rattle.ov_cert.specs.declared.cert.FanPaths.{FanPaths}
 use Rattle.ov_certfile.specs.Forms.{id_in, each_in, list_in, ids_in, both_of, link_in, paths_in, pair_in}
 use Rattle.ov_certfile.specs.Forms.{fan_in}
+use Rattle.ov_certfile.specs.Kinds.{version_number, names_group}
 use Rattle.ov_certfile.specs.DataOf.{data_in, data_of, version_for, whole_data, list_data, ids_data, link_data}
 use Rattle.ov_certfile.specs.DataOf.{paths_data, pair_data, fan_data}
 use Rattle.ov_certfile.specs.ReadsBack.{ReadsBack, TextReadsBack}
-use Rattle.ov_certfile.specs.Code.Writing.{FileReadsBack}
+use Rattle.ov_certfile.specs.Code.Writing.{GraphReadsBack, CertReadsBack, FileReadsBack}
 use Rattle.ov_certfile.specs.declared.version.Version.{Version}
 use Rattle.ov_certfile.specs.declared.version.Version.TheVariants.{One, Two, Three}
 use Rattle.ov_certfile.proofs.Depth.{depth_within, version_depth}
@@ -201,6 +202,38 @@ fan_readable p h =
 
 -- ---- the object of a file
 
+-- the object of a file that names its group
+named_readable : (version : Version) (c : Cert) (g : LinkGraph) (q : List ℕ) (m : ℕ) → names_group version ≡ true
+    → version_number version < 2 ^ 64 → GraphReadsBack g → CertReadsBack c → ids_in (ids_data q) ≡ Some q
+    → m < number_limit → IsReadable (data_in version c g q m)
+unfolding data_in
+named_readable version (cert.Linked k) g q m named few h count group t =
+    rw named (object_readable _
+    (one_more _ _ _ _ _ (ids_readable q group)
+    (one_more _ _ _ _ _ (id_readable k count)
+    (one_more _ _ _ _ _ (list_readable link_in link_data link_readable g.links h.links)
+    (one_more _ _ _ _ _ (whole_readable m (omega (arith, t)))
+    (one_more _ _ _ _ _ (ids_readable g.nodes h.nodes)
+    (one_more _ _ _ _ _ (text_readable _)
+    (one_more _ _ _ _ _ (whole_readable (version_number version) few) (no_more _)))))))))
+named_readable version (cert.Split c) g q m named few h back group t =
+    let cut = back.1 in
+    let entries = back.2 in
+    rw named (object_readable _
+    (one_more _ _ _ _ _ (ids_readable c.cut cut.cut)
+    (one_more _ _ _ _ _ (list_readable fan_in fan_data fan_readable c.fans entries.fans)
+    (one_more _ _ _ _ _ (id_readable c.far cut.far)
+    (one_more _ _ _ _ _ (ids_readable q group)
+    (one_more _ _ _ _ _ (id_readable c.k back.0)
+    (one_more _ _ _ _ _ (list_readable link_in link_data link_readable g.links h.links)
+    (one_more _ _ _ _ _ (whole_readable m (omega (arith, t)))
+    (one_more _ _ _ _ _ (id_readable c.near cut.near)
+    (one_more _ _ _ _ _ (ids_readable g.nodes h.nodes)
+    (one_more _ _ _ _ _ (list_readable pair_in pair_data pair_readable c.pairs entries.pairs)
+    (one_more _ _ _ _ _ (ids_readable c.side cut.side)
+    (one_more _ _ _ _ _ (text_readable _)
+    (one_more _ _ _ _ _ (whole_readable (version_number version) few) (no_more _)))))))))))))))
+
 file_readable : (version : Version) (c : Cert) (g : LinkGraph) (q : List ℕ) (m : ℕ) → FileReadsBack version c g q
     → m < number_limit → IsReadable (data_in version c g q m)
 unfolding data_in
@@ -212,24 +245,6 @@ file_readable One (cert.Linked k) g q m h t =
     (one_more _ _ _ _ _ (ids_readable g.nodes h.graph.nodes)
     (one_more _ _ _ _ _ (text_readable _)
     (one_more _ _ _ _ _ (whole_readable 1 (omega arith)) (no_more _)))))))
-file_readable Two (cert.Linked k) g q m h t =
-    object_readable _
-    (one_more _ _ _ _ _ (ids_readable q h.named)
-    (one_more _ _ _ _ _ (id_readable k h.cert)
-    (one_more _ _ _ _ _ (list_readable link_in link_data link_readable g.links h.graph.links)
-    (one_more _ _ _ _ _ (whole_readable m (omega (arith, t)))
-    (one_more _ _ _ _ _ (ids_readable g.nodes h.graph.nodes)
-    (one_more _ _ _ _ _ (text_readable _)
-    (one_more _ _ _ _ _ (whole_readable 2 (omega arith)) (no_more _))))))))
-file_readable Three (cert.Linked k) g q m h t =
-    object_readable _
-    (one_more _ _ _ _ _ (ids_readable q h.named)
-    (one_more _ _ _ _ _ (id_readable k h.cert)
-    (one_more _ _ _ _ _ (list_readable link_in link_data link_readable g.links h.graph.links)
-    (one_more _ _ _ _ _ (whole_readable m (omega (arith, t)))
-    (one_more _ _ _ _ _ (ids_readable g.nodes h.graph.nodes)
-    (one_more _ _ _ _ _ (text_readable _)
-    (one_more _ _ _ _ _ (whole_readable 3 (omega arith)) (no_more _))))))))
 file_readable One (cert.Split c) g q m h t =
     let cut = h.cert.1 in
     let entries = h.cert.2 in
@@ -246,40 +261,8 @@ file_readable One (cert.Split c) g q m h t =
     (one_more _ _ _ _ _ (ids_readable c.side cut.side)
     (one_more _ _ _ _ _ (text_readable _)
     (one_more _ _ _ _ _ (whole_readable 1 (omega arith)) (no_more _)))))))))))))
-file_readable Two (cert.Split c) g q m h t =
-    let cut = h.cert.1 in
-    let entries = h.cert.2 in
-    object_readable _
-    (one_more _ _ _ _ _ (ids_readable c.cut cut.cut)
-    (one_more _ _ _ _ _ (list_readable fan_in fan_data fan_readable c.fans entries.fans)
-    (one_more _ _ _ _ _ (id_readable c.far cut.far)
-    (one_more _ _ _ _ _ (ids_readable q h.named)
-    (one_more _ _ _ _ _ (id_readable c.k h.cert.0)
-    (one_more _ _ _ _ _ (list_readable link_in link_data link_readable g.links h.graph.links)
-    (one_more _ _ _ _ _ (whole_readable m (omega (arith, t)))
-    (one_more _ _ _ _ _ (id_readable c.near cut.near)
-    (one_more _ _ _ _ _ (ids_readable g.nodes h.graph.nodes)
-    (one_more _ _ _ _ _ (list_readable pair_in pair_data pair_readable c.pairs entries.pairs)
-    (one_more _ _ _ _ _ (ids_readable c.side cut.side)
-    (one_more _ _ _ _ _ (text_readable _)
-    (one_more _ _ _ _ _ (whole_readable 2 (omega arith)) (no_more _))))))))))))))
-file_readable Three (cert.Split c) g q m h t =
-    let cut = h.cert.1 in
-    let entries = h.cert.2 in
-    object_readable _
-    (one_more _ _ _ _ _ (ids_readable c.cut cut.cut)
-    (one_more _ _ _ _ _ (list_readable fan_in fan_data fan_readable c.fans entries.fans)
-    (one_more _ _ _ _ _ (id_readable c.far cut.far)
-    (one_more _ _ _ _ _ (ids_readable q h.named)
-    (one_more _ _ _ _ _ (id_readable c.k h.cert.0)
-    (one_more _ _ _ _ _ (list_readable link_in link_data link_readable g.links h.graph.links)
-    (one_more _ _ _ _ _ (whole_readable m (omega (arith, t)))
-    (one_more _ _ _ _ _ (id_readable c.near cut.near)
-    (one_more _ _ _ _ _ (ids_readable g.nodes h.graph.nodes)
-    (one_more _ _ _ _ _ (list_readable pair_in pair_data pair_readable c.pairs entries.pairs)
-    (one_more _ _ _ _ _ (ids_readable c.side cut.side)
-    (one_more _ _ _ _ _ (text_readable _)
-    (one_more _ _ _ _ _ (whole_readable 3 (omega arith)) (no_more _))))))))))))))
+file_readable Two c g q m h t = named_readable Two c g q m refl (omega arith) h.graph h.cert h.named t
+file_readable Three c g q m h t = named_readable Three c g q m refl (omega arith) h.graph h.cert h.named t
 
 -- a text with the tokens of the object reads as the object
 pub tokens_read : (text : List ℕ) (version : Version) (c : Cert) (g : LinkGraph) (q : List ℕ) (m : ℕ)

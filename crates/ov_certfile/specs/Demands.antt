@@ -1,13 +1,11 @@
 -- The demands on a JSON value that is read as a certificate file, in the order in which they are checked.
-use Rattle.std.specs.Prelude.{◌≤◌, Bool, true, false, List, [], ◌∷◌, length, codes, is_some, Option, Some, None}
+use Rattle.std.specs.Prelude.{Bool, true, false, List, [], ◌∷◌, codes, is_some, Option, Some, None}
 use Rattle.std.specs.Prelude.{option_map, unwrap_or}
 use Rattle.serde_json.specs.Data.{Data}
 use Rattle.serde_json.specs.Find.{as_object}
-use Rattle.ov_ids.specs.FaultOrder.{HoldsThen}
 use Rattle.ov_graph.specs.Links.{LinkGraph}
-use Rattle.ov_graph.specs.Faults.{GraphJudged}
+use Rattle.ov_graph.specs.Faults.{JudgedWithin}
 use Rattle.ov_graph.specs.declared.fault.GraphFault.{GraphFault}
-use Rattle.ov_graph.specs.declared.fault.GraphFault.TheVariants.{TooManyNodes}
 use Rattle.ov_ids.specs.Options.{◌>>=◌}
 use Rattle.ov_certfile.specs.Keys.{has_key, has_no_other, said, first_failing}
 use Rattle.ov_certfile.specs.Kinds.{version_in, version_up_to, verdict_in, most_nodes_of, name_of, names_of, has_form}
@@ -61,9 +59,6 @@ first_unmet [] = None
 first_unmet (None ∷ rest) = first_unmet rest
 first_unmet (Some kind ∷ rest) = Some kind
 
--- after the demands, the nodes and links must be a graph: no more nodes than the version allows, and no fault of a
--- graph
+-- after the demands, the nodes and links must be a graph, of no more nodes than the version allows
 abbrev pub FileGraphJudged : Version → LinkGraph → Option GraphFault → Type 0
-FileGraphJudged version g answer =
-    HoldsThen (length g.nodes ≤ most_nodes_of version) (TooManyNodes (length g.nodes) (most_nodes_of version))
-    (GraphJudged g.nodes g.links) answer
+FileGraphJudged version g answer = JudgedWithin (most_nodes_of version) g.nodes g.links answer

@@ -3,7 +3,7 @@ use Rattle.std.specs.Prelude.{◌==◌, ℕ, Bool, true, false, List, [], ◌∷
 use Rattle.std.specs.Prelude.{if◌then◌else◌, Option, Some, None}
 use Rattle.serde_json.specs.Data.{Data}
 use Rattle.serde_json.specs.Find.{as_str}
-use Rattle.ov_graph.specs.Links.{most_nodes}
+use Rattle.ov_graph.specs.Links.{most_nodes, most_of_any_graph}
 use Rattle.ov_ids.specs.Options.{◌>>=◌}
 use Rattle.ov_certfile.specs.Common.{are_same}
 use Rattle.ov_certfile.specs.Keys.{said}
@@ -48,15 +48,12 @@ names_group Three = true
 abbrev pub most_nodes_of_one : ℕ
 most_nodes_of_one = 256
 
--- the highest number of nodes in a file of version 3: the limit of all graphs
-abbrev pub most_nodes_of_three : ℕ
-most_nodes_of_three = most_nodes
-
--- the highest number of nodes in a file of this version: 256 in version 1, and 1,024 in version 2
+-- the highest number of nodes in a file of this version: 256 in version 1, 1,024 in version 2, and in version 3 as many
+-- as any graph may have, 32,768
 abbrev pub most_nodes_of : Version → ℕ
 most_nodes_of One = most_nodes_of_one
 most_nodes_of Two = most_nodes
-most_nodes_of Three = most_nodes_of_three
+most_nodes_of Three = most_of_any_graph
 
 -- the text of a verdict
 abbrev pub verdict_text : Verdict → List ℕ

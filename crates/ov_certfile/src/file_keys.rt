@@ -54,57 +54,49 @@ impl Key {
     }
 }
 
+/// The keys of a file that names no group, in the order in which they are demanded. Those behind `Version` are of the
+/// verdict split alone.
+const KEYS: [Key; 12] = [
+    Key::K,
+    Key::Links,
+    Key::Moment,
+    Key::Nodes,
+    Key::Verdict,
+    Key::Version,
+    Key::Cut,
+    Key::Near,
+    Key::Far,
+    Key::Side,
+    Key::Pairs,
+    Key::Fans,
+];
+
+/// The same of a file that names its group. Those behind `Group` are of the verdict split alone.
+const KEYS_WITH_GROUP: [Key; 13] = [
+    Key::K,
+    Key::Links,
+    Key::Moment,
+    Key::Nodes,
+    Key::Verdict,
+    Key::Version,
+    Key::Group,
+    Key::Cut,
+    Key::Near,
+    Key::Far,
+    Key::Side,
+    Key::Pairs,
+    Key::Fans,
+];
+
 /// The keys that a file of this version and verdict must have, in the order in which they are demanded. It may have no
 /// others.
 pub fn keys_of(version: Version, verdict: Verdict) -> &'static [Key]
     ensures { result.now ≡ keys_of version verdict }
 {
     match (version.names_group(), verdict) {
-        (false, Verdict::Linked) => &[
-            Key::K,
-            Key::Links,
-            Key::Moment,
-            Key::Nodes,
-            Key::Verdict,
-            Key::Version,
-        ],
-        (false, Verdict::Split) => &[
-            Key::K,
-            Key::Links,
-            Key::Moment,
-            Key::Nodes,
-            Key::Verdict,
-            Key::Version,
-            Key::Cut,
-            Key::Near,
-            Key::Far,
-            Key::Side,
-            Key::Pairs,
-            Key::Fans,
-        ],
-        (true, Verdict::Linked) => &[
-            Key::K,
-            Key::Links,
-            Key::Moment,
-            Key::Nodes,
-            Key::Verdict,
-            Key::Version,
-            Key::Group,
-        ],
-        (true, Verdict::Split) => &[
-            Key::K,
-            Key::Links,
-            Key::Moment,
-            Key::Nodes,
-            Key::Verdict,
-            Key::Version,
-            Key::Group,
-            Key::Cut,
-            Key::Near,
-            Key::Far,
-            Key::Side,
-            Key::Pairs,
-            Key::Fans,
-        ],
+        (false, Verdict::Linked) => &KEYS[..6],
+        (false, Verdict::Split) => &KEYS,
+        (true, Verdict::Linked) => &KEYS_WITH_GROUP[..7],
+        (true, Verdict::Split) => &KEYS_WITH_GROUP,
     }
 }

@@ -62,8 +62,8 @@ pub fn from_text(alloc: Global, text: &str) -> Result<Filed, FileFault>
     filed_or_fault(alloc, Version::Two, text)
 }
 
-/// Reads a certificate file of version 1, 2 or 3. It does what `from_text` does, and reads version 3 too, in which the
-/// moment may be up to 4,294,967,295.
+/// Reads a certificate file of version 1, 2 or 3. It does what `from_text` does, and reads version 3 too, with up to
+/// 32,768 nodes and a moment of up to 4,294,967,295.
 pub fn from_large_text(alloc: Global, text: &str) -> Result<Filed, FileFault>
     ensures says { result ≢ Err FileFault.OutOfMemory → SaysText Version.Three text.now result }
     ensures only { (answer : Result Filed FileFault) → result ≢ Err FileFault.OutOfMemory
@@ -247,7 +247,7 @@ fn graph(
     if count > most {
         return Err(FileFault::Graph(GraphFault::TooManyNodes { count, most }));
     }
-    match Graph::new(alloc, nodes, links) {
+    match Graph::large(alloc, nodes, links) {
         Ok(graph) => Ok(graph),
         Err(GraphFault::OutOfMemory) => Err(FileFault::OutOfMemory),
         Err(fault) => Err(FileFault::Graph(fault)),

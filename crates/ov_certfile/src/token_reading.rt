@@ -103,7 +103,7 @@ fn graph_of(
     if nodes.len() > version.most_nodes() {
         return Err(Stop::OtherForm);
     }
-    match Graph::new(alloc, nodes, links) {
+    match Graph::large(alloc, nodes, links) {
         Ok(graph) => Ok(graph),
         Err(GraphFault::OutOfMemory) => Err(Stop::OutOfMemory),
         Err(_) => Err(Stop::OtherForm),

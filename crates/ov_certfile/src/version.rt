@@ -10,9 +10,6 @@ use ov_ids::NUMBER_LIMIT;
 /// The highest number of nodes in a file of version 1.
 const MOST_NODES_OF_ONE: usize = 256;
 
-/// The highest number of nodes in a file of version 3.
-const MOST_NODES_OF_THREE: usize = Graph::MOST_NODES;
-
 /// The highest moment in a file of version 1 or 2: no journal has more entries. (Chosen here.)
 pub const LAST_MOMENT: u64 = 65_536;
 
@@ -21,9 +18,9 @@ pub const LAST_MOMENT: u64 = 65_536;
 pub enum Version {
     /// The group is all nodes, at most 256.
     One,
-    /// The file names its group.
+    /// The file names its group. It has at most 1,024 nodes.
     Two,
-    /// The file names its group, and its moment may be any number of 32 bits.
+    /// The file names its group. It may have 32,768 nodes, and its moment may be any number of 32 bits.
     Three,
 }
 
@@ -64,7 +61,7 @@ impl Version {
         match self {
             Version::One => MOST_NODES_OF_ONE,
             Version::Two => Graph::MOST_NODES,
-            Version::Three => MOST_NODES_OF_THREE,
+            Version::Three => Graph::MOST_OF_ANY,
         }
     }
 

@@ -1,9 +1,11 @@
-ghost use Rattle.std.specs.Prelude.{◌≡◌, ◌≤◌, IfOk, OnOk, string_bytes};
+ghost use Rattle.std.specs.Prelude.{◌≡◌, ◌≤◌, true, IfOk, OnOk, string_bytes};
 ghost use Rattle.serde_json.specs.Written.{compact_text};
+ghost use Rattle.ov_graph.specs.Links.{IsSmall};
 ghost use Rattle.ov_certfile.specs.Forms.{last_moment};
 ghost use Rattle.ov_certfile.specs.DataOf.{data_of, data_in, can_say, version_for};
 ghost use Rattle.ov_certfile.specs.ReadsBack.{ReadsBack, TextReadsBack};
 ghost use Rattle.ov_certfile.specs.Code.Writing.{FileReadsBack};
+ghost use Rattle.ov_certfile.specs.declared.version.Version.{Version};
 
 use crate::cert_writing::write_file;
 use crate::version::Version;
@@ -23,9 +25,10 @@ pub fn to_text(
     requires { moment ≤ last_moment }
     ensures text { IfOk result (λ s. string_bytes s
         ≡ compact_text (data_of cert.now graph.now graph.now.nodes moment)) }
-    ensures object_back { OnOk result (ReadsBack Version.Two cert.now graph.now graph.now.nodes moment) }
-    ensures reads_back { IfOk result
-        (λ s. TextReadsBack Version.Two cert.now graph.now graph.now.nodes moment (string_bytes s)) }
+    ensures object_back { IsSmall graph.now
+        → OnOk result (ReadsBack Version.Two cert.now graph.now graph.now.nodes moment) }
+    ensures reads_back { IsSmall graph.now
+        → IfOk result (λ s. TextReadsBack Version.Two cert.now graph.now graph.now.nodes moment (string_bytes s)) }
 {
     to_text_group(alloc, cert, graph, graph.nodes(), moment)
 }
@@ -33,7 +36,8 @@ pub fn to_text(
 /// The text of the certificate file of a certificate, its graph, its group and a moment. The moment is at most 65,536.
 /// The text is one JSON object, with its keys in the order of their bytes, without white space or line feed. It is of
 /// version 1, which names no group, exactly if the group is all nodes and these are at most 256; otherwise it is of
-/// version 2. Reading the text by `from_text` gives all four back. Faults: out of memory (99).
+/// version 2, and, if there are more than 1,024 nodes, of version 3. If there are at most 1,024, reading the text by
+/// `from_text` gives all four back. Faults: out of memory (99).
 pub fn to_text_group(
     alloc: Global,
     cert: &Cert,
@@ -43,17 +47,17 @@ pub fn to_text_group(
 ) -> Result<String, OutOfMemory>
     requires { moment ≤ last_moment }
     ensures text { IfOk result (λ s. string_bytes s ≡ compact_text (data_of cert.now graph.now group.now moment)) }
-    ensures object_back { OnOk result (ReadsBack Version.Two cert.now graph.now group.now moment) }
-    ensures reads_back { IfOk result
-        (λ s. TextReadsBack Version.Two cert.now graph.now group.now moment (string_bytes s)) }
+    ensures object_back { IsSmall graph.now
+        → OnOk result (ReadsBack Version.Two cert.now graph.now group.now moment) }
+    ensures reads_back { IsSmall graph.now
+        → IfOk result (λ s. TextReadsBack Version.Two cert.now graph.now group.now moment (string_bytes s)) }
 {
-    let version = version_for(graph, group, moment);
-    let text = text_in(alloc, version, cert, graph, group, moment)?;
-    Ok(text)
+    written_text(alloc, cert, graph, group, moment)
 }
 
-/// Does what `to_text_group` does, for any moment. The text is of version 3 exactly if the moment is above 65,536,
-/// which neither version 1 nor version 2 can say. Reading the text by `from_large_text` gives all four back.
+/// Does what `to_text_group` does, for any moment. The text is of version 3 exactly if there are more than 1,024 nodes
+/// or the moment is above 65,536, which neither version 1 nor version 2 can say. Reading the text by `from_large_text`
+/// gives all four back.
 pub fn to_large_text(
     alloc: Global,
     cert: &Cert,
@@ -65,6 +69,24 @@ pub fn to_large_text(
     ensures object_back { OnOk result (ReadsBack Version.Three cert.now graph.now group.now moment) }
     ensures reads_back { IfOk result
         (λ s. TextReadsBack Version.Three cert.now graph.now group.now moment (string_bytes s)) }
+{
+    prove!(graph.nodes().len() <= Graph::MOST_OF_ANY);
+    written_text(alloc, cert, graph, group, moment)
+}
+
+/// The text of the file. Each version that can say this is new enough to read it.
+fn written_text(
+    alloc: Global,
+    cert: &Cert,
+    graph: &Graph,
+    group: &[NodeId],
+    moment: u32,
+) -> Result<String, OutOfMemory>
+    ensures text { IfOk result (λ s. string_bytes s ≡ compact_text (data_of cert.now graph.now group.now moment)) }
+    ensures object_back { (newest : Version) → can_say newest graph.now group.now moment ≡ true
+        → OnOk result (ReadsBack newest cert.now graph.now group.now moment) }
+    ensures reads_back { (newest : Version) → can_say newest graph.now group.now moment ≡ true
+        → IfOk result (λ s. TextReadsBack newest cert.now graph.now group.now moment (string_bytes s)) }
 {
     let version = version_for(graph, group, moment);
     let text = text_in(alloc, version, cert, graph, group, moment)?;

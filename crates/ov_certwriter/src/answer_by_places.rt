@@ -97,7 +97,7 @@ pub fn place_answer<'a>(
     ensures answer { IfOk result (λ a. IsCheckedAnswer graph.now group.now a) }
     ensures valid { IfOk result (λ a. IsValidForGroup graph.now group.now a.cert) }
 {
-    prove!(graph.nodes().len() <= Graph::MOST_NODES);
+    prove!(graph.nodes().len() <= Graph::MOST_OF_ANY);
     let outline = outline_of_hauls(alloc, graph, group, hauls)?;
     let found = wanted_paths(alloc, graph, group, hauls)?;
     let entries = place_entries(alloc, graph, group, &found)?;

@@ -1,10 +1,7 @@
 -- The bytes of a file have one outcome.
-use Rattle.std.proofs.Common.{◌≡◌, ◌≢◌, ◌∙◌, ◌≤◌, List, ℕ, length, Option, Some, None, Result, Ok, Err}
+use Rattle.std.proofs.Common.{◌≡◌, ◌≢◌, ◌∙◌, List, ℕ, Option, Some, None, Result, Ok, Err}
 use Rattle.std.proofs.Common.{IfOk, IfSome, IfNone, sym, subst, inl, inr}
-use Rattle.ov_ids.proofs.Stepping.{step_none}
 use Rattle.ov_graph.specs.Links.{IsGraph}
-use Rattle.ov_graph.specs.Faults.{GraphJudged}
-use Rattle.ov_graph.specs.declared.fault.GraphFault.TheVariants.{TooManyNodes}
 use Rattle.ov_graph.proofs.EvenTest.Tested.{sound}
 use Rattle.ov_cert.specs.declared.fault.CheckFault.{CheckFault}
 use Rattle.ov_cert.specs.Verdict.{JudgedForGroup}
@@ -39,12 +36,7 @@ same_file newest bytes f h p q = let e : ◌≡◌ {A = Result Filed Kind} (Ok f
 
 -- what is said of a graph is said of one
 value_graph : (newest : Version) (d : _) (f : Filed) → file.Says newest d f → IsGraph f.graph
-value_graph newest d f s =
-    let nodes = f.graph.nodes in
-    let links = f.graph.links in
-    let p = step_none (length nodes ≤ most_nodes_of s.version)
-    (TooManyNodes (length nodes) (most_nodes_of s.version)) (GraphJudged nodes links) s.judged in
-    (sound nodes links p.1).0
+value_graph newest d f s = (sound (most_nodes_of s.version) f.graph.nodes f.graph.links s.judged).0
 
 read_graph : (newest : Version) (o : Option _) (f : Filed) → IfSome o (λ d. SaysFile newest d (Ok f))
     → IfNone o (◌≡◌ {A = Result Filed Kind} (Ok f) (Err NotJson)) → IsGraph f.graph

@@ -54,7 +54,7 @@ pub fn check_group_parallel(
     ensures memory { result ≡ Err ParallelFault.OutOfMemory → NeedsEntries graph.now group.now cert.now }
     ensures fewest { OnOk result (FewestForGroup graph.now group.now (k_of cert.now)) }
 {
-    prove!(graph.nodes().len() <= Graph::MOST_NODES);
+    prove!(graph.nodes().len() <= Graph::MOST_OF_ANY);
     judge_parts(rt, graph, group, cert)
 }
 

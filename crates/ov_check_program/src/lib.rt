@@ -7,6 +7,7 @@ ghost use Rattle.ov_io.specs.Device.{most_faults, write_faults};
 ghost use Rattle.ov_check.specs.Faults.{number_of};
 ghost use Rattle.ov_check.specs.Outcome.{status_of};
 ghost use Rattle.ov_check.specs.Run.{Prints};
+ghost use Rattle.ov_check_program.specs.Status.{IsStatusOfRead, IsJudged, IsStatus};
 
 use ov_certfile::Version;
 use ov_check::{
@@ -48,13 +49,17 @@ pub struct Program {
     pub no_options: &'static str,
 }
 
-/// Runs a program: judges the input that the arguments name, and returns the program's status. If standard input is
-/// judged, and a person types it at a terminal, standard error says so.
+/// Runs a program: judges the input that the arguments name, and returns the program's status. It is 0 only if the
+/// bytes that were read are a certificate file whose number is exact. If standard input is judged, and a person types
+/// it at a terminal, standard error says so.
+#[tactic(auto, using(crate::proofs::Told::ended))]
 pub fn run<R: Runtime + AllocGlobal + Threads + Sync>(
     rt: &R,
     program: &Program,
     is_typed: bool,
-) -> u8 {
+) -> u8
+    ensures { IsStatus R.Reader.remaining R.File.remaining program.now.newest result }
+{
     exit_status(&judge_input(rt, program, is_typed))
 }
 
@@ -64,7 +69,9 @@ fn judge_input<R: Runtime + AllocGlobal + Threads + Sync>(
     rt: &R,
     program: &Program,
     is_typed: bool,
-) -> Result<u8, ProgramFault> {
+) -> Result<u8, ProgramFault>
+    ensures { IfOk result (IsJudged R.Reader.remaining R.File.remaining program.now.newest) }
+{
     let mut room = [0u8; LONGEST_PATH];
     let length = rt.arg(1, &mut room);
     match input_named(length, &room, has_argument(rt, 2)) {
@@ -103,11 +110,14 @@ fn print_fault(rt: &impl Runtime, program: &Program, fault: JudgeFault) {
 }
 
 /// Judges what the file of this name has.
+#[tactic(auto, using(crate::proofs::Told::printed))]
 fn judge_named<R: Runtime + AllocGlobal + Threads + Sync>(
     rt: &R,
     program: &Program,
     path: &str,
-) -> Result<u8, JudgeFault> {
+) -> Result<u8, JudgeFault>
+    ensures { IfOk result (IsStatusOfRead R.File.remaining program.now.newest) }
+{
     match File::open(rt, path) {
         Ok(file) => {
             let mut sink = Sink::new(io::writer(rt));

@@ -23,6 +23,8 @@ pub(crate) fn tell_graph(text: &mut String, fault: GraphFault) -> Result<(), Out
 fn say_size(text: &mut String, number: usize, most: usize) -> Result<(), OutOfMemory> {
     let hint = if most < Graph::MOST_NODES {
         "version 2 allows more"
+    } else if most < Graph::MOST_OF_ANY {
+        "version 3, which overlay-check-large reads, allows more"
     } else {
         "a part of the graph can be analysed as a graph of its own, with a k of its own"
     };

@@ -18,3 +18,4 @@ mod wrong_entries;
 
 pub use explain::reasons;
 pub use packed_and_utf_16_files::{form_tip, has_other_form};
+pub use refused_file_words::is_newer;

@@ -121,6 +121,22 @@ fn tell_version(
     }
 }
 
+/// Whether a file says version 3 and is refused for that, where older ones alone are read.
+pub fn is_newer(refusal: &RefusedFile) -> bool {
+    match (&refusal.fault, &refusal.value) {
+        (FileFault::BadVersion { .. }, Some(value)) => says_version_three(value),
+        _ => false,
+    }
+}
+
+/// Whether a JSON value says version 3.
+fn says_version_three(value: &Value) -> bool {
+    match value.get(Key::Version.name()) {
+        Some(version) => version.as_u64() == Some(3),
+        None => false,
+    }
+}
+
 /// The versions that are read where this is the newest.
 fn versions_up_to(newest: Version) -> &'static str {
     match newest {

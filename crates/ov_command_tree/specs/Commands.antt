@@ -22,10 +22,11 @@ run_command =
     (flag (codes "progress"))
 
 -- `analyse [FILE] [--group TEXT] [--without TEXT] [--at-least TEXT] [--workers TEXT] [--certificate] [--names]
--- [--explain] [--progress]`
+-- [--explain] [--progress] [--large]`
 abbrev pub analyse_command : App
 analyse_command =
     with_rule
+    (with_rule
     (with_rule
     (with_rule
     (with_rule
@@ -39,12 +40,14 @@ analyse_command =
     (flag (codes "certificate")))
     (flag (codes "names")))
     (flag (codes "explain")))
-    (flag (codes "progress"))
+    (flag (codes "progress")))
+    (flag (codes "large"))
 
--- `import [FILE] [--views] [--edges] [--dot] [--either] [--entries]`
+-- `import [FILE] [--views] [--edges] [--dot] [--either] [--entries] [--large]`
 abbrev pub import_command : App
 import_command =
     with_rule
+    (with_rule
     (with_rule
     (with_rule
     (with_rule
@@ -52,7 +55,8 @@ import_command =
     (flag (codes "edges")))
     (flag (codes "dot")))
     (flag (codes "either")))
-    (flag (codes "entries"))
+    (flag (codes "entries")))
+    (flag (codes "large"))
 
 -- `picture [FILE] [--names TEXT] [--pair TEXT] [--fan TEXT] [--dot]`
 abbrev pub picture_command : App
@@ -65,9 +69,9 @@ picture_command =
     (option (codes "fan")))
     (flag (codes "dot"))
 
--- `graph [FILE]`
+-- `graph [FILE] [--large]`
 abbrev pub graph_command : App
-graph_command = with_rule (new_app (codes "graph")) (new_rule (codes "file"))
+graph_command = with_rule (with_rule (new_app (codes "graph")) (new_rule (codes "file"))) (flag (codes "large"))
 
 -- `overlay` alone; its own name is none of the arguments
 abbrev pub overlay_app : App

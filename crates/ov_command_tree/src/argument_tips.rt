@@ -64,10 +64,13 @@ const THREADS: &str = "`--workers N` shares out the analysis";
 
 const INTO: &str = "`> FILE` behind the command writes what it prints into a file";
 
+const SMALL: &str =
+    "pictures are of up to 1024 nodes; `tagzirk report` draws the cut of a larger graph and its two sides";
+
 const TAGZIRK: &str = "`tagzirk` has it, a command of its own: `tagzirk --help` says more";
 
 /// The rows with `TAGZIRK` are the commands and options that `tagzirk` has and `overlay` has not.
-static MEANT: [Meant; 48] = [
+static MEANT: [Meant; 49] = [
     Meant("", "version", "`overlay --version` prints the version"),
     Meant("", "check", CHECK),
     Meant("", "verify", CHECK),
@@ -90,6 +93,7 @@ static MEANT: [Meant; 48] = [
     Meant("analyse", "--threads", THREADS),
     Meant("analyse", "-j", THREADS),
     Meant("analyse", "--json", "`--certificate` prints JSON"),
+    Meant("picture", "--large", SMALL),
     Meant(EACH, "-o", INTO),
     Meant(EACH, "--output", INTO),
     Meant(EACH, "--form", TAGZIRK),

@@ -60,6 +60,7 @@ Examples:
   overlay analyse net.graph --group 1,2,3 --workers 4
   overlay analyse net.graph --without 4 --at-least 2
   overlay analyse net.graph --names --explain
+  overlay analyse wide.graph --large --workers 4
   overlay analyse net.graph --certificate | tail -1 | overlay-check";
 
 /// What help says of `overlay analyse`, and of its other options.
@@ -81,6 +82,8 @@ const CERTIFICATE: &str = "Prints the certificate file too";
 const NAMES: &str = "Prints the answer in the names that the graph file gives too";
 
 const EXPLAIN_ANSWER: &str = "Says the answer in words on standard error";
+
+const LARGE_GRAPH: &str = "Takes up to 32768 nodes, in place of 1024";
 
 /// What help of `overlay import` begins with.
 const IMPORT_EXAMPLES: &str = "\
@@ -110,6 +113,8 @@ const EITHER: &str = "Links two that do not both list each other, too";
 
 const ENTRIES: &str = "Leaves out names that have no entry";
 
+const LARGE_DUMP: &str = "Takes up to 32768 names, in place of 1024";
+
 /// What help of `overlay picture` begins with.
 const PICTURE_EXAMPLES: &str = "\
 Examples:
@@ -136,6 +141,8 @@ Example:
   overlay graph net.json > sent.graph";
 
 const ABOUT_GRAPH: &str = "Prints the graph of a certificate file as a graph file";
+
+const LARGE_CERTIFICATE: &str = "Reads version 3 too, of up to 32768 nodes";
 
 /// What help of a command says.
 #[derive(Clone, Copy)]
@@ -271,6 +278,11 @@ static COMMANDS: [CommandRow<'static>; 5] = [
                 action: ArgAction::SetTrue,
                 help: PROGRESS,
             },
+            OptionRow {
+                name: "large",
+                action: ArgAction::SetTrue,
+                help: LARGE_GRAPH,
+            },
         ],
     },
     CommandRow {
@@ -301,6 +313,11 @@ static COMMANDS: [CommandRow<'static>; 5] = [
                 name: "entries",
                 action: ArgAction::SetTrue,
                 help: ENTRIES,
+            },
+            OptionRow {
+                name: "large",
+                action: ArgAction::SetTrue,
+                help: LARGE_DUMP,
             },
         ],
     },
@@ -333,7 +350,11 @@ static COMMANDS: [CommandRow<'static>; 5] = [
     CommandRow {
         name: "graph",
         help: GRAPH_HELP,
-        options: &[],
+        options: &[OptionRow {
+            name: "large",
+            action: ArgAction::SetTrue,
+            help: LARGE_CERTIFICATE,
+        }],
     },
 ];
 

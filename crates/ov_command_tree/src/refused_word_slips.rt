@@ -1,5 +1,5 @@
 //! What a person may mean whose words behind `overlay grow` or `overlay sweep` are refused by `clap`.
-use crate::argument_tips::{FOUND, GAP, HELP_BELOW, UNEXPECTED, push_list, quoted};
+use crate::argument_tips::{FOUND, GAP, HELP_BELOW, UNEXPECTED, quoted};
 use crate::grow_and_sweep_clap_commands::GrowingCommand;
 use crate::grow_and_sweep_option_tables::{option_named, takes_list};
 use crate::value_slips::{counts_in_hundred, is_of_numbers, list_line, one_value};
@@ -137,14 +137,10 @@ fn unexpected_reason(
     if let Some(name) = flag_before(words, word) {
         return no_value(alloc, name, word);
     }
-    let mut tip = row_tip(alloc, words, word)?;
-    if tip.is_empty() {
-        tip = number_tip(alloc, command, words, word)?;
+    match tip_of_word(command, words, word) {
+        Some(tip) => with_slip(alloc, said, tip),
+        None => Ok(String::new(alloc)),
     }
-    if tip.is_empty() {
-        return Ok(tip);
-    }
-    with_line(alloc, said, tip.as_str())
 }
 
 /// The name of the option which takes nothing and behind which this word stands, that is no option.
@@ -179,39 +175,60 @@ fn word_before(words: &[String], place: usize, back: usize) -> &str {
     }
 }
 
-/// How a row is named, if a word that is not expected is a part of the name. Else it is empty.
-fn row_tip(alloc: Global, words: &[String], word: &str) -> Result<String, AllocError> {
+/// What to write in place of words that are not expected.
+#[derive(Clone, Copy)]
+enum SlipTip<'a> {
+    /// The name of a row that begins with a hyphen.
+    Hyphened(&'a str),
+    /// The file of a row, and its number.
+    Row(&'a str, &'a str),
+    /// An option that counts in 100, and the numbers that are its value.
+    Hundredths(&'a str, &'a str),
+    /// The two parts of a list.
+    List(&'a str, &'a str),
+}
+
+/// What to write where a word is not expected, if it is known.
+fn tip_of_word<'a>(
+    command: GrowingCommand,
+    words: &'a [String],
+    word: &'a str,
+) -> Option<SlipTip<'a>> {
+    match row_tip(words, word) {
+        Some(tip) => Some(tip),
+        None => number_tip(command, words, word),
+    }
+}
+
+/// How a row is named, if a word that is not expected is a part of the name.
+fn row_tip<'a>(words: &'a [String], word: &'a str) -> Option<SlipTip<'a>> {
     for (place, next) in words.iter().enumerate() {
         let next = next.as_str();
         let before = word_before(words, place, 1);
         if before == ROW && is_hyphened(next, word) {
-            return format!(in alloc;
-                "tip: a value that begins with a hyphen stands behind `=`: `{ROW}={next}`\n"
-            );
+            return Some(SlipTip::Hyphened(next));
         }
         if word_before(words, place, 2) == ROW && next == word && is_number(word) {
-            return format!(in alloc; "tip: a row is named FILE:N, as `{ROW} {before}:{word}`\n");
+            return Some(SlipTip::Row(before, word));
         }
     }
-    Ok(String::new(alloc))
+    None
 }
 
-/// What to write where a word that is not expected stands behind the numbers of an option. It is empty if nothing is
-/// known.
-fn number_tip(
-    alloc: Global,
+/// What to write where a word that is not expected stands behind the numbers of an option, if it is known.
+fn number_tip<'a>(
     command: GrowingCommand,
-    words: &[String],
-    word: &str,
-) -> Result<String, AllocError> {
+    words: &'a [String],
+    word: &'a str,
+) -> Option<SlipTip<'a>> {
     for (place, next) in words.iter().enumerate() {
         if next.as_str() == word {
             if let Some((name, list)) = numbers_before(words, place) {
-                return tip_behind(alloc, command, name, list, word);
+                return tip_behind(command, name, list, word);
             }
         }
     }
-    Ok(String::new(alloc))
+    None
 }
 
 /// The name of the option before this place, and the numbers that are its value.
@@ -225,29 +242,50 @@ fn numbers_before(words: &[String], place: usize) -> Option<(&str, &str)> {
     is_of_numbers(list).then_some((name, list))
 }
 
-/// What to write where a word stands behind these numbers of the option of this name: it is a part of a list, or the
-/// sign of hundredths.
-fn tip_behind(
-    alloc: Global,
+/// What to write where a word stands behind these numbers of the option of this name: it is the sign of hundredths, or
+/// a part of a list.
+fn tip_behind<'a>(
     command: GrowingCommand,
-    name: &str,
-    list: &str,
-    word: &str,
-) -> Result<String, AllocError> {
-    let mut tip = String::new(alloc);
-    if word == "%" && counts_in_hundred(name) {
-        write!(tip, "tip: it counts in 100, without %: `--{name} {list}`\n")?;
+    name: &'a str,
+    list: &'a str,
+    word: &'a str,
+) -> Option<SlipTip<'a>> {
+    if word == "%" {
+        return counts_in_hundred(name).then_some(SlipTip::Hundredths(name, list));
     }
-    if matches!(command, GrowingCommand::Sweep) && takes_list(name) && is_of_numbers(word) {
-        let joined = format!(in alloc; "{list},{word}")?;
-        push_list(&mut tip, joined.as_str())?;
+    let is_list = matches!(command, GrowingCommand::Sweep) && takes_list(name);
+    (is_list && is_of_numbers(word)).then_some(SlipTip::List(list, word))
+}
+
+/// Appends a line that tells what to write.
+fn push_tip(text: &mut String, tip: SlipTip<'_>) -> Result<(), AllocError> {
+    match tip {
+        SlipTip::Hyphened(name) => write!(
+            text,
+            "tip: a value that begins with a hyphen stands behind `=`: `{ROW}={name}`\n"
+        ),
+        SlipTip::Row(file, number) => write!(
+            text,
+            "tip: a row is named FILE:N, as `{ROW} {file}:{number}`\n"
+        ),
+        SlipTip::Hundredths(name, list) => write!(
+            text,
+            "tip: it counts in 100, without %: `--{name} {list}`\n"
+        ),
+        SlipTip::List(list, word) => write!(text, "tip: a list has no spaces: `{list},{word}`\n"),
     }
-    Ok(tip)
 }
 
 /// Whether a word names a row, and begins with what was taken for an option.
 fn is_hyphened(word: &str, taken: &str) -> bool {
     taken.starts_with('-') && word.starts_with(taken) && word.contains(':')
+}
+
+/// What is wrong in the words of `clap`, without its own tip, and with this one below.
+fn with_slip(alloc: Global, said: &str, tip: SlipTip<'_>) -> Result<String, AllocError> {
+    let mut text = with_line(alloc, said, "")?;
+    push_tip(&mut text, tip)?;
+    Ok(text)
 }
 
 /// What is wrong in the words of `clap`, without its own tip, and with this line below.

@@ -39,28 +39,30 @@ all_left (Some members) = refl
 
 -- an analysis without lists answers as is asked
 plain : (bytes text : List ℕ) (asked : AnalysisAsked) (certificate : Bool) (answered : ReportOrRefusal)
-    → asked.gone ≡ None → asked.group ≡ None → IsAnalysis bytes asked.ids certificate answered text
+    → asked.gone ≡ None → asked.group ≡ None → IsAnalysis asked.limit bytes asked.ids certificate answered text
     → IsAnsweredOf bytes asked answered
 plain bytes text asked certificate answered no_gone no_group is = record {
   graph = is.graph;
   says = is.says;
+  within = is.within;
   gone = [];
-  without = (None, subst (λ t. AreListed bytes asked.named t None) (sym no_gone) refl, refl);
+  without = (None, subst (λ t. AreListed asked.limit bytes asked.named t None) (sym no_gone) refl, refl);
   left = is.graph;
   loses = loses_nobody is.graph is.says.graph;
   group = asked.ids;
-  members = (None, subst (λ t. AreListed bytes asked.named t None) (sym no_group) refl, all_left asked.ids);
+  members = (None, subst (λ t. AreListed asked.limit bytes asked.named t None) (sym no_group) refl, all_left asked.ids);
   answers = printed is.graph _ certificate answered text is.prints;
 }
 
 -- one that tells more does
 more : (bytes text : List ℕ) (asked : AnalysisAsked) (gone : List ℕ) (group : Option (List ℕ)) (answered : ReportOrRefusal)
     → AreGone bytes asked gone → IsGroupLeft bytes asked gone group
-    → IsTelling bytes gone group asked.certificate asked.named answered text
+    → IsTelling asked.limit bytes gone group asked.certificate asked.named answered text
     → IsAnsweredOf bytes asked answered
 more bytes text asked gone group answered are left is = record {
   graph = is.graph;
   says = is.says;
+  within = is.within;
   gone = gone;
   without = are;
   left = is.left;
@@ -83,6 +85,7 @@ asked_by analysis lists gone group = record {
   certificate = refl;
   named = refl;
   least = refl;
+  limit = refl;
 }
 
 -- the status of an analysis of the graph file of these bytes

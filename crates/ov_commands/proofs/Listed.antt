@@ -3,6 +3,7 @@ use Rattle.std.proofs.Common.{◌≡◌, ◌∙◌, ◌⊎◌, ℕ, Bool, true, 
 use Rattle.std.proofs.Common.{[], ◌∷◌, ◌++◌, ◌+◌, refl, subst, ap, flat_map, replicate, length, if◌then◌else◌}
 use Rattle.std.proofs.lemmas.List.{append_assoc, replicate-append-replicate}
 use Rattle.ov_graph.specs.Links.{LinkGraph}
+use Rattle.ov_graph.specs.declared.size_limit.SizeLimit.{SizeLimit}
 use Rattle.ov_graphfile.specs.GraphFiles.{IsGraphFile}
 use Rattle.ov_graphfile.specs.NamesState.{NamesState, names_of}
 use Rattle.ov_graphfile.specs.NameLines.{AreNamesOf}
@@ -23,17 +24,17 @@ list_names bytes false g told kept says keeps places is =
     (g, says, ap (names_of g) (is ∙ ap (λ (n : ℕ). replicate n None) places))
 
 -- bytes that are no graph file name nobody
-pub nobody_in : (bytes : List ℕ) (named : Bool) (text : Option (List ℕ)) → IsNoGraphFile bytes
-    → AreListed bytes named text None
-nobody_in bytes named None is = refl
-nobody_in bytes named (Some text) is = is
+pub nobody_in : (limit : SizeLimit) (bytes : List ℕ) (named : Bool) (text : Option (List ℕ))
+    → IsNoGraphFile limit bytes → AreListed limit bytes named text None
+nobody_in limit bytes named None is = refl
+nobody_in limit bytes named (Some text) is = is
 
 -- nodes that a list names by these names are the nodes that it lists
-pub listed : (bytes : List ℕ) (named : Bool) (names : NamesState) (text nodes : Option (List ℕ))
-    → AreListNames bytes named names → AreNamed names text nodes → AreListed bytes named text nodes
-listed bytes named names None nodes are is = is
-listed bytes named names (Some text) None are is = absurd is
-listed bytes named names (Some text) (Some nodes) are is = (names, are, is)
+pub listed : (limit : SizeLimit) (bytes : List ℕ) (named : Bool) (names : NamesState) (text nodes : Option (List ℕ))
+    → AreListNames bytes named names → AreNamed names text nodes → AreListed limit bytes named text nodes
+listed limit bytes named names None nodes are is = is
+listed limit bytes named names (Some text) None are is = absurd is
+listed limit bytes named names (Some text) (Some nodes) are is = (names, are, is)
 
 -- a list that names nobody by these names
 not_listed : (bytes : List ℕ) (named : Bool) (names : NamesState) (text : Option (List ℕ)) (f : _)
@@ -66,7 +67,7 @@ nothing_told bytes asked contents sink (OfFile f) is = absurd is
 answered_so : {W : Type 0} (bytes : List ℕ) (asked : AnalysisAsked) (gone : List ℕ) (group : Option (List ℕ))
     (contents : W → Option (List ℕ)) (old new : SinkState W) (result : Result ℕ CommandFault)
     → AreGone bytes asked gone → IsGroupLeft bytes asked gone group
-    → WasAnswered bytes gone group asked.certificate asked.named asked.least contents old new result
+    → WasAnswered asked.limit bytes gone group asked.certificate asked.named asked.least contents old new result
     → WasTold bytes asked contents old new result
 answered_so bytes asked gone group contents old new (Ok status) are is was =
     (gone, group, was.0, are, is, was.1, was.2)
@@ -75,19 +76,20 @@ answered_so bytes asked gone group contents old new (Err (Group f)) are is was =
 answered_so bytes asked gone group contents old new (Err (OfFile f)) are is was = absurd was
 
 -- what was answered of the nodes that are left, by a request of theirs, is what was told
-pub answered : {W : Type 0} (bytes : List ℕ) (asked : AnalysisAsked) (gone taken : List ℕ)
+pub answered : {W : Type 0} (limit : SizeLimit) (bytes : List ℕ) (asked : AnalysisAsked) (gone taken : List ℕ)
     (group members : Option (List ℕ)) (certificate named : Bool)
     (contents : W → Option (List ℕ)) (old new : SinkState W) (result : Result ℕ CommandFault)
     → AreGone bytes asked gone → IsGroupLeft bytes asked gone group
-    → taken ≡ gone → members ≡ group → certificate ≡ asked.certificate → named ≡ asked.named
-    → WasAnswered bytes taken members certificate named asked.least contents old new result
+    → limit ≡ asked.limit → taken ≡ gone → members ≡ group → certificate ≡ asked.certificate → named ≡ asked.named
+    → WasAnswered limit bytes taken members certificate named asked.least contents old new result
     → WasTold bytes asked contents old new result
-answered bytes asked gone taken group members certificate named contents old new result are is e f h i was =
+answered limit bytes asked gone taken group members certificate named contents old new result are is l e f h i was =
     answered_so bytes asked gone group contents old new result are is
-    (subst (λ n. WasAnswered bytes gone group asked.certificate n asked.least contents old new result) i
-    (subst (λ c. WasAnswered bytes gone group c named asked.least contents old new result) h
-    (subst (λ m. WasAnswered bytes gone m certificate named asked.least contents old new result) f
-    (subst (λ t. WasAnswered bytes t members certificate named asked.least contents old new result) e was))))
+    (subst (λ n. WasAnswered asked.limit bytes gone group asked.certificate n asked.least contents old new result) i
+    (subst (λ c. WasAnswered asked.limit bytes gone group c named asked.least contents old new result) h
+    (subst (λ m. WasAnswered asked.limit bytes gone m certificate named asked.least contents old new result) f
+    (subst (λ t. WasAnswered asked.limit bytes t members certificate named asked.least contents old new result) e
+    (subst (λ s. WasAnswered s bytes taken members certificate named asked.least contents old new result) l was)))))
 
 -- ---- the texts of lists, and no names
 

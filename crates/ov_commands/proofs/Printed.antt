@@ -4,6 +4,7 @@ use Rattle.ov_ids.specs.FaultOrder.{IsRefusedBy}
 use Rattle.ov_ids.proofs.Stepping.{step_none}
 use Rattle.ov_cert.specs.declared.cert.Cert.{Cert}
 use Rattle.ov_certfile.specs.declared.reading.Filed.{Filed}
+use Rattle.ov_certfile.specs.declared.version.Version.{Version}
 use Rattle.ov_certfile.specs.declared.version.Version.TheVariants.{Two}
 use Rattle.ov_check.specs.Outcome.{IsOutcome}
 use Rattle.ov_check.specs.declared.outcome_of_file_bytes.Outcome.TheVariants.{Holds}
@@ -18,13 +19,13 @@ use Rattle.ov_commands.specs.Code.Endings.{IsNotNamed, WasWritten}
 use Rattle.ov_commands.specs.declared.conversion_fault.ConversionFault.{ConversionFault}
 use Rattle.ov_commands.specs.declared.conversion_fault.ConversionFault.TheVariants.{Refused, Write, OutOfMemory}
 
-pub graph_written : {W : Type 0} (bytes text : List ℕ) (contents : W → Option (List ℕ)) (old new : W)
-    (result : Result (Unit {0}) ConversionFault) → IsGraphTextOf bytes text → WasWritten text contents old new result
-    → WasGraphPrinted bytes contents old new result
-graph_written bytes text contents old new (Ok done) is it = (text, is, it)
-graph_written bytes text contents old new (Err Write) is it = (text, is, it)
-graph_written bytes text contents old new (Err (Refused number)) is it = absurd it
-graph_written bytes text contents old new (Err OutOfMemory) is it = absurd it
+pub graph_written : {W : Type 0} (newest : Version) (bytes text : List ℕ) (contents : W → Option (List ℕ)) (old new : W)
+    (result : Result (Unit {0}) ConversionFault) → IsGraphTextOf newest bytes text
+    → WasWritten text contents old new result → WasGraphPrinted newest bytes contents old new result
+graph_written newest bytes text contents old new (Ok done) is it = (text, is, it)
+graph_written newest bytes text contents old new (Err Write) is it = (text, is, it)
+graph_written newest bytes text contents old new (Err (Refused number)) is it = absurd it
+graph_written newest bytes text contents old new (Err OutOfMemory) is it = absurd it
 
 pub picture_written : {W : Type 0} (bytes : List ℕ) (names : Option (List ℕ)) (entry : Option ChosenEntry)
     (dot : Bool) (text : List ℕ) (contents : W → Option (List ℕ)) (old new : W)

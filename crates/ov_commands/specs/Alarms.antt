@@ -1,6 +1,6 @@
 -- With which status `overlay analyse` ends if it has no fault, by what its arguments ask for.
-use Rattle.std.specs.Prelude.{◌≡◌, ℕ, List, Option, IfSome, option_map, string_bytes}
-use Rattle.ov_graph.specs.Links.{LinkGraph, HasNode, IsGroup}
+use Rattle.std.specs.Prelude.{◌≡◌, ℕ, ◌≤◌, List, length, Option, IfSome, option_map, string_bytes}
+use Rattle.ov_graph.specs.Links.{LinkGraph, HasNode, IsGroup, most_of}
 use Rattle.ov_graphfile.specs.GraphFiles.{IsGraphFile}
 use Rattle.ov_cert.specs.Valid.{IsValidForGroup, k_of}
 use Rattle.ov_cert.specs.declared.cert.Cert.{Cert}
@@ -11,6 +11,7 @@ use Rattle.ov_answers.specs.declared.report_or_refusal.ReportOrRefusal.{ReportOr
 use Rattle.ov_answers.specs.declared.report_or_refusal.ReportOrRefusal.TheVariants.{Report, NoNodes, BadGroup}
 use Rattle.ov_arguments.specs.declared.arguments.AnalysisRequest.{AnalysisRequest}
 use Rattle.ov_commands.specs.Naming.{AnalysisAsked, AreGone, IsGoneGiven, IsGroupLeft, IsListGiven}
+use Rattle.ov_commands.specs.Sizes.{limit_of}
 use Rattle.ov_commands.specs.Statuses.{alarm_status}
 
 -- these arguments ask for this. The text of a list is the argument itself, or that in the file that it names
@@ -21,6 +22,7 @@ pub record IsAskedBy (analysis : AnalysisRequest) (asked : AnalysisAsked) : Type
   pub certificate : asked.certificate ≡ analysis.certificate
   pub named : asked.named ≡ analysis.names
   pub least : asked.least ≡ analysis.at_least
+  pub limit : asked.limit ≡ limit_of analysis.large
 
 -- what an analysis answers of a graph and a group: the number k of a certificate that is valid for them; or there is no
 -- answer, since the graph has no node, or since the ids are no group of its nodes
@@ -29,11 +31,12 @@ IsAnswered g q (Report k) = (c : Cert) × IsAnswer g q c × IsValidForGroup g q 
 IsAnswered g q NoNodes = ¬ HasNode g
 IsAnswered g q BadGroup = HasNode g × (¬ IsGroup g q)
 
--- this is answered of the graph file of these bytes, as is asked: of its graph without the nodes that are gone, and of
--- the members of the group that are left
+-- this is answered of the graph file of these bytes, as is asked: of its graph, which has at most as many nodes as may
+-- be, without the nodes that are gone, and of the members of the group that are left
 pub record IsAnsweredOf (bytes : List ℕ) (asked : AnalysisAsked) (answered : ReportOrRefusal) : Type 0 where
   pub graph : LinkGraph
   pub says : IsGraphFile bytes graph
+  pub within : length graph.nodes ≤ most_of asked.limit
   pub gone : List ℕ
   pub without : AreGone bytes asked gone
   pub left : LinkGraph

@@ -20,6 +20,7 @@ use Rattle.ov_lines.specs.declared.file_kinds.FileKind.TheVariants as kind
 use Rattle.ov_dump.specs.Importing.{WasImported}
 use Rattle.ov_dump.specs.declared.refusal_or_write_fault.ImportFault.{ImportFault}
 use Rattle.ov_dump.specs.declared.refusal_or_write_fault.ImportFault.TheVariants as import
+use Rattle.ov_commands.specs.Sizes.{limit_of}
 use Rattle.ov_commands.specs.declared.import_command.UnreadDump.{UnreadDump}
 use Rattle.ov_commands.specs.declared.import_command.UnreadDump.TheVariants as unread
 use Rattle.ov_commands.specs.declared.conversion_fault.ConversionFault.{ConversionFault}
@@ -56,9 +57,13 @@ IsUnreadDump Edges bytes (unread.Reading fault) = IsEdgesFault bytes fault
 IsUnreadDump Dot bytes (unread.Dot fault) = IsDotFault bytes fault
 IsUnreadDump form bytes other = ⊥
 
--- which names and which links are taken
+-- which names and which links are taken, and how many names
 abbrev pub choice_of : ImportRequest → Choice
-choice_of request = record { either = request.either; entries_only = request.entries }
+choice_of request = record {
+  either = request.either;
+  entries_only = request.entries;
+  limit = limit_of request.large;
+}
 
 -- ---- the faults
 

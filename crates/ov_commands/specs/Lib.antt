@@ -1,4 +1,5 @@
 pub mod Faults
+pub mod Sizes
 pub mod Statuses
 pub mod Alarms
 pub mod Naming

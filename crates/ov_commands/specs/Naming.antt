@@ -3,6 +3,7 @@
 use Rattle.std.specs.Prelude.{◌≡◌, ◌≢◌, ◌⊎◌, ℕ, Bool, true, false, List, [], ◌∷◌, drop, flat_map, length, option_map}
 use Rattle.std.specs.Prelude.{replicate, unwrap_or, Option, Some, None, Result, Ok, Err}
 use Rattle.ov_graph.specs.Links.{LinkGraph}
+use Rattle.ov_graph.specs.declared.size_limit.SizeLimit.{SizeLimit}
 use Rattle.ov_graphfile.specs.GraphFiles.{IsGraphFile, IsGraphFileFault}
 use Rattle.ov_graphfile.specs.declared.fault.GraphFileFault.{GraphFileFault}
 use Rattle.ov_graphfile.specs.declared.fault.GraphFileFault.TheVariants as graph_file
@@ -18,6 +19,7 @@ use Rattle.ov_answers.specs.Telling.{IsToldOf}
 use Rattle.ov_answers.specs.declared.request.ToldAnalysis.{ToldAnalysis}
 use Rattle.ov_arguments.specs.declared.arguments.AnalysisRequest.{AnalysisRequest}
 use Rattle.ov_run_meaning.specs.declared.run_fault.RunFault.TheVariants as run
+use Rattle.ov_commands.specs.Sizes.{limit_of}
 use Rattle.ov_commands.specs.Statuses.{HasAnalysed, alarm_status}
 use Rattle.ov_commands.specs.declared.command_fault.CommandFault.{CommandFault}
 use Rattle.ov_commands.specs.declared.command_fault.CommandFault.TheVariants.{Group, Run}
@@ -58,7 +60,7 @@ IsGoneGiven (Some argument) (Some text) = IsListText argument text × (NamesFile
 
 -- what is asked of an analysis, besides its graph file: the ids of the group, or the text of the list that names it;
 -- the text of the list of the nodes that are gone; whether the certificate file and the lines with names are asked for;
--- and the least number k
+-- the least number k; and how many nodes the graph may have
 pub record AnalysisAsked : Type 0 where
   pub ids : Option (List ℕ)
   pub group : Option (List ℕ)
@@ -66,6 +68,7 @@ pub record AnalysisAsked : Type 0 where
   pub certificate : Bool
   pub named : Bool
   pub least : Option ℕ
+  pub limit : SizeLimit
 
 -- what these arguments and these lists ask for
 abbrev pub asked_of : AnalysisRequest → NodeLists → AnalysisAsked
@@ -76,6 +79,7 @@ asked_of analysis lists = record {
   certificate = analysis.certificate;
   named = analysis.names;
   least = analysis.at_least;
+  limit = limit_of analysis.large;
 }
 
 -- these are the names that the graph file of these bytes keeps of its nodes
@@ -92,15 +96,17 @@ abbrev pub AreListNames : List ℕ → Bool → NamesState → Type 0
 AreListNames bytes true names = KeepsNames bytes names
 AreListNames bytes false names = (g : LinkGraph) × IsGraphFile bytes g × (names ≡ nameless g)
 
--- the bytes are no graph file
-abbrev pub IsNoGraphFile : List ℕ → Type 0
-IsNoGraphFile bytes = (fault : GraphFileFault) × (fault ≢ graph_file.OutOfMemory) × IsGraphFileFault bytes fault
+-- the bytes are no graph file of at most so many nodes
+abbrev pub IsNoGraphFile : SizeLimit → List ℕ → Type 0
+IsNoGraphFile limit bytes =
+    (fault : GraphFileFault) × (fault ≢ graph_file.OutOfMemory) × IsGraphFileFault limit bytes fault
 
--- the nodes that a list names, by its text: none without a list, and none in bytes that are no graph file
-abbrev pub AreListed : List ℕ → Bool → Option (List ℕ) → Option (List ℕ) → Type 0
-AreListed bytes named None listed = listed ≡ None
-AreListed bytes named (Some text) None = IsNoGraphFile bytes
-AreListed bytes named (Some text) (Some nodes) =
+-- the nodes that a list names, by its text: none without a list, and none in bytes that are no graph file of at most so
+-- many nodes
+abbrev pub AreListed : SizeLimit → List ℕ → Bool → Option (List ℕ) → Option (List ℕ) → Type 0
+AreListed limit bytes named None listed = listed ≡ None
+AreListed limit bytes named (Some text) None = IsNoGraphFile limit bytes
+AreListed limit bytes named (Some text) (Some nodes) =
     (names : NamesState) × AreListNames bytes named names × IsGroupNamed names (parts_of text) nodes
 
 -- a list names no nodes for this reason
@@ -112,7 +118,8 @@ NamesNobody bytes named (Some text) fault =
 -- the nodes that are gone, of the graph file of these bytes: those of the list, if there is one
 abbrev pub AreGone : List ℕ → AnalysisAsked → List ℕ → Type 0
 AreGone bytes asked nodes =
-    (listed : Option (List ℕ)) × AreListed bytes asked.named asked.gone listed × (nodes ≡ unwrap_or listed [])
+    (listed : Option (List ℕ)) × AreListed asked.limit bytes asked.named asked.gone listed
+    × (nodes ≡ unwrap_or listed [])
 
 -- the group that is named, or else that of these ids
 abbrev pub picked : Option (List ℕ) → Option (List ℕ) → Option (List ℕ)
@@ -123,7 +130,7 @@ picked None ids = ids
 -- left are the group
 abbrev pub IsGroupLeft : List ℕ → AnalysisAsked → List ℕ → Option (List ℕ) → Type 0
 IsGroupLeft bytes asked gone group =
-    (listed : Option (List ℕ)) × AreListed bytes asked.named asked.group listed
+    (listed : Option (List ℕ)) × AreListed asked.limit bytes asked.named asked.group listed
     × (group ≡ option_map (without_all gone) (picked listed asked.ids))
 
 -- ---- what comes of it
@@ -136,11 +143,11 @@ abbrev pub WasTold : {W : Type 0} → List ℕ → AnalysisAsked → (W → Opti
 WasTold bytes asked contents old new (Ok status) =
     (gone : List ℕ) × (group : Option (List ℕ)) × (told : ToldAnalysis) × AreGone bytes asked gone
     × IsGroupLeft bytes asked gone group
-    × IsToldOf bytes contents old gone group asked.certificate asked.named new (Ok told)
+    × IsToldOf asked.limit bytes contents old gone group asked.certificate asked.named new (Ok told)
     × (status ≡ alarm_status asked.least told.answered)
 WasTold bytes asked contents old new (Err (Run fault)) =
     ((gone : List ℕ) × (group : Option (List ℕ)) × AreGone bytes asked gone × IsGroupLeft bytes asked gone group
-    × IsToldOf bytes contents old gone group asked.certificate asked.named new (Err fault))
+    × IsToldOf asked.limit bytes contents old gone group asked.certificate asked.named new (Err fault))
     ⊎ ((fault ≡ run.OutOfMemory) × (new ≡ old))
 WasTold bytes asked contents old new (Err (Group fault)) =
     (NamesNobody bytes asked.named asked.gone fault ⊎ NamesNobody bytes asked.named asked.group fault) × (new ≡ old)
@@ -152,7 +159,8 @@ abbrev pub WasPrintedAlone : {W : Type 0} → List ℕ → AnalysisAsked → (W 
     → Result ℕ CommandFault → Type 0
 WasPrintedAlone bytes asked contents old new result =
     (asked.gone ≡ None) × (asked.group ≡ None) × (asked.named ≡ false)
-    × HasAnalysed asked.least (IsAnalysisOf (Some bytes) contents old asked.ids asked.certificate new) result
+    × HasAnalysed asked.least
+    (IsAnalysisOf asked.limit (Some bytes) contents old asked.ids asked.certificate new) result
 
 -- what came of an analysis of the graph file of these bytes
 abbrev pub WasAnalysed : {W : Type 0} → List ℕ → AnalysisAsked → (W → Option (List ℕ)) → SinkState W → SinkState W

@@ -12,6 +12,7 @@ use Rattle.ov_check.specs.Outcome.{IsOutcome, status_of}
 use Rattle.ov_check.specs.declared.outcome_of_file_bytes.Outcome.{Outcome}
 use Rattle.ov_check.specs.declared.outcome_of_file_bytes.Outcome.TheVariants.{Holds, Fails, Refused as refused}
 use Rattle.ov_graph.specs.Links.{LinkGraph}
+use Rattle.ov_graph.specs.declared.size_limit.SizeLimit.TheVariants.{Usual}
 use Rattle.ov_graphfile.specs.Faults as graph_file
 use Rattle.ov_graphfile.specs.GraphFiles.{IsGraphFile, IsGraphFileFault}
 use Rattle.ov_graphfile.specs.declared.fault.GraphFileFault.{GraphFileFault}
@@ -47,11 +48,12 @@ outcome_number (refused r) = certificate_file.number_of r.fault
 abbrev pub HoldsNot : List ℕ → ℕ → Type 0
 HoldsNot bytes number = (o : Outcome) × IsOutcome Two bytes o × (status_of o ≡ 1) × (number ≡ outcome_number o)
 
--- the file that names the nodes of g is refused, with this number: it is no graph file, or says another graph (87)
+-- the file that names the nodes of g is refused, with this number: it is no graph file of up to
+-- 1,024 nodes, or says another graph (87)
 abbrev pub NamesNot : Option (List ℕ) → LinkGraph → ℕ → Type 0
 NamesNot None g number = ⊥
 NamesNot (Some file) g number =
-    ((fault : GraphFileFault) × (fault ≢ graph_file_fault.OutOfMemory) × IsGraphFileFault file fault
+    ((fault : GraphFileFault) × (fault ≢ graph_file_fault.OutOfMemory) × IsGraphFileFault Usual file fault
     × (number ≡ graph_file.number_of fault))
     ⊎ ((other : LinkGraph) × IsGraphFile file other × (other ≢ g) × (number ≡ 87))
 

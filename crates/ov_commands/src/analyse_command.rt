@@ -3,6 +3,7 @@ ghost use Rattle.ov_io.specs.Device.{most_faults};
 ghost use Rattle.ov_answers.specs.Analysing.{IsAnalysisOf};
 ghost use Rattle.ov_commands.specs.Alarms.{IsStatusAsked, IsStatusOfReader};
 ghost use Rattle.ov_commands.specs.Naming.{WasAnalysed, asked_of};
+ghost use Rattle.ov_commands.specs.Sizes.{limit_of};
 ghost use Rattle.ov_commands.specs.Statuses.{HasRead, IsAlarmStatus, analysis_status};
 
 use crate::analyse_in_names_or_words::analyse_in_words;
@@ -10,8 +11,10 @@ use crate::analysis_progress::PieceProgress;
 use crate::command_fault::CommandFault;
 use crate::least_number_alarm::alarm_status;
 use crate::node_list_texts::{NodeLists, lists_of};
+use crate::sizes_asked::limit_of;
 use ov_answers::{ReportOrRefusal, analyse_bytes};
 use ov_arguments::AnalysisRequest;
+use ov_graph::SizeLimit;
 use ov_ids::NodeId;
 use ov_io::Sink;
 use ov_lines::FileKind;
@@ -62,7 +65,8 @@ pub fn analyse_given<T: Threads + Sync, R: Read + Drop, W: Write>(
 
 /// Analyses the graph of a reader, of the file of this name or of standard input: without the nodes that a list says
 /// are gone, and for the group that another list names, or that of ids. Prints the answer, also in the names that the
-/// file gives and in words as far as this is asked for; or a fault, and why.
+/// file gives and in words as far as this is asked for; or a fault, and why. The graph may have 1,024 nodes, or 32,768
+/// if a large one is asked for.
 ///
 /// The status is 3 if a least number is asked for and the answer is below it, or there is no answer, since no node is
 /// left or the ids are no group; otherwise it is 0. The faults are those of the reader (71), of the graph file (31, 32,
@@ -116,13 +120,15 @@ fn analyse_told<T: Threads + Sync, W: Write>(
     analysis: &AnalysisRequest,
 ) -> Result<ReportOrRefusal, RunFault>
     requires { sink.old.faults < most_faults }
-    ensures analysis { IsAnalysisOf (Some bytes.now) W.contents sink.old
+    ensures analysis { IsAnalysisOf (limit_of analysis.now.large) (Some bytes.now) W.contents sink.old
         (option_map (λ ids. ids.items) analysis.now.group) analysis.now.certificate sink.new result }
 {
     let mut progress = PieceProgress::new(rt, analysis.progress);
+    let limit = limit_of(analysis.large);
     let answer = analyse_bytes(
         threads,
         rt.alloc(),
+        limit,
         bytes,
         sink,
         analysis.group.as_deref(),
@@ -133,7 +139,7 @@ fn analyse_told<T: Threads + Sync, W: Write>(
     match &answer {
         Ok(ReportOrRefusal::Report { .. }) => {}
         Ok(ReportOrRefusal::NoNodes | ReportOrRefusal::BadGroup) => {
-            print_refusal(rt, bytes, analysis.group.as_deref());
+            print_refusal(rt, limit, bytes, analysis.group.as_deref());
         }
         Err(fault) => {
             print_fault(rt, *fault);
@@ -144,10 +150,15 @@ fn analyse_told<T: Threads + Sync, W: Write>(
     answer
 }
 
-/// Prints why the analysis of a graph file was refused, after its line. Prints nothing if an allocation for it was
-/// refused.
-pub(crate) fn print_refusal(rt: &HostRuntime, bytes: &[u8], group: Option<&[NodeId]>) {
-    if let Ok(Some(reason)) = group_reason(rt.alloc(), bytes, group) {
+/// Prints why the analysis of a graph file of at most so many nodes was refused, after its line. Prints nothing if an
+/// allocation for it was refused.
+pub(crate) fn print_refusal(
+    rt: &HostRuntime,
+    limit: SizeLimit,
+    bytes: &[u8],
+    group: Option<&[NodeId]>,
+) {
+    if let Ok(Some(reason)) = group_reason(rt.alloc(), limit, bytes, group) {
         let _ = eprint!(rt; "{reason}");
     }
 }

@@ -3,6 +3,7 @@ ghost use Rattle.std.specs.Prelude.{◌≡◌, ◌<◌, [], option_map, unwrap_o
 ghost use Rattle.ov_ids.specs.Sets.{without_all};
 ghost use Rattle.ov_io.specs.Device.{most_faults};
 ghost use Rattle.ov_commands.specs.Naming.{WasTold, asked_of, picked};
+ghost use Rattle.ov_commands.specs.Sizes.{limit_of};
 ghost use Rattle.ov_commands.specs.Statuses.{IsAlarmStatus};
 ghost use Rattle.ov_commands.specs.Code.Named.{WasAnswered};
 
@@ -12,6 +13,7 @@ use crate::command_fault::CommandFault;
 use crate::least_number_alarm::alarm_status;
 use crate::listed_ids::{ListedNodes, listed_nodes};
 use crate::node_list_texts::NodeLists;
+use crate::sizes_asked::limit_of;
 use ov_answers::{ReportOrRefusal, Request, ToldAnalysis, analyse_told, members_left};
 use ov_arguments::AnalysisRequest;
 use ov_ids::{NodeId, OutOfMemory};
@@ -47,7 +49,8 @@ pub(crate) fn analyse_in_words<T: Threads + Sync, W: Write>(
     ensures told { WasTold bytes.now (asked_of analysis.now lists.now) W.contents sink.old sink.new result }
     ensures status { IfOk result (IsAlarmStatus analysis.now.at_least) }
 {
-    let nodes = listed_nodes(rt, bytes, analysis.names, lists)?;
+    let limit = limit_of(analysis.large);
+    let nodes = listed_nodes(rt, limit, bytes, analysis.names, lists)?;
     let ListedNodes { group: named, gone } = nodes;
     let Ok(group) = group_left(rt.alloc(), &named, &analysis.group, &gone) else {
         return Err(without_memory(rt).into());
@@ -59,12 +62,14 @@ pub(crate) fn analyse_in_words<T: Threads + Sync, W: Write>(
 
 /// What these arguments ask for, of this subject.
 fn request_of<'a>(subject: &'a Subject, analysis: &AnalysisRequest) -> Request<'a>
+    ensures limit { result.limit ≡ limit_of analysis.now.large }
     ensures gone { result.gone.now ≡ unwrap_or (option_map (λ ids. ids.items) subject.now.gone) [] }
     ensures group { option_map (λ ids. ids.now) result.group ≡ option_map (λ ids. ids.items) subject.now.group }
     ensures certificate { result.certificate ≡ analysis.now.certificate }
     ensures names { result.names ≡ analysis.now.names }
 {
     Request {
+        limit: limit_of(analysis.large),
         gone: ids_of(&subject.gone),
         group: subject.group.as_deref(),
         workers: analysis.workers,
@@ -85,8 +90,9 @@ fn tell<T: Threads + Sync, W: Write>(
     request: &Request<'_>,
 ) -> Result<u8, CommandFault>
     requires { sink.old.faults < most_faults }
-    ensures answered { WasAnswered bytes.now request.now.gone.now (option_map (λ ids. ids.now) request.now.group)
-        request.now.certificate request.now.names analysis.now.at_least W.contents sink.old sink.new result }
+    ensures answered { WasAnswered request.now.limit bytes.now request.now.gone.now
+        (option_map (λ ids. ids.now) request.now.group) request.now.certificate request.now.names analysis.now.at_least
+        W.contents sink.old sink.new result }
     ensures status { IfOk result (IsAlarmStatus analysis.now.at_least) }
 {
     let mut progress = PieceProgress::new(rt, analysis.progress);
@@ -144,6 +150,7 @@ fn explain(rt: &HostRuntime, bytes: &[u8], request: &Request<'_>, told: &ToldAna
         }
         ReportOrRefusal::NoNodes | ReportOrRefusal::BadGroup => print_refusal(
             rt,
+            request.limit,
             bytes,
             request.group,
         ),

@@ -3,6 +3,7 @@ ghost use Rattle.std.specs.Prelude.{◌≡◌, ◌<◌, option_map, Some, IfOk, 
 ghost use Rattle.ov_commands.specs.Dumps.{WasDumpPrinted};
 ghost use Rattle.ov_commands.specs.Pictures.{WasPicturePrinted, chosen_entry};
 ghost use Rattle.ov_commands.specs.Printing.{WasGraphPrinted};
+ghost use Rattle.ov_commands.specs.Sizes.{newest_of};
 ghost use Rattle.ov_lines.specs.FileKinds.{behind_mark};
 ghost use Rattle.ov_io.specs.Device.{most_faults};
 ghost use Rattle.ov_commands.specs.Statuses.{HasDone, HasRead, command_status};
@@ -12,6 +13,7 @@ use crate::conversion_fault::ConversionFault;
 use crate::graph_file_out_of_certificate_file::print_graph;
 use crate::import_command::print_dump;
 use crate::picture_printing::print_picture;
+use crate::sizes_asked::newest_of;
 use ov_arguments::{ImportRequest, PictureRequest};
 use ov_io::Sink;
 use ov_lines::{FileKind, behind_mark};
@@ -130,17 +132,18 @@ fn picture_from<R: Read + Drop, W: Write>(
     status_of(with_tip(rt, &bytes, file, FileKind::Certificate, printed))
 }
 
-/// Writes the graph of the certificate file of this name, or of standard input, as a graph file.
-pub fn graph_asked(rt: &HostRuntime, file: Option<String>) -> Result<u8, CommandFault>
+/// Writes the graph of the certificate file of this name, or of standard input, as a graph file. A large one may be of
+/// version 3.
+pub fn graph_asked(rt: &HostRuntime, file: Option<String>, large: bool) -> Result<u8, CommandFault>
     ensures status { IfOk result (λ status. status ≡ 0) }
 {
     tell_typing(rt, file.as_deref(), FileKind::Certificate);
     let mut sink = Sink::new(rt.stdout());
     let Some(path) = file.as_deref() else {
-        return graph_from(rt, rt.stdin(), None, &mut sink);
+        return graph_from(rt, large, rt.stdin(), None, &mut sink);
     };
     match opened(rt, path) {
-        Ok(reader) => graph_from(rt, reader, Some(path), &mut sink),
+        Ok(reader) => graph_from(rt, large, reader, Some(path), &mut sink),
         Err(fault) => Err(CommandFault::Run(fault)),
     }
 }
@@ -149,17 +152,19 @@ pub fn graph_asked(rt: &HostRuntime, file: Option<String>) -> Result<u8, Command
 /// file.
 fn graph_from<R: Read + Drop, W: Write>(
     rt: &HostRuntime,
+    large: bool,
     reader: R,
     file: Option<&str>,
     sink: &mut Sink<W>,
 ) -> Result<u8, CommandFault>
     requires { sink.old.faults < most_faults }
     ensures written { HasRead (R.remaining reader) sink.old.writer sink.new.writer
-        (λ bytes. HasDone (WasGraphPrinted bytes W.contents sink.old.writer sink.new.writer)) result }
+        (λ bytes. HasDone
+        (WasGraphPrinted (newest_of large) bytes W.contents sink.old.writer sink.new.writer)) result }
     ensures status { IfOk result (λ status. status ≡ 0) }
 {
     let bytes = bytes_of(rt, reader, file.unwrap_or(STANDARD_INPUT))?;
-    let printed = print_graph(rt, &bytes, sink);
+    let printed = print_graph(rt, newest_of(large), &bytes, sink);
     status_of(with_tip(rt, &bytes, file, FileKind::Certificate, printed))
 }
 

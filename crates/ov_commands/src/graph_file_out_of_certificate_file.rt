@@ -10,26 +10,31 @@ ghost use Rattle.ov_commands.specs.declared.conversion_fault.ConversionFault.The
 use crate::conversion_fault::ConversionFault;
 use ov_certfile::{FileFault, RefusedFile, Version};
 use ov_check::{Outcome, filed_in};
-use ov_check_reasons::reasons;
+use ov_check_reasons::{is_newer, reasons};
 use ov_graphfile::graph_text;
 use ov_io::Sink;
 use ov_reasons::WRITING_FAILED;
 use std::io::Write;
 
-/// Writes the graph of a certificate file of these bytes as a graph file. Whether the certificate holds is not asked.
-/// If nothing is written, standard error says why.
+/// What is said of a certificate file of version 3, where older ones are read.
+const LARGE: &str =
+    "tip: `overlay graph --large` reads version 3, and `overlay-check-large` checks it";
+
+/// Writes the graph of a certificate file of these bytes, of this version or an older one, as a graph file. Whether the
+/// certificate holds is not asked. If nothing is written, standard error says why.
 ///
 /// `Refused` has the number of the first fault of the bytes as a certificate file (60 to 64, 31 to 33). `Write` (72):
 /// the writer failed. `OutOfMemory` (99): an allocation was refused.
 pub fn print_graph<W: Write>(
     rt: &HostRuntime,
+    newest: Version,
     bytes: &[u8],
     sink: &mut Sink<W>,
 ) -> Result<(), ConversionFault>
     requires { sink.old.faults < most_faults }
-    ensures printed { WasGraphPrinted bytes.now W.contents sink.old.writer sink.new.writer result }
+    ensures printed { WasGraphPrinted newest bytes.now W.contents sink.old.writer sink.new.writer result }
 {
-    match filed_in(rt.alloc(), Version::Two, bytes) {
+    match filed_in(rt.alloc(), newest, bytes) {
         Ok(filed) => match graph_text(rt.alloc(), &filed.graph) {
             Ok(text) => written(rt, &text, sink),
             Err(_) => Err(told(rt, ConversionFault::OutOfMemory)),
@@ -64,17 +69,22 @@ fn no_certificate_file(rt: &HostRuntime, refusal: RefusedFile) -> ConversionFaul
         _ => {
             let ended = ConversionFault::Refused { number };
             let _ = eprintln!(rt; "{ended}");
-            print_reason(rt, refusal);
+            print_reason(rt, refusal, LARGE);
             ended
         }
     }
 }
 
-/// Prints why bytes are no certificate file, in words. Prints nothing if an allocation for it is refused.
-fn print_reason(rt: &HostRuntime, refusal: RefusedFile) {
+/// Prints why bytes are no certificate file, in words, and what reads them if they are of version 3. Prints nothing if
+/// an allocation for it is refused.
+fn print_reason(rt: &HostRuntime, refusal: RefusedFile, reads_newer: &str) {
+    let is_newer = is_newer(&refusal);
     let outcome = Outcome::Refused(refusal);
     if let Ok(reason) = reasons(rt.alloc(), &outcome) {
         let _ = eprintln!(rt; "{reason}");
+    }
+    if is_newer {
+        let _ = eprintln!(rt; "{reads_newer}");
     }
 }
 
@@ -86,7 +96,7 @@ pub(crate) fn tell_no_json(rt: &HostRuntime, bytes: &[u8]) -> bool {
             if !matches!(&refusal.fault, FileFault::NotJson(_)) {
                 return false;
             }
-            print_reason(rt, refusal);
+            print_reason(rt, refusal, LARGE);
             true
         }
     }

@@ -6,12 +6,14 @@ ghost use Rattle.ov_commands.specs.declared.conversion_fault.ConversionFault.The
 
 use crate::conversion_fault::ConversionFault;
 use crate::graph_file_out_of_certificate_file::{tell_no_json, told};
+use crate::sizes_asked::limit_of;
 use ov_arguments::{DumpFormat, ImportRequest};
 use ov_dot::{DotFault, read_dot};
 use ov_dump::{
     Choice, Dump, DumpFault, DumpReadFault, ImportFault, import_dump, import_notes, line_notes,
     read_edges, read_views,
 };
+use ov_graph::SizeLimit;
 use ov_io::Sink;
 use ov_lines::{FileKind, looks_like};
 use std::alloc::Global;
@@ -30,6 +32,8 @@ pub(crate) enum UnreadDump {
 const NO_DUMP: u32 = 88;
 
 /// What can be done about a dump with too many names.
+const LARGE: &str = "tip: `overlay import --large` takes up to 32768 names";
+
 const PART: &str =
     "analyse a part as a dump of its own, such as the hosts of one site, or a group of hosts with their \
     neighbourhood; its k is that of the part";
@@ -77,6 +81,7 @@ fn read_and_print<W: Write>(
     let choice = Choice {
         either: request.either,
         entries_only: request.entries,
+        limit: limit_of(request.large),
     };
     match import_dump(rt.alloc(), &dump, choice, sink) {
         Ok(()) => {
@@ -252,13 +257,23 @@ fn tell_refusal(rt: &HostRuntime, refusal: &DumpFault, place: &str) {
             eprintln!(rt; "{place} {at}: {name} has an entry already")
         }
         DumpFault::EmptyName { at } => eprintln!(rt; "{place} {at}: a name is empty"),
-        DumpFault::TooManyNodes { at, name } => {
+        DumpFault::TooManyNodes { at, name, most } => {
+            let more = more_names(*most);
             eprintln!(rt;
-                "{place} {at}: {name} is one name too many, since a graph may have 1024 nodes at most\n{PART}"
+                "{place} {at}: {name} is one name too many, since a graph may have {most} nodes at most\n{more}"
             )
         }
         DumpFault::OutOfMemory => eprintln!(rt; "out of memory"),
     };
+}
+
+/// What can be done about a dump with more names than these.
+fn more_names(most: usize) -> &'static str {
+    if most < SizeLimit::Large.most() {
+        LARGE
+    } else {
+        PART
+    }
 }
 
 /// Prints what an operator should know of a dump. Prints nothing if an allocation for it is refused.

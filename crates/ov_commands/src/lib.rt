@@ -17,6 +17,7 @@ mod listed_ids;
 mod node_list_texts;
 mod pairs_and_fans_tip;
 mod picture_printing;
+mod sizes_asked;
 
 pub use analyse_command::{analyse_asked, analyse_from, analyse_given};
 pub use command_fault::CommandFault;

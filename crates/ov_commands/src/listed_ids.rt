@@ -7,6 +7,7 @@ ghost use Rattle.ov_commands.specs.declared.command_fault.CommandFault.TheVarian
 
 use crate::command_fault::CommandFault;
 use crate::node_list_texts::NodeLists;
+use ov_graph::SizeLimit;
 use ov_graphfile::{GraphFileFault, GroupFault, Names, ids_of_group, read_named_graph};
 use ov_ids::NodeId;
 use ov_io::shown_name;
@@ -30,17 +31,18 @@ pub(crate) struct ListedNodes {
 }
 
 /// The nodes that these lists name, by the names that the graph file of these bytes keeps, or by ids alone. A file that
-/// is no graph file names none: its analysis says why. Prints why a list names none.
+/// is no graph file within the limit names none: its analysis says why. Prints why a list names none.
 pub(crate) fn listed_nodes(
     rt: &HostRuntime,
+    limit: SizeLimit,
     bytes: &[u8],
     named: bool,
     lists: &NodeLists,
 ) -> Result<ListedNodes, CommandFault>
-    ensures gone { IfOk result (λ nodes. AreListed bytes.now named (option_map (λ text. text.items) lists.now.gone)
-        (option_map (λ ids. ids.items) nodes.gone)) }
-    ensures group { IfOk result (λ nodes. AreListed bytes.now named (option_map (λ text. text.items) lists.now.group)
-        (option_map (λ ids. ids.items) nodes.group)) }
+    ensures gone { IfOk result (λ nodes. AreListed limit bytes.now named
+        (option_map (λ text. text.items) lists.now.gone) (option_map (λ ids. ids.items) nodes.gone)) }
+    ensures group { IfOk result (λ nodes. AreListed limit bytes.now named
+        (option_map (λ text. text.items) lists.now.group) (option_map (λ ids. ids.items) nodes.group)) }
     ensures fault { IfErr result (IsNotFound bytes.now named (option_map (λ text. text.items) lists.now.gone)
         (option_map (λ text. text.items) lists.now.group)) }
 {
@@ -50,7 +52,7 @@ pub(crate) fn listed_nodes(
             gone: None,
         });
     }
-    let (graph, told) = match read_named_graph(rt.alloc(), bytes) {
+    let (graph, told) = match read_named_graph(rt.alloc(), limit, bytes) {
         Ok(read) => read,
         Err(GraphFileFault::OutOfMemory) => return Err(without_memory(rt).into()),
         Err(_) => return Ok(ListedNodes {

@@ -15,9 +15,9 @@ use ov_arguments::{AskedEntry, PictureRequest};
 use ov_cert::Cert;
 use ov_certfile::{Filed, Version};
 use ov_check::{Outcome, outcome_of};
-use ov_check_reasons::reasons;
+use ov_check_reasons::{is_newer, reasons};
 use ov_drawing::{ChosenEntry, Drawing, PictureFault, draw};
-use ov_graph::Graph;
+use ov_graph::{Graph, SizeLimit};
 use ov_graphfile::{GraphFileFault, Names, read_named_graph};
 use ov_ids::OutOfMemory;
 use ov_io::Sink;
@@ -29,6 +29,11 @@ use std::io::Write;
 
 /// The number of the fault that a graph file says another graph than the certificate. (Chosen here.)
 const OTHER_GRAPH: u32 = 87;
+
+/// What is said of a certificate file of version 3.
+const LARGER: &str =
+    "tip: pictures are drawn of versions 1 and 2, so of up to 1024 nodes; of a larger graph, `tagzirk \
+                      report` of the Python package draws the cut and its two sides";
 
 /// Draws the graph of the certificate file of these bytes, with its cut in the middle, and writes SVG, or DOT if that
 /// is asked for. `names` are the bytes of a graph file that names the nodes. If nothing is written, standard error says
@@ -92,7 +97,18 @@ fn not_held(rt: &HostRuntime, outcome: &Outcome) -> ConversionFault
     if let Ok(reason) = reasons(rt.alloc(), outcome) {
         let _ = eprintln!(rt; "{reason}");
     }
+    tell_newer(rt, outcome);
     ConversionFault::Refused { number }
+}
+
+/// If a certificate file is of version 3, prints what draws larger graphs.
+fn tell_newer(rt: &HostRuntime, outcome: &Outcome) {
+    match outcome {
+        Outcome::Refused(refusal) if is_newer(refusal) => {
+            let _ = eprintln!(rt; "{LARGER}");
+        }
+        _ => {}
+    }
 }
 
 /// The entry whose paths are drawn.
@@ -167,7 +183,7 @@ fn names_of<'a>(
 ) -> Result<Names<'a>, ConversionFault>
     ensures { MatchResult result (λ _. NamesGraph (Some file.now) graph.now) (IsNotNamed (Some file.now) graph.now) }
 {
-    match read_named_graph(rt.alloc(), file) {
+    match read_named_graph(rt.alloc(), SizeLimit::Usual, file) {
         Ok((other, told)) => {
             if other.is_same(graph) {
                 return Ok(Names::new(graph, told));

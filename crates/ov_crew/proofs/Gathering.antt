@@ -70,7 +70,7 @@ all_worked keeping g q first b (s ∷ seats) (h ∷ hauls) e all =
 
 -- the numbers of a level are a range
 pub range_of : (g : LinkGraph) (q : List ℕ) (level first size : ℕ)
-    → AreNumbersOf (length g.nodes) (length q) level first size → first + size < 2 ^ 32 → IsRange g q first size
+    → AreNumbersOf (length g.nodes) (length q) level first size → first + size < 2 ^ 62 → IsRange g q first size
 range_of g q level first size numbers small = record {
   below = λ x low total many. let fits = numbers.fits total many in omega (arith, low, fits);
   small = small;

@@ -104,8 +104,8 @@ fn analyse_by<R: Threads + Sync, G: Gate, W: Watcher>(
 }
 
 /// Does what `settle_group_watched` of `ov_even` does, by these workers. A level with few paths gets fewer workers. The
-/// watcher sees each level before it is tried, with place 0. One worker works in the caller's thread and passes no gate,
-/// and the watcher then sees each piece.
+/// watcher sees each level before it is tried, with place 0. One worker works in the caller's thread and passes no
+/// gate, and the watcher then sees each piece.
 pub fn settle_group_watched<R: Threads + Sync, G: Gate, W: Watcher>(
     rt: &R,
     alloc: Global,

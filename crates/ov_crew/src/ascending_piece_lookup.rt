@@ -1,6 +1,6 @@
 //! The pieces of numbers that ascend, each found from where the last one was.
 ghost use Rattle.std.specs.Prelude.{◌≡◌, ℕ, ◌<◌, ◌≤◌, ◌+◌, length};
-ghost use Rattle.ov_graph.specs.Links.{most_nodes};
+ghost use Rattle.ov_graph.specs.Links.{most_of_any_graph};
 ghost use Rattle.ov_even.specs.Order.{AreMoreThan, IsNumbered};
 ghost use Rattle.ov_even.specs.Code.Levels.{pieces_of_level};
 ghost use Rattle.ov_crew.specs.Code.Ascending.{IsColumn, IsReached};
@@ -20,14 +20,14 @@ pub(crate) struct AscendingPieces {
 
 impl Model for AscendingPieces {
     ghost use Rattle.std.specs.Prelude.{◌≤◌};
-    ghost use Rattle.ov_graph.specs.Links.{most_nodes};
+    ghost use Rattle.ov_graph.specs.Links.{most_of_any_graph};
     ghost use Rattle.ov_crew.specs.Code.Ascending.{GroupSizes, IsColumn};
 
     ghost Value = { GroupSizes };
 
     ghost view = { λ s. record { nodes = s.nodes; members = s.members } };
 
-    ghost invariant = { λ s. (s.nodes ≤ most_nodes) × (s.members ≤ s.nodes) × IsColumn s.members s.reached };
+    ghost invariant = { λ s. (s.nodes ≤ most_of_any_graph) × (s.members ≤ s.nodes) × IsColumn s.members s.reached };
 }
 
 /// A column of a level: its pairs whose second member is at one place, or, if that is past the level, its fans.
@@ -45,7 +45,7 @@ pub(crate) struct Column {
 impl AscendingPieces {
     /// The pieces for a graph of `nodes` nodes and a group of `members` members.
     pub(crate) fn new(nodes: usize, members: usize) -> AscendingPieces
-        requires nodes { nodes ≤ most_nodes }
+        requires nodes { nodes ≤ most_of_any_graph }
         requires members { members ≤ nodes }
         ensures { result ≡ record { nodes = nodes; members = members } }
     {
@@ -88,7 +88,7 @@ fn first_column() -> Column
 
 /// A column of the level of the piece with this number, no later than the piece.
 fn level_from(nodes: usize, members: usize, from: Column, number: usize) -> Column
-    requires nodes { nodes ≤ most_nodes }
+    requires nodes { nodes ≤ most_of_any_graph }
     requires members { members ≤ nodes }
     requires below { AreMoreThan nodes members number }
     requires from { IsReached members number from }
@@ -111,7 +111,7 @@ fn level_from(nodes: usize, members: usize, from: Column, number: usize) -> Colu
 
 /// How many pieces a level has.
 fn level_size(members: usize, level: usize) -> usize
-    requires { members ≤ most_nodes }
+    requires { members ≤ most_of_any_graph }
     ensures { result ≡ length (pieces_of_level members level) }
 {
     let low = members.min(level);
@@ -120,7 +120,7 @@ fn level_size(members: usize, level: usize) -> usize
 
 /// The column of the piece with this number, which is of the same level.
 fn column_from(members: usize, from: Column, number: usize) -> Column
-    requires members { members ≤ most_nodes }
+    requires members { members ≤ most_of_any_graph }
     requires from { IsReached members number from }
     ensures reached { IsReached members number result }
     ensures level { result.level ≡ from.level }
@@ -141,7 +141,7 @@ fn column_from(members: usize, from: Column, number: usize) -> Column
 
 /// The piece with this number, which is in the column.
 fn piece_in(nodes: usize, members: usize, column: Column, number: usize) -> Piece
-    requires nodes { nodes ≤ most_nodes }
+    requires nodes { nodes ≤ most_of_any_graph }
     requires members { members ≤ nodes }
     requires below { AreMoreThan nodes members number }
     requires reached { IsReached members number column }

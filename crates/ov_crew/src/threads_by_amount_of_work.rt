@@ -1,10 +1,11 @@
 //! How many workers try a level, and how many threads name the paths of a certificate.
-ghost use Rattle.std.specs.Prelude.{◌≡◌, ◌<◌, ◌≤◌, false};
+ghost use Rattle.std.specs.Prelude.{◌≡◌, ◌<◌, ◌≤◌, ◌*◌, false, length};
+ghost use Rattle.ov_graph.specs.Row.{word_bits};
 
 use ov_even::FoundPaths;
 use ov_fans::shared_bits;
 use ov_graph::Graph;
-use ov_graph::bit_rows::{EMPTY, Row, put};
+use ov_graph::bit_rows::{ALL_WORDS, WORDS, put, words_for};
 use ov_ids::{NodeId, Workers};
 
 /// How many paths must be sought before one more thread saves time.
@@ -54,24 +55,45 @@ impl Hiring {
 /// fans of later members.
 fn asking_pieces(graph: &Graph, group: &[NodeId], level: usize) -> u64 {
     let first = &group[..level.min(group.len())];
-    let row = row_of(graph, first);
-    let mut unlinked: usize = 0;
-    for member in first {
-        if let Some(place) = graph.place(*member) {
-            let linked = shared_bits(graph.row_at(place), &row, graph.words());
-            unlinked = unlinked.saturating_add(first.len().saturating_sub(linked));
-        }
-    }
+    let unlinked = unlinked_among(graph, first);
     // Each member was counted as not linked to itself, and each pair at both its members.
     let pairs = unlinked.saturating_sub(first.len()) / 2;
     let fans = group.len() - first.len();
     pairs.saturating_add(fans) as u64
 }
 
+/// To how many of these nodes each of them is not linked, itself among them, added up. Each takes the time to go
+/// through its links and a set of places once: on a large graph some microseconds.
+fn unlinked_among(graph: &Graph, nodes: &[NodeId]) -> usize {
+    prove!(graph.nodes().len() <= Graph::MOST_OF_ANY);
+    if graph.nodes().len() <= Graph::MOST_NODES {
+        unlinked_in(graph, nodes, &row_of::<WORDS>(graph, nodes))
+    } else {
+        unlinked_in(graph, nodes, &row_of::<ALL_WORDS>(graph, nodes))
+    }
+}
+
+/// Does what `unlinked_among` does, by the row of the places of these nodes.
+fn unlinked_in<const W: usize>(graph: &Graph, nodes: &[NodeId], row: &[u64; W]) -> usize
+    requires room { length graph.now.nodes ≤ word_bits * W }
+{
+    prove!(graph.nodes().len() <= Graph::MOST_OF_ANY);
+    let words = words_for::<W>(graph.nodes().len());
+    let mut unlinked: usize = 0;
+    for node in nodes {
+        if let Some(place) = graph.place(*node) {
+            let linked = shared_bits(&graph.neighbour_set(place), row, words);
+            unlinked = unlinked.saturating_add(nodes.len().saturating_sub(linked));
+        }
+    }
+    unlinked
+}
+
 /// The row of the places of these nodes.
-fn row_of(graph: &Graph, nodes: &[NodeId]) -> Row {
-    prove!(graph.nodes().len() <= Graph::MOST_NODES);
-    let mut row = EMPTY;
+fn row_of<const W: usize>(graph: &Graph, nodes: &[NodeId]) -> [u64; W]
+    requires room { length graph.now.nodes ≤ word_bits * W }
+{
+    let mut row = [0; W];
     for node in nodes {
         if let Some(place) = graph.place(*node) {
             put(&mut row, place);

@@ -1,7 +1,7 @@
 //! One worker: it claims numbers at a board and settles their pieces, until it has ended.
 ghost use Rattle.std.specs.Prelude.{◌≡◌, ℕ, ◌<◌, ◌+◌, true, false, None, length, vec_capacity};
 ghost use Rattle.std.specs.Prelude.{IfOk, OnOk, IfSome, IfNone};
-ghost use Rattle.ov_ids.specs.Limits.{number_limit};
+ghost use Rattle.ov_board.specs.Limits.{piece_limit};
 ghost use Rattle.ov_ids.specs.Members.{Has};
 ghost use Rattle.ov_graph.specs.Links.{IsGroup};
 ghost use Rattle.ov_fans.specs.Pieces.{IsPiece};
@@ -40,7 +40,7 @@ pub fn work_range<G: Gate>(
     requires new { seat.worker ≡ fresh }
     requires range { (x : ℕ) → x < board.now.total
         → AreMoreThan (length graph.now.nodes) (length group.now) (first + x) }
-    requires small { first + board.now.total < number_limit }
+    requires small { first + board.now.total < piece_limit }
     ensures board { result.1.board ≡ seat.board }
     ensures number { result.1.number ≡ seat.number }
     ensures ended { OnOk result.0 (result.1.worker.ended ≡ true) }
@@ -193,7 +193,7 @@ pub fn work_group<G: Gate>(
     ensures ended { OnOk result.0 (result.1.worker.ended ≡ true) }
     ensures haul { IfOk result.0 (λ h. IsHaulOf graph.now group.now 0 result.1.worker h.pieces.items) }
 {
-    prove!(graph.nodes().len() <= Graph::MOST_NODES);
+    prove!(graph.nodes().len() <= Graph::MOST_OF_ANY);
     work_range(alloc, board, graph, group, 0, seat, gate)
 }
 

@@ -1,8 +1,12 @@
 pub mod NameLists
 pub mod Places
+pub mod NameSets
 pub mod Sounding
 pub mod Takings
 pub mod Numbered
+pub mod Keyed
+pub mod Numberings
+pub mod Paired
 pub mod Linking
 pub mod Pairs
 pub mod Answering

@@ -1,19 +1,17 @@
 -- Names that ascend, and whether a name is among them.
-use Rattle.std.proofs.Common.{◌≡◌, ◌∙◌, ◌↔◌, ◌⊎◌, ◌+◌, inl, inr, length, arith, List, [], ◌∷◌, ℕ, Bool, true, IsTrue}
-use Rattle.std.proofs.Common.{sym, ap, subst, nat_cmp}
+use Rattle.std.proofs.Common.{◌≡◌, ◌∙◌, ◌↔◌, ◌⊎◌, ◌+◌, inl, inr, length, arith, List, [], ◌∷◌, ℕ, true}
+use Rattle.std.proofs.Common.{sym, ap, nat_cmp}
 use Rattle.std.proofs.Common.{Less, Equal, Greater, is_eq, refl}
 use Rattle.std.proofs.lemmas.Cmp.{nat_list_cmp_total}
 use Rattle.std.proofs.lemmas.Map.Keys.{sorted_head, sorted_tail}
 use Rattle.std.proofs.lemmas.Map.Text.{is_eq-slice_cmp}
 use Rattle.std.proofs.lemmas.Slice.Eq.{bytes_eq-Decides}
-use Rattle.std.specs.BTreeMap.{is_at}
 use Rattle.std.specs.BTreeSet.{insert_key}
 use Rattle.std.specs.Cmp.Lexicographic.{slice_cmp}
-use Rattle.std.specs.List.{list_any}
 use Rattle.std.specs.List.Sorted.{IsStrictlySortedBy}
 use Rattle.std.specs.Ordering.{match_ordering, ordering_reverse}
 use Rattle.ov_ids.specs.Members.{Has, Ordered}
-use Rattle.ov_ids.proofs.Members.{any_from_has, has_from_any, same_ordered}
+use Rattle.ov_ids.proofs.Members.{same_ordered}
 use Rattle.ov_dump.specs.Names.{ComesBefore}
 
 -- the order goes one way
@@ -33,15 +31,6 @@ tie a b e = (bytes_eq-Decides a b).0 (sym (is_eq-slice_cmp a b) ∙ e)
 
 pub ties : (a : List ℕ) → is_eq (slice_cmp nat_cmp a a) ≡ true
 ties a = is_eq-slice_cmp a a ∙ (bytes_eq-Decides a a).1 refl
-
--- the test for a member agrees with the relation
-pub found : (names : List (List ℕ)) (n : List ℕ) (b : Bool) → b ≡ list_any (is_at (slice_cmp nat_cmp n)) names
-    → IsTrue b ↔ Has names n
-found names n b e = (
-  (λ t. let r = has_from_any (is_at (slice_cmp nat_cmp n)) names (sym e ∙ t) in
-      subst (Has names) (sym (tie n r.0 r.2)) r.1),
-  (λ h. e ∙ any_from_has (is_at (slice_cmp nat_cmp n)) names n h (ties n)),
-)
 
 -- names that strictly ascend and have the same members are one list
 pub same_names : (names others : List (List ℕ)) → Ordered ComesBefore names → Ordered ComesBefore others

@@ -1,23 +1,16 @@
 -- The nodes of names.
-use Rattle.std.proofs.Common.{◌≡◌, ◌≢◌, ◌∙◌, ◌↔◌, ◌⊎◌, ◌+◌, ◌≤◌, ◌<◌, inl, inr, List, [], ◌∷◌, ◌++◌, ℕ, zero, suc}
-use Rattle.std.proofs.Common.{sym, ap, subst, refl, length, get_or, slice_get, Some, unwrap_or, arith, pred}
-use Rattle.std.proofs.Common.{eq-or-lt_of_le, nat_cmp, is_eq, is_lt, Less, Equal, Greater, true}
-use Rattle.std.proofs.lemmas.Bool.{both_ways}
-use Rattle.std.proofs.lemmas.Cmp.{nat_list_cmp_total}
-use Rattle.std.proofs.lemmas.List.Sorted.{searchable_from_sorted}
-use Rattle.std.specs.Cmp.Lexicographic.{slice_cmp}
-use Rattle.std.specs.List.{HoldsAt}
-use Rattle.std.specs.List.Sorted.{IsNonDecreasingBy, IsPartitionPoint}
-use Rattle.std.specs.Ordering.{ordering_index, ordering_reverse}
+use Rattle.std.proofs.Common.{◌≡◌, ◌≢◌, ◌∙◌, ◌↔◌, ◌⊎◌, ◌≤◌, ◌<◌, inl, inr, List, [], ◌∷◌, ◌++◌, ℕ, zero, suc}
+use Rattle.std.proofs.Common.{sym, ap, subst, refl, length, slice_get, Some, unwrap_or, arith, pred}
+use Rattle.std.proofs.Common.{eq-or-lt_of_le}
 use Rattle.ov_ids.specs.Members.{Has, Ordered}
-use Rattle.ov_ids.proofs.Members.{all_member, has_append_cases, has_append_left, has_append_right, ordered_at}
+use Rattle.ov_ids.proofs.Members.{all_from_members, all_member, has_append_cases, has_append_left, has_append_right}
 use Rattle.ov_dump.specs.Code.Numbering.{NodeLists}
-use Rattle.ov_dump.specs.Dumps.{IsNameOf, ends_of, numbers}
+use Rattle.ov_dump.specs.Dumps.{AreNumbered, HasLowerKey, IsNameOf, ends_of, key_of, numbers}
 use Rattle.ov_dump.specs.Names.{ComesBefore}
 use Rattle.ov_dump.specs.declared.dump_and_graph_types.Listing.{Listing}
 use Rattle.ov_dump.proofs.Answering.{ends_append}
-use Rattle.ov_dump.proofs.NameLists.{one_way, tie, ties}
-use Rattle.ov_dump.proofs.Places.{cases_lt, member_at, place_of, within}
+use Rattle.ov_dump.proofs.NameLists.{one_way}
+use Rattle.ov_dump.proofs.Places.{member_at, within}
 
 -- ---- the nodes 1 to n
 
@@ -28,44 +21,6 @@ in_numbers (suc n) i low high = elim (eq-or-lt_of_le high) [
   | inr l ↦ has_append_left (numbers n) (suc n ∷ []) i (in_numbers n i low (omega (arith, l)))
 ]
 
--- ---- the search
-
--- the item that a search found
-pub found_at : (names : List (List ℕ)) (p : ℕ) (name : List ℕ) → p < length names
-    → HoldsAt (λ y. slice_cmp nat_cmp y name ≡ Equal) names p → slice_get names p ≡ Some name
-found_at [] p name l h = absurd (omega arith)
-found_at (n ∷ names) zero name l h = ap Some (tie n name (ap is_eq (h n)))
-found_at (n ∷ names) (suc p) name l h = found_at names p name (omega arith) h
-
--- names in order can be searched
-pub rising : (names : List (List ℕ)) (name : List ℕ) → Ordered ComesBefore names
-    → IsNonDecreasingBy (λ y. ordering_index (slice_cmp nat_cmp y name)) names
-rising names name up =
-    searchable_from_sorted nat_list_cmp_total (λ n. n) names name
-    (λ k d low high. ap is_lt (nat_list_cmp_total.antisymm (get_or names (k + 1) d) (get_or names k d)
-    ∙ ap ordering_reverse (ordered_at ComesBefore names k (k + 1) d up (omega arith) high)))
-
-item_at : (names : List (List ℕ)) (p : ℕ) (name : List ℕ) → slice_get names p ≡ Some name → get_or names p [] ≡ name
-item_at [] p name e = absurd (cc)
-item_at (n ∷ names) zero name e = ap (λ o. unwrap_or o name) e
-item_at (n ∷ names) (suc p) name e = item_at names p name e
-
--- a name that a search did not find is none of them
-pub not_there : (names : List (List ℕ)) (i : ℕ) (name : List ℕ) → Ordered ComesBefore names
-    → (IsNonDecreasingBy (λ y. ordering_index (slice_cmp nat_cmp y name)) names
-    → IsPartitionPoint (λ y. slice_cmp nat_cmp y name ≡ Less) (λ y. slice_cmp nat_cmp y name ≡ Greater) names i)
-    → ¬ Has names name
-not_there names i name up searched h =
-    let parts = searched (rising names name up) in
-    let r = place_of names name h in
-    let low = within names r.0 name r.1 in
-    let same : is_eq (slice_cmp nat_cmp (get_or names r.0 []) name) ≡ true =
-    subst (λ (n : List ℕ). is_eq (slice_cmp nat_cmp n name) ≡ true) (sym (item_at names r.0 name r.1)) (ties name) in
-    elim (cases_lt r.0 i) [
-      | inl l ↦ let less = ap is_eq (parts.0 r.0 [] (omega arith) l) in both_ways _ less same
-      | inr l ↦ let more = ap is_eq (parts.1 r.0 [] l low) in both_ways _ more same
-    ]
-
 -- ---- which node has a name
 
 -- a node has one name
@@ -74,27 +29,57 @@ name_one names i a b (p, e, s) (q, f, t) =
     let same : p ≡ q = ap pred (sym e ∙ f) in
     ap (λ o. unwrap_or o a) (sym s ∙ ap (slice_get names) same ∙ t)
 
-place_one : (names : List (List ℕ)) (p q : ℕ) (a : List ℕ) → Ordered ComesBefore names → slice_get names p ≡ Some a
+-- no name is there twice
+abbrev pub Differ : List (List ℕ) → Type 0
+Differ = Ordered (λ m n. m ≢ n)
+
+pub place_one : (names : List (List ℕ)) (p q : ℕ) (a : List ℕ) → Differ names → slice_get names p ≡ Some a
     → slice_get names q ≡ Some a → p ≡ q
 place_one [] p q a up s t = absurd (cc)
 place_one (n ∷ names) zero zero a up s t = refl
 place_one (n ∷ names) zero (suc q) a up s t =
     let e : n ≡ a = ap (λ o. unwrap_or o a) s in
-    let r : ComesBefore n a = all_member (ComesBefore n) names a up.0 (member_at names q a t) in
-    let twice : ComesBefore a a = subst (λ (x : List ℕ). ComesBefore x a) e r in absurd (one_way a a twice twice)
+    absurd (all_member (λ m. n ≢ m) names a up.0 (member_at names q a t) e)
 place_one (n ∷ names) (suc p) zero a up s t =
     let e : n ≡ a = ap (λ o. unwrap_or o a) t in
-    let r : ComesBefore n a = all_member (ComesBefore n) names a up.0 (member_at names p a s) in
-    let twice : ComesBefore a a = subst (λ (x : List ℕ). ComesBefore x a) e r in absurd (one_way a a twice twice)
+    absurd (all_member (λ m. n ≢ m) names a up.0 (member_at names p a s) e)
 place_one (n ∷ names) (suc p) (suc q) a up s t = ap suc (place_one names p q a up.1 s t)
 
+-- names in an order that relates none to itself differ
+differ_from : (R : List ℕ → List ℕ → Type 0) → ((a : List ℕ) → R a a → ⊥) → (names : List (List ℕ)) → Ordered R names
+    → Differ names
+differ_from R never [] up = tt
+differ_from R never (n ∷ names) up = (
+  all_from_members (λ m. n ≢ m) names
+      (λ m h e. never m (subst (λ (x : List ℕ). R x m) e (all_member (R n) names m up.0 h))),
+  differ_from R never names up.1,
+)
+
+pub ascending_differ : (names : List (List ℕ)) → Ordered ComesBefore names → Differ names
+ascending_differ names up = differ_from ComesBefore (λ a r. one_way a a r r) names up
+
+-- of two names one has the lower key
+pub lower_once : (sorted : List (List ℕ)) → Ordered ComesBefore sorted → (a b : List ℕ) → HasLowerKey sorted a b
+    → HasLowerKey sorted b a → ⊥
+lower_once sorted up a b (p, q, s, t, l) (q', p', t', s', m) =
+    let differ = ascending_differ sorted up in
+    let first = ap (key_of (length sorted)) (place_one sorted p p' a differ s s') in
+    let second = ap (key_of (length sorted)) (place_one sorted q q' b differ t t') in
+    omega (arith, l, m, first, second)
+
+-- names that are numbered differ
+pub numbered_differ : (sorted names : List (List ℕ)) → Ordered ComesBefore sorted → AreNumbered sorted names
+    → Differ names
+numbered_differ sorted names up numbered =
+    differ_from (HasLowerKey sorted) (λ a r. lower_once sorted up a a r r) names numbered.ascend
+
 -- a name is that of one node
-pub node_one : (names : List (List ℕ)) (i j : ℕ) (a : List ℕ) → Ordered ComesBefore names → IsNameOf names i a
+pub node_one : (names : List (List ℕ)) (i j : ℕ) (a : List ℕ) → Differ names → IsNameOf names i a
     → IsNameOf names j a → i ≡ j
 node_one names i j a up (p, e, s) (q, f, t) = e ∙ ap suc (place_one names p q a up s t) ∙ sym f
 
 -- different nodes have different names
-pub names_differ : (names : List (List ℕ)) (i j : ℕ) (a b : List ℕ) → Ordered ComesBefore names → i ≢ j
+pub names_differ : (names : List (List ℕ)) (i j : ℕ) (a b : List ℕ) → Differ names → i ≢ j
     → IsNameOf names i a → IsNameOf names j b → a ≢ b
 names_differ names i j a b up far p q same = far (node_one names i j b up (subst (IsNameOf names i) same p) q)
 
@@ -122,7 +107,7 @@ ends_from l a b h = elim h [
 ]
 
 -- who lists whom, by one listing of two nodes
-pub one_lists : (names : List (List ℕ)) (l : Listing) (from to : ℕ) → Ordered ComesBefore names
+pub one_lists : (names : List (List ℕ)) (l : Listing) (from to : ℕ) → Differ names
     → IsNameOf names from l.from → IsNameOf names to l.to
     → (i j : ℕ) → NodeLists names (l ∷ []) i j ↔ ((i ≡ from) × (j ≡ to))
 one_lists names l from to up f t i j = (
@@ -140,7 +125,7 @@ one_lists names l from to up f t i j = (
 )
 
 -- a listing of one node by itself says nothing of two nodes
-pub of_itself : (names : List (List ℕ)) (l : Listing) (from to : ℕ) → Ordered ComesBefore names
+pub of_itself : (names : List (List ℕ)) (l : Listing) (from to : ℕ) → Differ names
     → IsNameOf names from l.from → IsNameOf names to l.to → from ≡ to
     → (i j : ℕ) → i ≢ j → NodeLists names (l ∷ []) i j → ⊥
 of_itself names l from to up f t same i j far h =

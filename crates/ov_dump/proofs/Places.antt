@@ -1,9 +1,11 @@
 -- An item of a list, with those before it and those behind it.
 use Rattle.std.proofs.Common.{◌≡◌, ◌∙◌, ◌<◌, ◌≤◌, ◌+◌, List, [], ◌∷◌, ◌++◌, ℕ, zero, suc, sym, ap, arith, refl, length}
 use Rattle.std.proofs.Common.{get_or, take, drop, slice_get, Some, ◌⊎◌, inl, inr, unwrap_or, IfNone, None, Option}
+use Rattle.std.proofs.Common.{subst}
 use Rattle.std.proofs.lemmas.List.{take_more}
 use Rattle.ov_ids.specs.Members.{Has, Ordered}
-use Rattle.std.specs.List.{AllByRecursion}
+use Rattle.std.specs.List.{AllByRecursion, Contains}
+use Rattle.ov_ids.proofs.Members.{has_place}
 
 -- a list is the items before a place, the item at it, and those behind it
 pub parted : {X : Type 0} (xs : List X) (i : ℕ) (d : X) → i < length xs
@@ -61,3 +63,14 @@ pub cases_lt : (a b : ℕ) → (a < b) ⊎ (b ≤ a)
 cases_lt a zero = inr (omega arith)
 cases_lt zero (suc b) = inl (omega arith)
 cases_lt (suc a) (suc b) = elim (cases_lt a b) [ inl l ↦ inl (omega (arith, l)) | inr l ↦ inr (omega (arith, l)) ]
+
+-- a member of a list, as std says it
+pub contained : {X : Type 0} (xs : List X) (x : X) → Has xs x → Contains xs x
+contained [] x h = absurd h
+contained (y ∷ ys) x h = elim h [
+  | inl e ↦ (zero, omega arith, e)
+  | inr k ↦ let r = contained ys x k in let low = r.1 in (suc r.0, omega (arith, low), r.2)
+]
+
+pub is_member : {X : Type 0} (xs : List X) (x : X) → Contains xs x → Has xs x
+is_member xs x c = subst (Has xs) c.2 (has_place xs c.0 x c.1)

@@ -27,7 +27,7 @@ use Rattle.ov_dump.specs.declared.dump_and_graph_types.Choice.{Choice}
 use Rattle.ov_dump.specs.declared.dump_and_graph_types.Dump.{Dump}
 use Rattle.ov_dump.specs.declared.dump_and_graph_types.HostEntry.{HostEntry}
 use Rattle.ov_dump.specs.declared.dump_and_graph_types.Listing.{Listing}
-use Rattle.ov_dump.proofs.Numbered.{name_is, name_one, named_node, node_one}
+use Rattle.ov_dump.proofs.Numbered.{name_is, name_one, named_node, node_one, numbered_differ}
 use Rattle.ov_dump.specs.ShownNames.{shown_text}
 use Rattle.ov_dump.specs.ImportTheorems.{IsShownNameOf, NamesAreRead, NamesComeBack, NamesDiffer}
 use Rattle.ov_dump.proofs.OneShown.{one_shown}
@@ -209,14 +209,16 @@ come_back choice d text import n s =
     let count : ℕ = length names in
     let follows = import.follows in
     let long = numbered count in
-    let within : count ≤ 1024 =
+    let within : count ≤ 32768 =
     let few = import.within in let size = ap length follows.nodes in omega (arith, few, size, long) in
     let ids : AreIds (numbers count) = all_from_members (λ k. k < number_limit) (numbers count)
     (λ k m. let le = number_low count k m in omega (arith, le, within)) in
     let each : length shown ≡ length (numbers count) = length-map names shown_text ∙ sym long in
     let links : List ℕ = flat_map link_line g.links in
     let ends = link_ids g follows.graph (subst AreIds (sym follows.nodes) ids) in
-    let keep = keepable names (λ a m. taken_some choice d a import.sound ((follows.taken a).0 m)) import.utf8 in
+    let keep = keepable names (λ a m. taken_some choice d a import.sound ((follows.taken a).0
+    ((follows.numbered.each a).0 m)))
+    import.utf8 in
     let none = λ (b : List ℕ). none_named b (lines links) n s (say_no_node g.links ends) in
     let written : text ≡ flat_map named_node_line (zip (numbers count) shown) ++ links =
     import.written ∙ ap (λ (nodes : List ℕ). flat_map named_node_line (zip nodes shown) ++ links) follows.nodes in
@@ -246,4 +248,6 @@ differ choice d text import m n s of_m of_n =
     let utf8 = λ (i : ℕ) (name : List ℕ) (is : IsNameOf names i name).
     all_member IsUtf8 names name import.utf8 (name_is names i name is) in
     let same : a.0 ≡ b.0 = one_shown a.0 b.0 (utf8 m a.0 a.1) (utf8 n b.0 b.1) (sym a.2 ∙ b.2) in
-    node_one names m n b.0 import.follows.ascend (subst (IsNameOf names m) same a.1) b.1
+    node_one names m n b.0
+    (numbered_differ import.follows.sorted names import.follows.ascend import.follows.numbered)
+    (subst (IsNameOf names m) same a.1) b.1

@@ -28,7 +28,8 @@ begun seen none = record {
   each = λ n. ((λ h. subst (λ s. Has s n) none h), (λ h. absurd h));
 }
 
-pub names_more : (before : List HostEntry) (e : HostEntry) → names_of (before ++ e ∷ []) ≡ names_of before ++ e.name ∷ []
+pub names_more : (before : List HostEntry) (e : HostEntry)
+    → names_of (before ++ e ∷ []) ≡ names_of before ++ e.name ∷ []
 names_more [] e = refl
 names_more (x ∷ xs) e = ap (λ ns. x.name ∷ ns) (names_more xs e)
 
@@ -79,7 +80,7 @@ flaw entries before after e seen (NameTwice at name) s split f =
       subst (Has (names_of before)) (sym f.1) ((s.each e.name).0 f.2),
     )
 flaw entries before after e seen OutOfMemory s split f = inl refl
-flaw entries before after e seen (TooManyNodes at name) s split f = absurd f
+flaw entries before after e seen (TooManyNodes at name most) s split f = absurd f
 
 -- ---- listings
 
@@ -101,7 +102,7 @@ pub flaw_listed : (listings before after : List Listing) (l : Listing) (fault : 
 flaw_listed listings before after l (EmptyName at) s split f = (l, (before, after, split, s), f.0, f.1)
 flaw_listed listings before after l OutOfMemory s split f = absurd f
 flaw_listed listings before after l (NameTwice at name) s split f = absurd f
-flaw_listed listings before after l (TooManyNodes at name) s split f = absurd f
+flaw_listed listings before after l (TooManyNodes at name most) s split f = absurd f
 
 -- ---- the dump
 
@@ -120,7 +121,7 @@ pub is_fault : (choice : Choice) (d : Dump) (fault : DumpFault) → (fault ≡ O
 is_fault choice d OutOfMemory f = tt
 is_fault choice d (EmptyName at) f = elim f [ inl e ↦ absurd (cc) | inr k ↦ k ]
 is_fault choice d (NameTwice at name) f = elim f [ inl e ↦ absurd (cc) | inr k ↦ k ]
-is_fault choice d (TooManyNodes at name) f = elim f [
+is_fault choice d (TooManyNodes at name most) f = elim f [
   | inl e ↦ absurd (cc)
   | inr k ↦ elim k [ inl m ↦ absurd m | inr m ↦ absurd m.1 ]
 ]

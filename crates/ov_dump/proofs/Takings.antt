@@ -5,7 +5,7 @@ use Rattle.std.proofs.Common.{if◌then◌else◌}
 use Rattle.std.specs.List.{flat_map}
 use Rattle.ov_ids.specs.Members.{Has, Ordered}
 use Rattle.ov_ids.proofs.Members.{has_append_left, has_append_right, has_append_cases}
-use Rattle.ov_graph.specs.Links.{most_nodes}
+use Rattle.ov_graph.specs.Links.{most_of}
 use Rattle.ov_dump.specs.Code.Taking.{Gains, RunsOver}
 use Rattle.ov_dump.specs.Dumps.{HasEntry, IsNamed, IsTaken, ends_of, names_of}
 use Rattle.ov_dump.specs.Faults.{IsDumpFault, IsSound, Naming, entry_namings, listing_namings, namings}
@@ -38,16 +38,16 @@ listings_append (x ∷ xs) ys = ap (λ ms. (x.at, x.from) ∷ (x.at, x.to) ∷ m
 
 -- ---- a set that gains names
 
-pub gains_none : (names : List (List ℕ)) → length names ≤ most_nodes → Gains names [] names
-gains_none names few = record {
+pub gains_none : (most : ℕ) (names : List (List ℕ)) → length names ≤ most → Gains most names [] names
+gains_none most names few = record {
   each = λ n. ((λ h. inl h), (λ h. elim h [ inl k ↦ k | inr k ↦ absurd k ]));
   few = few;
 }
 
 -- some names, and then others
-pub gains_more : (old mid new : List (List ℕ)) (before more : List Naming) → Gains old before mid
-    → Gains mid more new → Gains old (before ++ more) new
-gains_more old mid new before more first second = record {
+pub gains_more : (most : ℕ) (old mid new : List (List ℕ)) (before more : List Naming) → Gains most old before mid
+    → Gains most mid more new → Gains most old (before ++ more) new
+gains_more most old mid new before more first second = record {
   each = λ n. (
     (λ h. elim ((second.each n).0 h) [
       | inl k ↦ elim ((first.each n).0 k) [
@@ -71,9 +71,9 @@ gains_more old mid new before more first second = record {
 }
 
 -- a name that was taken before
-pub gains_known : (names : List (List ℕ)) (at : ℕ) (name : List ℕ) → Has names name → length names ≤ most_nodes
-    → Gains names ((at, name) ∷ []) names
-gains_known names at name known few = record {
+pub gains_known : (most : ℕ) (names : List (List ℕ)) (at : ℕ) (name : List ℕ) → Has names name → length names ≤ most
+    → Gains most names ((at, name) ∷ []) names
+gains_known most names at name known few = record {
   each = λ n. (
     (λ h. inl h),
     (λ h. elim h [
@@ -85,10 +85,10 @@ gains_known names at name known few = record {
 }
 
 -- a new name
-pub gains_new : (old new : List (List ℕ)) (at : ℕ) (name : List ℕ)
-    → ((n : List ℕ) → Has new n ↔ ((name ≡ n) ⊎ Has old n)) → length new ≡ length old + 1 → length old < most_nodes
-    → Gains old ((at, name) ∷ []) new
-gains_new old new at name grown longer few = record {
+pub gains_new : (most : ℕ) (old new : List (List ℕ)) (at : ℕ) (name : List ℕ)
+    → ((n : List ℕ) → Has new n ↔ ((name ≡ n) ⊎ Has old n)) → length new ≡ length old + 1 → length old < most
+    → Gains most old ((at, name) ∷ []) new
+gains_new most old new at name grown longer few = record {
   each = λ n. (
     (λ h. elim ((grown n).0 h) [ inl same ↦ inr (inl same) | inr k ↦ inl k ]),
     (λ h. (grown n).1 (elim h [
@@ -101,43 +101,48 @@ gains_new old new at name grown longer few = record {
 
 -- ---- one name too many
 
-pub runs_here : (names : List (List ℕ)) (at : ℕ) (name copy : List ℕ) → copy ≡ name → Ordered ComesBefore names
-    → length names ≤ most_nodes → most_nodes ≤ length names → ¬ Has names name
-    → RunsOver names ((at, name) ∷ []) (TooManyNodes at copy)
-runs_here names at name copy same up few many another = (
+pub runs_here : (most : ℕ) (names : List (List ℕ)) (at limit : ℕ) (name copy : List ℕ) → limit ≡ most → copy ≡ name
+    → Ordered ComesBefore names
+    → length names ≤ most → most ≤ length names → ¬ Has names name
+    → RunsOver most names ((at, name) ∷ []) (TooManyNodes at copy limit)
+runs_here most names at limit name copy told same up few many another = (
+  told,
   [],
   [],
   names,
   ap (λ n. (at, n) ∷ []) (sym same),
-  gains_none names few,
+  gains_none most names few,
   record { ascend = up; full = omega (arith, few, many); another = λ h. another (subst (Has names) same h) },
 )
 
-pub no_memory : (old : List (List ℕ)) (more : List Naming) (fault : DumpFault) → fault ≡ OutOfMemory
-    → RunsOver old more fault
-no_memory old more fault e = subst (RunsOver old more) (sym e) tt
+pub no_memory : (most : ℕ) (old : List (List ℕ)) (more : List Naming) (fault : DumpFault) → fault ≡ OutOfMemory
+    → RunsOver most old more fault
+no_memory most old more fault e = subst (RunsOver most old more) (sym e) tt
 
 -- after other names were taken
-pub runs_after : (old mid : List (List ℕ)) (all before more rest : List Naming) (fault : DumpFault)
-    → Gains old before mid → all ≡ before ++ (more ++ rest) → RunsOver mid more fault → RunsOver old all fault
-runs_after old mid all before more rest (TooManyNodes at name) first whole (b, a, kept, split, gains, full) =
+pub runs_after : (most : ℕ) (old mid : List (List ℕ)) (all before more rest : List Naming) (fault : DumpFault)
+    → Gains most old before mid → all ≡ before ++ (more ++ rest) → RunsOver most mid more fault
+    → RunsOver most old all fault
+runs_after most old mid all before more rest (TooManyNodes at name limit) first whole
+    (e, b, a, kept, split, gains, full) =
     let x : Naming = (at, name) in (
+      e,
       before ++ b,
       a ++ rest,
       kept,
       whole ∙ ap (λ ms. before ++ (ms ++ rest)) split ∙ ap (λ ms. before ++ ms) (append_assoc b (x ∷ a) rest)
           ∙ sym (append_assoc before b (x ∷ (a ++ rest))),
-      gains_more old mid kept before b first gains,
+      gains_more most old mid kept before b first gains,
       full,
     )
-runs_after old mid all before more rest OutOfMemory first whole r = tt
-runs_after old mid all before more rest (EmptyName at) first whole r = absurd r
-runs_after old mid all before more rest (NameTwice at name) first whole r = absurd r
+runs_after most old mid all before more rest OutOfMemory first whole r = tt
+runs_after most old mid all before more rest (EmptyName at) first whole r = absurd r
+runs_after most old mid all before more rest (NameTwice at name) first whole r = absurd r
 
-pub runs_first : (old : List (List ℕ)) (all more rest : List Naming) (fault : DumpFault)
-    → length old ≤ most_nodes → all ≡ more ++ rest → RunsOver old more fault → RunsOver old all fault
-runs_first old all more rest fault few whole r =
-    runs_after old old all [] more rest fault (gains_none old few) whole r
+pub runs_first : (most : ℕ) (old : List (List ℕ)) (all more rest : List Naming) (fault : DumpFault)
+    → length old ≤ most → all ≡ more ++ rest → RunsOver most old more fault → RunsOver most old all fault
+runs_first most old all more rest fault few whole r =
+    runs_after most old old all [] more rest fault (gains_none most old few) whole r
 
 -- ---- the names that are taken are those that the dump names
 
@@ -196,7 +201,8 @@ taken_named false d n =
     )
 
 -- a set that gained all names that are taken, and nothing else
-pub all_taken : (choice : Choice) (d : Dump) (names : List (List ℕ)) → Gains [] (namings choice d) names
+pub all_taken : (choice : Choice) (d : Dump) (names : List (List ℕ))
+    → Gains (most_of choice.limit) [] (namings choice d) names
     → (n : List ℕ) → Has names n ↔ IsTaken choice d n
 all_taken choice d names gains n =
     let t = taken_named choice.entries_only d n in (
@@ -206,38 +212,47 @@ all_taken choice d names gains n =
 
 -- the names of a choice, by the cases of it
 pub only_entries : (choice : Choice) (d : Dump) (names : List (List ℕ)) → choice.entries_only ≡ true
-    → Gains [] (entry_namings d.entries) names → Gains [] (namings choice d) names
+    → Gains (most_of choice.limit) [] (entry_namings d.entries) names
+    → Gains (most_of choice.limit) [] (namings choice d) names
 only_entries choice d names only gains =
-    subst (λ (b : Bool). Gains [] (chosen b d) names) (sym only)
-    (subst (λ (ms : List Naming). Gains [] ms names) (sym (append-nil (entry_namings d.entries))) gains)
+    subst (λ (b : Bool). Gains (most_of choice.limit) [] (chosen b d) names) (sym only)
+    (subst (λ (ms : List Naming). Gains (most_of choice.limit) [] ms names) (sym (append-nil
+    (entry_namings d.entries))) gains)
 
 pub ends_too : (choice : Choice) (d : Dump) (mid names : List (List ℕ)) → choice.entries_only ≡ false
-    → Gains [] (entry_namings d.entries) mid → Gains mid (flat_map listing_namings d.listings) names
-    → Gains [] (namings choice d) names
+    → Gains (most_of choice.limit) [] (entry_namings d.entries) mid
+    → Gains (most_of choice.limit) mid (flat_map listing_namings d.listings) names
+    → Gains (most_of choice.limit) [] (namings choice d) names
 ends_too choice d mid names only first second =
-    subst (λ (b : Bool). Gains [] (chosen b d) names) (sym only)
-    (gains_more [] mid names (entry_namings d.entries) (flat_map listing_namings d.listings) first second)
+    subst (λ (b : Bool). Gains (most_of choice.limit) [] (chosen b d) names) (sym only)
+    (gains_more (most_of choice.limit) [] mid names (entry_namings d.entries)
+    (flat_map listing_namings d.listings) first second)
 
 pub over_in_entries : (choice : Choice) (d : Dump) (fault : DumpFault)
-    → RunsOver [] (entry_namings d.entries) fault → RunsOver [] (namings choice d) fault
+    → RunsOver (most_of choice.limit) [] (entry_namings d.entries) fault
+    → RunsOver (most_of choice.limit) [] (namings choice d) fault
 over_in_entries choice d fault r =
-    runs_first [] (namings choice d) (entry_namings d.entries)
+    runs_first (most_of choice.limit) [] (namings choice d) (entry_namings d.entries)
     (if choice.entries_only then [] else flat_map listing_namings d.listings) fault (omega arith) refl r
 
 pub over_in_ends : (choice : Choice) (d : Dump) (mid : List (List ℕ)) (fault : DumpFault)
-    → choice.entries_only ≡ false → Gains [] (entry_namings d.entries) mid
-    → RunsOver mid (flat_map listing_namings d.listings) fault → RunsOver [] (namings choice d) fault
+    → choice.entries_only ≡ false → Gains (most_of choice.limit) [] (entry_namings d.entries) mid
+    → RunsOver (most_of choice.limit) mid (flat_map listing_namings d.listings) fault
+    → RunsOver (most_of choice.limit) [] (namings choice d) fault
 over_in_ends choice d mid fault only first r =
     let ends = flat_map listing_namings d.listings in
-    subst (λ (b : Bool). RunsOver [] (chosen b d) fault) (sym only)
-    (runs_after [] mid (entry_namings d.entries ++ ends) (entry_namings d.entries) ends [] fault first
+    subst (λ (b : Bool). RunsOver (most_of choice.limit) [] (chosen b d) fault) (sym only)
+    (runs_after (most_of choice.limit) [] mid (entry_namings d.entries ++ ends)
+    (entry_namings d.entries) ends [] fault first
     (ap (λ ms. entry_namings d.entries ++ ms) (sym (append-nil ends))) r)
 
 -- the fault of a sound dump that has too many names
-pub beyond : (choice : Choice) (d : Dump) (fault : DumpFault) → IsSound d → RunsOver [] (namings choice d) fault
+pub beyond : (choice : Choice) (d : Dump) (fault : DumpFault) → IsSound d
+    → RunsOver (most_of choice.limit) [] (namings choice d) fault
     → IsDumpFault choice d fault
-beyond choice d (TooManyNodes at name) sound (before, after, kept, split, gains, full) = (
+beyond choice d (TooManyNodes at name most) sound (limit, before, after, kept, split, gains, full) = (
   sound,
+  limit,
   (
     before,
     after,
@@ -249,7 +264,7 @@ beyond choice d (TooManyNodes at name) sound (before, after, kept, split, gains,
         (λ h. elim ((gains.each n).0 h) [ inl k ↦ absurd k | inr k ↦ k ]),
         (λ h. (gains.each n).1 (inr h)),
       );
-      full = full.full;
+      full = full.full ∙ sym limit;
       another = full.another;
     },
   ),

@@ -1,8 +1,8 @@
 -- What a dump says of the views of nodes, by the names of their hosts, and the graph that follows from it.
 use Rattle.std.specs.Prelude.{◌≡◌, ◌≢◌, ◌↔◌, ◌⊎◌, ℕ, zero, suc, List, [], ◌∷◌, ◌++◌, map, length, slice_get}
-use Rattle.std.specs.Prelude.{Some, MatchBool}
+use Rattle.std.specs.Prelude.{Some, MatchBool, ◌<◌, ◌*◌, ◌%◌, nat_le, if◌then◌else◌}
 use Rattle.ov_ids.specs.Members.{Has, Ordered}
-use Rattle.ov_graph.specs.Links.{LinkGraph, IsGraph, Linked}
+use Rattle.ov_graph.specs.Links.{LinkGraph, IsGraph, Linked, most_nodes}
 use Rattle.ov_dump.specs.Names.{ComesBefore}
 use Rattle.ov_dump.specs.declared.dump_and_graph_types.Choice.{Choice}
 use Rattle.ov_dump.specs.declared.dump_and_graph_types.Dump.{Dump}
@@ -54,11 +54,30 @@ numbers (suc n) = numbers n ++ suc n ∷ []
 abbrev pub IsNameOf : List (List ℕ) → ℕ → List ℕ → Type 0
 IsNameOf names i a = (p : ℕ) × (i ≡ suc p) × (slice_get names p ≡ Some a)
 
--- g and its names follow from the dump. The names strictly ascend, and are exactly those that are taken. The nodes are
--- 1, 2 and so on, one for each name. Two nodes are linked exactly if they have different names that are linked
+-- the key of the place p of `count` names, where places count from 0. Up to `most_nodes` names it is the place. Of more
+-- it goes on by 20,251 with each place, modulo 32,768, which is about 0.618 of the way round: names that follow each
+-- other have keys far apart. The numbers are chosen here
+abbrev pub key_of : ℕ → ℕ → ℕ
+key_of count p = if nat_le count most_nodes then p else (p * 20251) % 32768
+
+-- the place of the name a among `sorted` has a lower key than that of b
+abbrev pub HasLowerKey : List (List ℕ) → List ℕ → List ℕ → Type 0
+HasLowerKey sorted a b = (p q : ℕ) × (slice_get sorted p ≡ Some a) × (slice_get sorted q ≡ Some b)
+    × (key_of (length sorted) p < key_of (length sorted) q)
+
+-- nodes 1, 2 and so on have these names: those of `sorted`, in ascending order of the keys of their places
+pub record AreNumbered (sorted names : List (List ℕ)) : Type 0 where
+  pub each : (n : List ℕ) → Has names n ↔ Has sorted n
+  pub ascend : Ordered (HasLowerKey sorted) names
+
+-- g and the names of its nodes follow from the dump. All names that are taken, strictly ascending, are `sorted`, and
+-- the nodes are numbered by them. The nodes are 1, 2 and so on, one for each name. Two nodes are linked exactly if they
+-- have different names that are linked
 pub record IsGraphOf (choice : Choice) (d : Dump) (g : LinkGraph) (names : List (List ℕ)) : Type 0 where
-  pub ascend : Ordered ComesBefore names
-  pub taken : (n : List ℕ) → Has names n ↔ IsTaken choice d n
+  pub sorted : List (List ℕ)
+  pub ascend : Ordered ComesBefore sorted
+  pub taken : (n : List ℕ) → Has sorted n ↔ IsTaken choice d n
+  pub numbered : AreNumbered sorted names
   pub graph : IsGraph g
   pub nodes : g.nodes ≡ numbers (length names)
   pub links : (i j : ℕ) → Linked g i j

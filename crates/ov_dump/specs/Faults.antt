@@ -3,7 +3,7 @@ use Rattle.std.specs.Prelude.{◌≡◌, ◌≢◌, ◌↔◌, ◌⊎◌, ⊤, �
 use Rattle.std.specs.Prelude.{if◌then◌else◌}
 use Rattle.std.specs.List.{flat_map}
 use Rattle.ov_ids.specs.Members.{Has, Ordered}
-use Rattle.ov_graph.specs.Links.{most_nodes}
+use Rattle.ov_graph.specs.Links.{most_of}
 use Rattle.ov_dump.specs.Dumps.{names_of}
 use Rattle.ov_dump.specs.Names.{ComesBefore}
 use Rattle.ov_dump.specs.declared.dump_and_graph_types.Choice.{Choice}
@@ -18,7 +18,7 @@ use Rattle.ov_dump.specs.declared.graph_making_fault.DumpFault.TheVariants.{TooM
 abbrev pub number_of : DumpFault → ℕ
 number_of (NameTwice at name) = 80
 number_of (EmptyName at) = 82
-number_of (TooManyNodes at name) = 31
+number_of (TooManyNodes at name most) = 31
 number_of OutOfMemory = 99
 
 -- ---- a dump without fault
@@ -89,24 +89,25 @@ abbrev pub namings : Choice → Dump → List Naming
 namings choice d =
     entry_namings d.entries ++ (if choice.entries_only then [] else flat_map listing_namings d.listings)
 
--- with these names taken, the next one is one too many for a graph: `kept` are the different ones among them, as many
--- as a graph may have, and the next one is another
-pub record IsOneTooMany (before : List Naming) (name : List ℕ) (kept : List (List ℕ)) : Type 0 where
+-- with these names taken, the next one is one too many for a graph of at most `most` nodes: `kept` are the different
+-- ones among them, as many as the graph may have, and the next one is another
+pub record IsOneTooMany (most : ℕ) (before : List Naming) (name : List ℕ) (kept : List (List ℕ)) : Type 0 where
   pub ascend : Ordered ComesBefore kept
   pub each : (n : List ℕ) → Has kept n ↔ Has (map (λ m. m.1) before) n
-  pub full : length kept ≡ most_nodes
+  pub full : length kept ≡ most
   pub another : ¬ Has kept name
 
--- the first of these names that is one too many for a graph
-abbrev pub IsBeyond : List Naming → Naming → Type 0
-IsBeyond all next = (before after : List Naming) × (all ≡ before ++ next ∷ after)
-    × (kept : List (List ℕ)) × IsOneTooMany before next.1 kept
+-- the first of these names that is one too many for a graph of at most `most` nodes
+abbrev pub IsBeyond : ℕ → List Naming → Naming → Type 0
+IsBeyond most all next = (before after : List Naming) × (all ≡ before ++ next ∷ after)
+    × (kept : List (List ℕ)) × IsOneTooMany most before next.1 kept
 
 -- ---- the fault
 
 -- no graph follows from the dump, and this is why: what is wrong with the first entry or listing that is not sound; if
--- all are sound, the first name too many; or out of memory
+-- all are sound, the first name too many, with the limit of the choice; or out of memory
 abbrev pub IsDumpFault : Choice → Dump → DumpFault → Type 0
-IsDumpFault choice d (TooManyNodes at name) = IsSound d × IsBeyond (namings choice d) (at, name)
+IsDumpFault choice d (TooManyNodes at name most) =
+    IsSound d × (most ≡ most_of choice.limit) × IsBeyond most (namings choice d) (at, name)
 IsDumpFault choice d OutOfMemory = ⊤
 IsDumpFault choice d other = IsFlaw d other

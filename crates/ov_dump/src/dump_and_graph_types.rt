@@ -1,5 +1,5 @@
 use crate::name::Name;
-use ov_graph::Graph;
+use ov_graph::{Graph, SizeLimit};
 use ov_ids::Seq;
 
 /// A name that has an entry of its own.
@@ -28,13 +28,15 @@ pub struct Dump {
     pub listings: Seq<Listing>,
 }
 
-/// Which names and which links a graph takes from a dump.
+/// Which names and which links a graph takes from a dump, and how many nodes it may have.
 #[derive(Clone, Copy)]
 pub struct Choice {
     /// Two names are linked if one lists the other. If this is false, each must list the other.
     pub either: bool,
     /// Only names that have an entry are nodes. If this is false, all names are.
     pub entries_only: bool,
+    /// How many nodes the graph may have.
+    pub limit: SizeLimit,
 }
 
 /// The graph that follows from a dump.
@@ -42,6 +44,6 @@ pub struct Choice {
 pub struct NamedGraph {
     /// Its nodes are 1, 2 and so on, one for each name.
     pub graph: Graph,
-    /// The names of its nodes, in the order of the nodes: strictly ascending, byte by byte.
+    /// The names of its nodes, in the order of the nodes. Up to 1,024 names ascend, byte by byte. More are scattered.
     pub names: Seq<Name>,
 }

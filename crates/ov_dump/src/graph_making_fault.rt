@@ -17,9 +17,9 @@ pub enum DumpFault {
     /// 82: a name is empty.
     #[error("place {at}: a name is empty")]
     EmptyName { at: u64 },
-    /// 31: this is the first name too many for a graph.
-    #[error("place {at}: {name} is one name too many, since a graph may have 1024 nodes at most")]
-    TooManyNodes { at: u64, name: Name },
+    /// 31: this is the first name too many for a graph of at most `most` nodes, as the choice says.
+    #[error("place {at}: {name} is one name too many, since a graph may have {most} nodes at most")]
+    TooManyNodes { at: u64, name: Name, most: usize },
     /// 99: an allocation was refused.
     #[error("out of memory")]
     OutOfMemory,

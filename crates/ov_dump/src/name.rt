@@ -3,12 +3,15 @@ ghost use Rattle.std.proofs.Common.{rules};
 ghost use Rattle.std.specs.Cmp.{partial_equiv_from_equiv};
 ghost use Rattle.std.specs.Cmp.Lexicographic.{nat_list_cmp_total, nat_list_eq_equiv, pointwise, slice_cmp};
 ghost use Rattle.std.specs.Cmp.Lexicographic.{texts_po, texts_ties};
+ghost use Rattle.std.specs.Cmp.Rules.{hashing};
+ghost use Rattle.std.specs.Hash as fed;
 ghost use Rattle.std.specs.Ordering.{nat_cmp};
 
 use ov_ids::OutOfMemory;
 use std::alloc::Global;
 use std::cmp::Ordering;
 use std::fmt::{Display, Formatter, Result as FmtResult, Write};
+use std::hash::{Hash, Hasher};
 use std::marker::Model;
 
 /// The name of a node in a dump, as of its host. Contracts see its bytes, in UTF-8.
@@ -89,6 +92,16 @@ impl PartialEq for Name {
 
 impl Eq for Name {
     ghost laws = { nat_list_eq_equiv };
+}
+
+impl Hash for Name {
+    ghost hash_input = { λ n. fed.str n };
+
+    ghost respects_eq = { Prim.search (hashing, rules) };
+
+    fn hash<H: Hasher>(&self, state: &mut H) {
+        self.as_str().hash(state);
+    }
 }
 
 impl PartialOrd for Name {

@@ -5,21 +5,22 @@ ghost use Rattle.ov_dump.specs.Names.{ComesBefore};
 use crate::name::Name;
 use ov_ids::OutOfMemory;
 use std::alloc::Global;
-use std::collections::BTreeSet;
+use std::collections::HashSet;
 use std::marker::Model;
 
 /// A set of names. Contracts see its members in ascending order, byte by byte.
 #[derive(Drop)]
 pub(crate) struct NameSet {
-    names: BTreeSet<Name>,
+    names: HashSet<Name>,
 }
 
 impl Model for NameSet {
     ghost use Rattle.std.specs.Prelude.{List, ℕ};
+    ghost use Rattle.ov_dump.specs.Code.InOrder.{in_order};
 
     ghost Value = { List (List ℕ) };
 
-    ghost view = { λ s. s.names.keys };
+    ghost view = { λ s. in_order s.names.keys };
 }
 
 impl NameSet {
@@ -28,7 +29,7 @@ impl NameSet {
         ensures { result ≡ [] }
     {
         NameSet {
-            names: BTreeSet::new(alloc),
+            names: HashSet::new(alloc),
         }
     }
 
@@ -63,6 +64,8 @@ impl NameSet {
         ensures names { IfOk result (λ v. v.items ≡ self) }
         ensures ordered { IfOk result (λ v. Ordered ComesBefore v.items) }
     {
-        Ok(self.names.into_iter().collect(alloc)?)
+        let mut names: Vec<Name> = self.names.into_iter().collect(alloc)?;
+        names.sort_unstable();
+        Ok(names)
     }
 }

@@ -67,8 +67,8 @@ pub fn outline_group_watched<W: Watcher>(
 }
 
 /// Settles pieces of Even's test until they suffice for a certificate of the group: none if every two members are
-/// linked. The watcher sees each piece before it is settled. Faults, in this order: NoNodes (30), the graph has no node;
-/// BadGroup (34), the members are no group. OutOfMemory (99) is returned only if neither applies.
+/// linked. The watcher sees each piece before it is settled. Faults, in this order: NoNodes (30), the graph has no
+/// node; BadGroup (34), the members are no group. OutOfMemory (99) is returned only if neither applies.
 pub fn settle_group_watched<W: Watcher>(
     alloc: Global,
     graph: &Graph,

@@ -99,7 +99,7 @@ fn cert_of(
     ensures answer { IfOk result (λ c. IsAnswer graph.now group.now c) }
     ensures valid { IfOk result (λ c. IsValidForGroup graph.now group.now c) }
 {
-    prove!(graph.nodes().len() <= Graph::MOST_NODES);
+    prove!(graph.nodes().len() <= Graph::MOST_OF_ANY);
     if let Some(cert) = linked_cert(graph, group) {
         return Ok(cert);
     }
@@ -125,7 +125,7 @@ fn split_cert(
     ensures answer { IfOk result (λ c. IsAnswer graph.now group.now c) }
     ensures valid { IfOk result (λ c. IsValidForGroup graph.now group.now c) }
 {
-    prove!(graph.nodes().len() <= Graph::MOST_NODES);
+    prove!(graph.nodes().len() <= Graph::MOST_OF_ANY);
     let Found::Cut(parting) = &first.found else {
         unreachable!()
     };

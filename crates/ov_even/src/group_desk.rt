@@ -1,5 +1,5 @@
 ghost use Rattle.std.specs.Prelude.{◌≡◌, ◌↔◌, ◌<◌, [], length, replicate, IsTrue, IfOk, OnOk, OnErr};
-ghost use Rattle.ov_ids.specs.Limits.{number_limit};
+ghost use Rattle.ov_board.specs.Limits.{piece_limit};
 ghost use Rattle.ov_graph.specs.Links.{IsGroup};
 ghost use Rattle.ov_board.specs.Theorems.{AllEnded};
 ghost use Rattle.ov_fans.specs.Cuts.{IsRight};
@@ -201,7 +201,7 @@ impl GroupDesk {
             IsNumbered (length graph.now.nodes) (length self.now.members) number s.piece) }
         ensures right { IfOk result (λ s. IsRight graph.now self.now.members s) }
     {
-        prove!(graph.nodes().len() <= Graph::MOST_NODES);
+        prove!(graph.nodes().len() <= Graph::MOST_OF_ANY);
         let piece = group_piece_at(graph.nodes().len(), self.members.len(), number);
         settle_group(*self.members.allocator(), graph, &self.members, piece)
     }
@@ -221,7 +221,7 @@ impl GroupDesk {
         requires ended { AllEnded self.now.claims }
         ensures answer { IfOk result (λ c. IsCheckedAnswer graph.now self.now.members c) }
     {
-        prove!(graph.nodes().len() <= Graph::MOST_NODES);
+        prove!(graph.nodes().len() <= Graph::MOST_OF_ANY);
         let alloc = *self.members.allocator();
         match assemble_group(alloc, graph, &self.members, &self.hauls) {
             Ok(checked) => Ok(checked),
@@ -234,12 +234,12 @@ impl GroupDesk {
 fn total_to_share(graph: &Graph, group: &[NodeId]) -> u64
     requires { IsGroup graph.now group.now }
     ensures share { AreToShare graph.now group.now result }
-    ensures small { result < number_limit }
+    ensures small { result < piece_limit }
 {
     if are_all_linked(graph, group) {
         return 0;
     }
-    prove!(graph.nodes().len() <= Graph::MOST_NODES);
+    prove!(graph.nodes().len() <= Graph::MOST_OF_ANY);
     group_total(graph.nodes().len(), group.len())
 }
 

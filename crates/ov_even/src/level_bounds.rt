@@ -1,7 +1,7 @@
 //! The bounds between which the level of the deciding piece is looked for: a good level, and one that is not good.
 //! Levels are about doubled first, and then those between the two are halved.
 ghost use Rattle.std.specs.Prelude.{◌≡◌, ◌≢◌, ◌↔◌, ◌<◌, ◌≤◌, ◌+◌, length, IsTrue};
-ghost use Rattle.ov_graph.specs.Links.{IsGraph, IsGroup, IsWithinLimit, AreAllLinked, most_nodes};
+ghost use Rattle.ov_graph.specs.Links.{IsGraph, IsGroup, IsWithinLimit, AreAllLinked, most_of_any_graph};
 ghost use Rattle.ov_even.specs.Levels.{IsLevelGood};
 ghost use Rattle.ov_even.specs.Searching.{AreFewTries, SearchGoesOn};
 ghost use Rattle.ov_even.specs.Code.Narrowing.{HasDeciding, AreBounds, IsNext, SplitsWith, tries_left};
@@ -134,7 +134,7 @@ impl<'a> LevelBounds<'a> {
 /// middle.
 fn next_level(low: usize, high: usize, guesses: bool) -> usize
     requires rises { low < high }
-    requires fits { high < most_nodes }
+    requires fits { high < most_of_any_graph }
     ensures { IsNext low high guesses result }
 {
     if low + 1 == high {

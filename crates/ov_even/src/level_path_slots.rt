@@ -1,7 +1,7 @@
 //! The paths of the pieces of a level, each stored at the place of its piece.
 ghost use Rattle.std.specs.Prelude.{◌≡◌, ◌≤◌, List, ◌++◌, map, length, IfOk};
 ghost use Rattle.std.specs.Option.{option_copied};
-ghost use Rattle.ov_graph.specs.Links.{most_nodes};
+ghost use Rattle.ov_graph.specs.Links.{most_of_any_graph};
 ghost use Rattle.ov_fans.specs.declared.piece_result.Settled.{Settled as settled};
 ghost use Rattle.ov_even.specs.Code.Cuts.{all_settled};
 ghost use Rattle.ov_even.specs.Code.Levels.{pieces_of_level};
@@ -21,7 +21,7 @@ pub(crate) fn slots_of<'a>(
     level: usize,
     hauls: &'a [Haul],
 ) -> Result<Vec<Option<&'a PlacePaths>>, OutOfMemory>
-    requires few { members ≤ most_nodes }
+    requires few { members ≤ most_of_any_graph }
     requires pieces { ArePiecesOf members (all_settled hauls.now) }
     ensures { IfOk result (λ slots.
         AreSlotsOf members level (all_settled hauls.now) (map (λ slot. option_copied slot) slots.items)) }

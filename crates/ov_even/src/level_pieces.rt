@@ -2,7 +2,7 @@
 ghost use Rattle.std.specs.Prelude.{◌≡◌, ◌<◌, ◌≤◌, ℕ, length, slice_get, Some};
 ghost use Rattle.std.specs.Iterator.{YieldsFirst, item_count};
 ghost use Rattle.ov_ids.specs.Limits.{number_limit};
-ghost use Rattle.ov_graph.specs.Links.{most_nodes};
+ghost use Rattle.ov_graph.specs.Links.{most_of_any_graph};
 ghost use Rattle.ov_fans.specs.Pieces.{level_of};
 ghost use Rattle.ov_fans.specs.Pieces.{IsPieceOf};
 ghost use Rattle.ov_even.specs.Code.Levels.{pieces_of_level, pairs_among, place_limit, IsPairPlaced};
@@ -37,8 +37,8 @@ impl LevelPieces {
     /// All pieces of a level, for a group of `m` members.
     pub(crate) fn new(m: usize, level: usize) -> LevelPieces
         requires low { 1 ≤ level }
-        requires high { level < most_nodes }
-        requires members { m ≤ most_nodes }
+        requires high { level < most_of_any_graph }
+        requires members { m ≤ most_of_any_graph }
         ensures { result ≡ pieces_of_level m level }
     {
         LevelPieces {
@@ -87,7 +87,7 @@ pub(crate) fn pair_count(members: usize) -> usize
 
 /// The number of pieces of a level, for a group of `m` members.
 pub(crate) fn level_size(m: usize, level: usize) -> usize
-    requires members { m ≤ most_nodes }
+    requires members { m ≤ most_of_any_graph }
     ensures { result ≡ length (pieces_of_level m level) }
 {
     if level < m {
@@ -111,8 +111,8 @@ pub(crate) fn place_in_level(m: usize, piece: Piece) -> usize
 
 /// The piece at a place in a level, counted from 0.
 pub(crate) fn piece_in_level(m: usize, level: usize, place: usize) -> Piece
-    requires high { level < most_nodes }
-    requires members { m ≤ most_nodes }
+    requires high { level < most_of_any_graph }
+    requires members { m ≤ most_of_any_graph }
     requires below { place < length (pieces_of_level m level) }
     ensures { slice_get (pieces_of_level m level) place ≡ Some result }
 {
@@ -129,7 +129,7 @@ pub(crate) fn piece_in_level(m: usize, level: usize, place: usize) -> Piece
 
 /// The pair at a place in a level, counted from 0.
 fn pair_at(level: u16, place: usize) -> Piece
-    requires high { level < most_nodes }
+    requires high { level < most_of_any_graph }
     requires below { place < pairs_among level }
     ensures { IsPairPlaced level place result }
 {

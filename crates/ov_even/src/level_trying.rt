@@ -1,6 +1,6 @@
 //! Tries a level: settles its pieces in order, until one has a cut.
 ghost use Rattle.std.specs.Prelude.{◌≡◌, ◌↔◌, ◌<◌, ◌≤◌, [], ◌∷◌, length, IsTrue, IfOk};
-ghost use Rattle.ov_graph.specs.Links.{IsGraph, most_nodes};
+ghost use Rattle.ov_graph.specs.Links.{IsGraph, most_of_any_graph};
 ghost use Rattle.ov_fans.specs.declared.piece_result.Found.TheVariants.{Linked as linked_found};
 ghost use Rattle.ov_even.specs.Hauls.{AreRight};
 ghost use Rattle.ov_even.specs.Levels.{IsTried};
@@ -23,10 +23,10 @@ pub(crate) fn try_level<W: Watcher>(
     watcher: &mut W,
 ) -> Result<Haul, OutOfMemory>
     requires members { members ≡ length settler.old.members }
-    requires few { members ≤ most_nodes }
+    requires few { members ≤ most_of_any_graph }
     requires low { 1 ≤ level }
     requires below { level < length settler.old.graph.nodes }
-    requires high { level < most_nodes }
+    requires high { level < most_of_any_graph }
     requires graph { IsGraph settler.old.graph }
     ensures right { IfOk result (λ haul. AreRight settler.old.graph settler.old.members (haul ∷ [])) }
     ensures tried { IfOk result (λ haul. IsTried keeping settler.old.graph settler.old.members (haul ∷ []) level) }

@@ -27,7 +27,7 @@ pub fn outline_of_hauls(
     requires suffice { SufficeForOutline graph.now group.now hauls.now }
     ensures { IfOk result (λ c. IsOutline graph.now group.now c) }
 {
-    prove!(graph.nodes().len() <= Graph::MOST_NODES);
+    prove!(graph.nodes().len() <= Graph::MOST_OF_ANY);
     if let Some(cert) = linked_cert(graph, group) {
         return Ok(cert);
     }
@@ -45,7 +45,7 @@ pub(crate) fn linked_cert(graph: &Graph, group: &[NodeId]) -> Option<Cert>
     ensures valid { IfSome result (λ c. IsValidForGroup graph.now group.now c) }
     ensures none { IfNone result (¬ AreAllLinked graph.now group.now) }
 {
-    prove!(graph.nodes().len() <= Graph::MOST_NODES);
+    prove!(graph.nodes().len() <= Graph::MOST_OF_ANY);
     if !are_all_linked(graph, group) {
         return None;
     }
@@ -66,7 +66,7 @@ fn split_outline(
     requires first { IsDeciding graph.now group.now first.now }
     ensures { IfOk result (λ c. IsOutline graph.now group.now c) }
 {
-    prove!(graph.nodes().len() <= Graph::MOST_NODES);
+    prove!(graph.nodes().len() <= Graph::MOST_OF_ANY);
     let Found::Cut(parting) = &first.found else {
         unreachable!()
     };

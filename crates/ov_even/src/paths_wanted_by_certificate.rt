@@ -36,7 +36,7 @@ pub fn wanted_paths<'a>(
     ensures found { IfOk result (λ found. AreFound graph.now group.now found.items) }
     ensures none { AreAllLinked graph.now group.now → IfOk result (λ found. found.items ≡ []) }
 {
-    prove!(graph.nodes().len() <= Graph::MOST_NODES);
+    prove!(graph.nodes().len() <= Graph::MOST_OF_ANY);
     if are_all_linked(graph, group) {
         return Ok(Vec::new(alloc));
     }
@@ -64,7 +64,7 @@ fn paths_at<'a>(
         AreUnlinkedPieces graph.now group.now level (map (λ f. f.piece) found.items)) }
     ensures found { IfOk result (λ found. AreFound graph.now group.now found.items) }
 {
-    prove!(graph.nodes().len() <= Graph::MOST_NODES);
+    prove!(graph.nodes().len() <= Graph::MOST_OF_ANY);
     if level == 0 {
         return Ok(Vec::new(alloc));
     }
@@ -88,7 +88,7 @@ fn found_pieces<'a>(
         AreUnlinkedPieces graph.now group.now level (map (λ f. f.piece) found.items)) }
     ensures found { IfOk result (λ found. AreFound graph.now group.now found.items) }
 {
-    prove!(graph.nodes().len() <= Graph::MOST_NODES);
+    prove!(graph.nodes().len() <= Graph::MOST_OF_ANY);
     let mut found = Vec::new(alloc);
     for piece in LevelPieces::new(group.len(), level) {
         if is_linked_pair(graph, group, piece) {
@@ -124,7 +124,7 @@ fn paths_in_slot<'a>(
     requires slots { HaveSlots graph.now group.now (level_of piece) (map (λ slot. option_copied slot) slots.now) }
     ensures { AreRightPaths graph.now group.now piece result.now }
 {
-    prove!(graph.nodes().len() <= Graph::MOST_NODES);
+    prove!(graph.nodes().len() <= Graph::MOST_OF_ANY);
     let place = place_in_level(group.len(), piece);
     let slot = slots[place];
     let Some(paths) = slot else { unreachable!() };

@@ -1,7 +1,7 @@
 //! The numbers of pieces: how many pieces there are, and which piece has a given number.
 ghost use Rattle.std.specs.Prelude.{◌≡◌, ◌<◌, ◌≤◌, ◌+◌, ◌-◌, ◌*◌};
-ghost use Rattle.ov_ids.specs.Limits.{number_limit};
-ghost use Rattle.ov_graph.specs.Links.{most_nodes};
+ghost use Rattle.ov_board.specs.Limits.{piece_limit};
+ghost use Rattle.ov_graph.specs.Links.{most_of_any_graph};
 ghost use Rattle.ov_even.specs.Order.{IsNumbered, AreSoMany};
 ghost use Rattle.ov_even.specs.Order.{AreMoreThan};
 ghost use Rattle.ov_even.specs.Levels.{AreNumbersOf};
@@ -11,12 +11,12 @@ use ov_fans::Piece;
 
 /// The number of pieces for a graph of `nodes` nodes and a group of `members` members (Even, SIAM J. Comput. 4, 1975).
 pub fn group_total(nodes: usize, members: usize) -> u64
-    requires nodes { nodes ≤ most_nodes }
+    requires nodes { nodes ≤ most_of_any_graph }
     requires members { members ≤ nodes }
     ensures count { AreSoMany nodes members result }
     ensures figures { 6 * result ≡ (members + 1) * (members * (members - 1))
         + 3 * ((nodes - members) * (members * (members - 1))) }
-    ensures small { result < number_limit }
+    ensures small { result < piece_limit }
 {
     let pairs = pair_count(members);
     ((members + 1) * pairs / 3 + (nodes - members) * pairs) as u64
@@ -24,7 +24,7 @@ pub fn group_total(nodes: usize, members: usize) -> u64
 
 /// The piece with this number, counted from 0, for a graph of `nodes` nodes and a group of `members` members.
 pub fn group_piece_at(nodes: usize, members: usize, number: u64) -> Piece
-    requires nodes { nodes ≤ most_nodes }
+    requires nodes { nodes ≤ most_of_any_graph }
     requires members { members ≤ nodes }
     requires below { AreMoreThan nodes members number }
     ensures { IsNumbered nodes members number result }
@@ -42,17 +42,17 @@ pub fn group_piece_at(nodes: usize, members: usize, number: u64) -> Piece
 
 /// The number of pieces for a graph of `nodes` nodes and the group of all nodes.
 pub fn total(nodes: usize) -> u64
-    requires { nodes ≤ most_nodes }
+    requires { nodes ≤ most_of_any_graph }
     ensures count { AreSoMany nodes nodes result }
     ensures figures { 6 * result ≡ (nodes + 1) * (nodes * (nodes - 1)) }
-    ensures small { result < number_limit }
+    ensures small { result < piece_limit }
 {
     group_total(nodes, nodes)
 }
 
 /// The piece with this number, counted from 0, for a graph of `nodes` nodes and the group of all nodes.
 pub fn piece_at(nodes: usize, number: u64) -> Piece
-    requires nodes { nodes ≤ most_nodes }
+    requires nodes { nodes ≤ most_of_any_graph }
     requires below { AreMoreThan nodes nodes number }
     ensures { IsNumbered nodes nodes number result }
 {
@@ -71,9 +71,9 @@ pub fn level_numbers(nodes: usize, members: usize, level: usize) -> LevelNumbers
     requires low { 1 ≤ level }
     requires high { level < nodes }
     requires members { members ≤ nodes }
-    requires nodes { nodes ≤ most_nodes }
+    requires nodes { nodes ≤ most_of_any_graph }
     ensures numbers { AreNumbersOf nodes members level result.first result.size }
-    ensures small { result.first + result.size < number_limit }
+    ensures small { result.first + result.size < piece_limit }
 {
     let size = level_size(members, level);
     let mut first = 0;

@@ -10,6 +10,7 @@ mod piece_paths_by_ids;
 mod piece_result;
 mod piece_result_theorems;
 mod piece_solver;
+mod settler_of_width;
 mod shared_bit_count;
 mod short_paths;
 

@@ -7,19 +7,18 @@ ghost use Rattle.ov_fans.specs.Code.Nets.{net_of, pair_net, fan_net};
 use crate::bit_row_nodes::bits_below;
 use crate::group_by_places_in_graph::SettlerGroup;
 use crate::piece::Piece;
-use ov_graph::bit_rows::Row;
 
 /// The net of a piece, by places: its paths lead from the source to the targets, without the avoided node if there is
 /// one.
 #[derive(Drop)]
-pub(crate) struct Aim {
+pub(crate) struct Aim<const W: usize> {
     pub(crate) avoided: Option<usize>,
     pub(crate) source: usize,
-    pub(crate) targets: Row,
+    pub(crate) targets: [u64; W],
 }
 
 /// Whether the piece is a pair of linked members.
-pub(crate) fn is_linked_pair(group: &SettlerGroup<'_>, piece: Piece) -> bool
+pub(crate) fn is_linked_pair<const W: usize>(group: &SettlerGroup<'_, W>, piece: Piece) -> bool
     requires { IsPiece group.now.graph group.now.members piece }
     ensures { IsTrue result ↔ IsLinkedPair group.now.graph group.now.members piece }
 {
@@ -30,7 +29,7 @@ pub(crate) fn is_linked_pair(group: &SettlerGroup<'_>, piece: Piece) -> bool
 }
 
 /// The net of a piece that is no linked pair.
-pub(crate) fn aim_for(group: &SettlerGroup<'_>, piece: Piece) -> Aim
+pub(crate) fn aim_for<const W: usize>(group: &SettlerGroup<'_, W>, piece: Piece) -> Aim<W>
     requires piece { IsPiece group.now.graph group.now.members piece }
     requires apart { ¬ IsLinkedPair group.now.graph group.now.members piece }
     ensures { IsAimFor group.now.graph (net_of group.now.graph group.now.members piece) result }
@@ -42,7 +41,7 @@ pub(crate) fn aim_for(group: &SettlerGroup<'_>, piece: Piece) -> Aim
 }
 
 /// The net of a pair: from the member at `i` to the neighbours of the member at `j`, which is avoided.
-fn pair_aim(group: &SettlerGroup<'_>, i: u16, j: u16) -> Aim
+fn pair_aim<const W: usize>(group: &SettlerGroup<'_, W>, i: u16, j: u16) -> Aim<W>
     requires low { 1 ≤ i }
     requires less { i < j }
     requires high { j ≤ length group.now.members }
@@ -53,12 +52,12 @@ fn pair_aim(group: &SettlerGroup<'_>, i: u16, j: u16) -> Aim
     Aim {
         avoided: Some(other),
         source: group.place_in_graph(i),
-        targets: *group.graph().row_at(other),
+        targets: group.graph().neighbour_set(other),
     }
 }
 
 /// The net of a fan: from the member at `j` to the members before it.
-fn fan_aim(group: &SettlerGroup<'_>, j: u16) -> Aim
+fn fan_aim<const W: usize>(group: &SettlerGroup<'_, W>, j: u16) -> Aim<W>
     requires low { 1 ≤ j }
     requires high { j ≤ length group.now.members }
     ensures { IsAimFor group.now.graph (fan_net group.now.graph group.now.members j) result }

@@ -1,24 +1,15 @@
-ghost use Rattle.std.specs.Prelude.{◌≡◌, ◌↔◌, ℕ, ◌<◌, List, IfOk, IfSome, IfNone, MatchOption};
-ghost use Rattle.ov_graph.specs.Links.{IsGraph, IsGroup};
-ghost use Rattle.ov_split.specs.SplitNetState.{IsFanOf};
-ghost use Rattle.ov_flow.specs.Flow.{IsFullBy};
-ghost use Rattle.ov_fans.specs.Pieces.{level_of, IsPiece, IsLinkedPair, IsGood};
-ghost use Rattle.ov_fans.specs.Cuts.{IsRight, IsFoundFor, IsParted};
+ghost use Rattle.std.specs.Prelude.{◌≡◌, ◌↔◌, IfOk, IfSome, IfNone};
+ghost use Rattle.ov_graph.specs.Links.{IsGroup};
+ghost use Rattle.ov_fans.specs.Pieces.{IsPiece, IsGood};
+ghost use Rattle.ov_fans.specs.Cuts.{IsRight, IsParted};
 ghost use Rattle.ov_fans.specs.Theorems.{IsNoCut};
-ghost use Rattle.ov_fans.specs.Code.Nets.{net_of};
 
-use crate::bit_row_nodes::nodes_of_row;
-use crate::group_by_places_in_graph::SettlerGroup;
-use crate::member_beyond_cut::far_of;
 use crate::piece::Piece;
-use crate::piece_net::{aim_for, is_linked_pair};
-use crate::piece_result::{Found, Parting, Settled};
-use crate::short_paths::has_short_paths;
-use ov_flow::{CutRows, Flow};
+use crate::piece_result::{Parting, Settled};
+use crate::settler_of_width::WideSettler;
 use ov_graph::Graph;
-use ov_graph::bit_rows::EMPTY;
+use ov_graph::bit_rows::{ALL_WORDS, WORDS};
 use ov_ids::{NodeId, OutOfMemory};
-use ov_split::SplitNet;
 use std::alloc::Global;
 use std::marker::Model;
 
@@ -26,20 +17,24 @@ use std::marker::Model;
 /// see the graph and the members.
 #[derive(Drop)]
 pub struct Settler<'g> {
-    group: SettlerGroup<'g>,
-    flow: Flow<'g>,
-    alloc: Global,
+    kept: Kept<'g>,
+}
+
+/// With sets of places that are as wide as a graph of up to 1,024 nodes asks, or as any graph does.
+#[derive(Drop)]
+enum Kept<'g> {
+    Few(WideSettler<'g, WORDS>),
+    Many(WideSettler<'g, ALL_WORDS>),
 }
 
 impl<'g> Model for Settler<'g> {
-    ghost use Rattle.std.specs.Prelude.{◌≡◌};
     ghost use Rattle.ov_fans.specs.Group.{SettlerState};
 
     ghost Value = { SettlerState };
 
-    ghost view = { λ s. s.group };
+    ghost use Rattle.ov_fans.specs.Code.Dispatched.{settler_of};
 
-    ghost invariant = { λ s. s.flow.net.graph ≡ s.group.graph };
+    ghost view = { λ s. settler_of s.kept };
 }
 
 impl<'g> Settler<'g> {
@@ -52,10 +47,17 @@ impl<'g> Settler<'g> {
         requires { IsGroup graph.now group.now }
         ensures { IfOk result (λ s. s ≡ record { graph = graph.now; members = group.now }) }
     {
-        let group = SettlerGroup::new(alloc, graph, group)?;
-        let net = SplitNet::new(graph, None, group.place_in_graph(1), EMPTY);
-        let flow = Flow::new(alloc, net)?;
-        Ok(Settler { group, flow, alloc })
+        if graph.nodes().len() <= Graph::MOST_NODES {
+            let few = WideSettler::new(alloc, graph, group)?;
+            return Ok(Settler {
+                kept: Kept::Few(few),
+            });
+        }
+        prove!(graph.nodes().len() <= Graph::MOST_OF_ANY);
+        let many = WideSettler::new(alloc, graph, group)?;
+        Ok(Settler {
+            kept: Kept::Many(many),
+        })
     }
 
     /// Settles a piece. The result is a linked pair or paths if the piece is good, otherwise its nearest minimum cut,
@@ -68,14 +70,10 @@ impl<'g> Settler<'g> {
         ensures good { IfOk result (λ s. IsGood self.old.graph self.old.members piece ↔ IsNoCut s.found) }
         ensures stays { self.new ≡ self.old }
     {
-        if is_linked_pair(&self.group, piece) {
-            return Ok(Settled {
-                piece,
-                found: Found::Linked,
-            });
+        match &mut self.kept {
+            Kept::Few(few) => few.settle(piece),
+            Kept::Many(many) => many.settle(piece),
         }
-        let found = self.sought(piece)?;
-        Ok(Settled { piece, found })
     }
 
     /// The nearest minimum cut of a piece, with its parting, or None if the piece is good (Menger, Fund. Math. 10,
@@ -88,55 +86,11 @@ impl<'g> Settler<'g> {
         ensures some { IfOk result (λ cut. IfSome cut (λ c. IsParted self.old.graph self.old.members piece c.value)) }
         ensures stays { self.new ≡ self.old }
     {
-        if is_linked_pair(&self.group, piece) || has_short_paths(&self.group, piece) {
-            return Ok(None);
-        }
-        match seek(&self.group, &mut self.flow, piece) {
-            None => Ok(None),
-            Some(rows) => {
-                let held = self.flow.held();
-                let parting = parting(self.alloc, &self.group, piece, &rows, held)?;
-                Ok(Some(parting))
-            }
+        match &mut self.kept {
+            Kept::Few(few) => few.nearest_cut(piece),
+            Kept::Many(many) => many.nearest_cut(piece),
         }
     }
-
-    /// The result of a search for a piece that is no linked pair.
-    fn sought(&mut self, piece: Piece) -> Result<Found, OutOfMemory>
-        requires piece { IsPiece self.old.graph self.old.members piece }
-        requires apart { ¬ IsLinkedPair self.old.graph self.old.members piece }
-        ensures found { IfOk result (λ f. IsFoundFor self.old.graph self.old.members piece f) }
-        ensures stays { self.new ≡ self.old }
-        ensures graph { IsGraph self.old.graph }
-    {
-        match seek(&self.group, &mut self.flow, piece) {
-            None => Ok(Found::Paths(self.flow.paths()?)),
-            Some(rows) => {
-                let held = self.flow.held();
-                let parting = parting(self.alloc, &self.group, piece, &rows, held)?;
-                Ok(Found::Cut(parting))
-            }
-        }
-    }
-}
-
-/// Seeks the paths of a piece that is no linked pair. If they are found, the flow holds them, and the result is None.
-/// Otherwise the result is the nearest minimum cut of the piece's net.
-fn seek<'g>(group: &SettlerGroup<'g>, flow: &mut Flow<'g>, piece: Piece) -> Option<CutRows>
-    requires piece { IsPiece group.now.graph group.now.members piece }
-    requires apart { ¬ IsLinkedPair group.now.graph group.now.members piece }
-    requires graph { flow.old.net.graph ≡ group.now.graph }
-    ensures net { flow.new.net ≡ net_of group.now.graph group.now.members piece }
-    ensures held { MatchOption result (flow.new.held ≡ level_of piece) (λ rows. (flow.new.held < level_of piece)
-        × IsFullBy (net_of group.now.graph group.now.members piece) flow.new.held rows) }
-    ensures fan { (paths : List (List ℕ)) × IsFanOf flow.new.net flow.new.held paths }
-    ensures stays { flow.new.net.graph ≡ flow.old.net.graph }
-    ensures graph { IsGraph group.now.graph }
-    ensures group { IsGroup group.now.graph group.now.members }
-{
-    let aim = aim_for(group, piece);
-    let net = SplitNet::new(group.graph(), aim.avoided, aim.source, aim.targets);
-    flow.seek(net, piece.level() as usize)
 }
 
 /// Settles one piece for the group of all nodes, as `settle_group` does.
@@ -166,29 +120,4 @@ pub fn settle_group(
 {
     let mut settler = Settler::new(alloc, graph, group)?;
     settler.settle(piece)
-}
-
-/// The parting of a piece, from the rows of its nearest minimum cut and of its side.
-fn parting(
-    alloc: Global,
-    group: &SettlerGroup<'_>,
-    piece: Piece,
-    rows: &CutRows,
-    held: usize,
-) -> Result<Box<Parting>, OutOfMemory>
-    requires piece { IsPiece group.now.graph group.now.members piece }
-    requires full { IsFullBy (net_of group.now.graph group.now.members piece) held rows.now }
-    requires few { held < level_of piece }
-    ensures { IfOk result (λ c. IsParted group.now.graph group.now.members piece c.value) }
-{
-    let graph = group.graph();
-    let cut = nodes_of_row(alloc, graph, &rows.cut)?;
-    let side = nodes_of_row(alloc, graph, &rows.side)?;
-    let parting = Parting {
-        cut,
-        near: group.member(piece.source()),
-        far: far_of(group, piece, &rows.cut),
-        side,
-    };
-    Ok(Box::new(alloc, parting)?)
 }

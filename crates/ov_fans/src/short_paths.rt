@@ -11,10 +11,11 @@ use crate::bit_row_nodes::bits_below;
 use crate::group_by_places_in_graph::SettlerGroup;
 use crate::piece::Piece;
 use crate::shared_bit_count::shared_bits;
+use ov_graph::bit_rows::words_for;
 
 /// Whether short paths alone make the piece good: for a pair, paths of two links over common neighbours; for a fan,
 /// links from its source to members before it. If not, the piece may still be good.
-pub(crate) fn has_short_paths(group: &SettlerGroup<'_>, piece: Piece) -> bool
+pub(crate) fn has_short_paths<const W: usize>(group: &SettlerGroup<'_, W>, piece: Piece) -> bool
     requires { IsPiece group.now.graph group.now.members piece }
     ensures { IsTrue result → IsGood group.now.graph group.now.members piece }
 {
@@ -25,7 +26,7 @@ pub(crate) fn has_short_paths(group: &SettlerGroup<'_>, piece: Piece) -> bool
 }
 
 /// How many neighbours two members have in common.
-fn common_neighbours(group: &SettlerGroup<'_>, i: u16, j: u16) -> usize
+fn common_neighbours<const W: usize>(group: &SettlerGroup<'_, W>, i: u16, j: u16) -> usize
     requires low { 1 ≤ i }
     requires high { i ≤ length group.now.members }
     requires other_low { 1 ≤ j }
@@ -36,13 +37,13 @@ fn common_neighbours(group: &SettlerGroup<'_>, i: u16, j: u16) -> usize
     ensures group { IsGroup group.now.graph group.now.members }
 {
     let graph = group.graph();
-    let row = graph.row_at(group.place_in_graph(i));
-    let other = graph.row_at(group.place_in_graph(j));
-    shared_bits(row, other, graph.words())
+    let set: [u64; W] = graph.neighbour_set(group.place_in_graph(i));
+    let other = graph.neighbour_set(group.place_in_graph(j));
+    shared_bits(&set, &other, words_for::<W>(graph.nodes().len()))
 }
 
 /// How many members before a member are its neighbours.
-fn earlier_neighbours(group: &SettlerGroup<'_>, j: u16) -> usize
+fn earlier_neighbours<const W: usize>(group: &SettlerGroup<'_, W>, j: u16) -> usize
     requires low { 1 ≤ j }
     requires high { j ≤ length group.now.members }
     ensures number { IsNumberOf (λ x. Linked group.now.graph (member_at group.now.members j) x
@@ -52,5 +53,6 @@ fn earlier_neighbours(group: &SettlerGroup<'_>, j: u16) -> usize
     let graph = group.graph();
     let source = group.place_in_graph(j);
     let before = bits_below(group.row(), source);
-    shared_bits(graph.row_at(source), &before, graph.words())
+    let set = graph.neighbour_set(source);
+    shared_bits(&set, &before, words_for::<W>(graph.nodes().len()))
 }

@@ -74,7 +74,7 @@ nodes_of_row g row graph =
     (from_row row n k.place k.below (bit_moved row (0 + k.place) k.place (omega arith) k.bit))))
 
 module _ (n : SplitNetState) (wide words : ℕ) (placed : IsPlaced n wide) (enough : wide ≤ 64 * words) (from : Table)
-    (t : Tree)
+    {W : ℕ} (t : Tree W)
     (avoided next cut : List ℕ) (grown : IsGrown n from t) (swept : IsSwept n from t)
     (off : (p : ℕ) → HasBit avoided p ↔ Has n.avoided p) (near : AreWithout t.seen t.reached words next)
     (bits : AreWithout next avoided words cut) where
@@ -132,7 +132,8 @@ module _ (n : SplitNetState) (wide words : ℕ) (placed : IsPlaced n wide) (enou
 
 -- the same by ids
 pub stuck_full : (n : SplitNetState) (words : ℕ) → IsSplitNet n → IsPlaced (net_by_place n) (length n.graph.nodes)
-    → length n.graph.nodes ≤ 64 * words → (from : Table) (ends : List ℕ) (t : Tree) (avoided next cut : List ℕ)
+    → length n.graph.nodes ≤ 64 * words → (from : Table) (ends : List ℕ) {W : ℕ} (t : Tree W)
+    (avoided next cut : List ℕ)
     → IsFlow (net_by_place n) from ends → IsGrown (net_by_place n) from t → IsSwept (net_by_place n) from t
     → ((p : ℕ) → HasBit avoided p ↔ Has (net_by_place n).avoided p) → AreWithout t.seen t.reached words next
     → AreWithout next avoided words cut

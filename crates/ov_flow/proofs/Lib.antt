@@ -9,3 +9,4 @@ pub mod Rows
 pub mod FlatPaths
 pub mod Tidying
 pub mod Seeking
+pub mod Stamping

@@ -35,10 +35,10 @@ extends_has xs ys x e h =
     let p = place_of xs x h in
     subst (Has ys) (e.1 p.0 p.1 ∙ p.2) (has_place ys p.0 0 (let l = p.1 in let m = e.0 in omega (arith, l, m)))
 
-pub more_refl : (t : Tree) → IsMore t t
+pub more_refl : {W : ℕ} (t : Tree W) → IsMore t t
 more_refl t = record { order = extends_refl t.order.items; seen = λ w h. h }
 
-pub more_trans : (a b c : Tree) → IsMore a b → IsMore b c → IsMore a c
+pub more_trans : {W : ℕ} (a b c : Tree W) → IsMore a b → IsMore b c → IsMore a c
 more_trans a b c f g = record {
   order = extends_trans a.order.items b.order.items c.order.items f.order g.order;
   seen = λ q h. g.seen q (f.seen q h);
@@ -117,7 +117,7 @@ pub tree_bound : (n : SplitNetState) (from : Table) (order parents : List ℕ) (
 tree_bound n from order parents ways t = distinct_length order n.graph.nodes t.distinct t.nodes
 
 -- a tree with room for all nodes has room for one that is not reached
-pub node_room : (n : SplitNetState) (wide : ℕ) (from : Table) (t : Tree) (node : ℕ) → IsPlaced n wide
+pub node_room : (n : SplitNetState) (wide : ℕ) (from : Table) {W : ℕ} (t : Tree W) (node : ℕ) → IsPlaced n wide
     → IsGrown n from t → HasTreeRoom wide t → Has n.graph.nodes node → ¬ HasBit t.reached node → HasNodeRoom t
 node_room n wide from t node placed g room there off =
     let order = t.order.items in
@@ -185,11 +185,12 @@ grown_seen n from order parents ways reached seen x w new g hx free tip put = re
 }
 
 -- a node was reached: it is in the tree, and is its last node where it is new
-abbrev pub IsReachedBy : SplitNetState → Table → Tree → Tree → ℕ → Type 0
+abbrev pub IsReachedBy : {W : ℕ} → SplitNetState → Table → Tree W → Tree W → ℕ → Type 0
 IsReachedBy n from old new node = IsGrown n from new × Has new.order.items node
     × (¬ Has old.order.items node → get_or new.order.items (length new.order.items - 1) 0 ≡ node)
 
-pub reached_before : (n : SplitNetState) (from : Table) (t : Tree) (node : ℕ) → IsGrown n from t → HasBit t.reached node
+pub reached_before : (n : SplitNetState) (from : Table) {W : ℕ} (t : Tree W) (node : ℕ) → IsGrown n from t
+    → HasBit t.reached node
     → IsReachedBy n from t t node
 reached_before n from t node g h = (g, (g.marked node).0 h, λ out. absurd (out ((g.marked node).0 h)))
 

@@ -48,7 +48,7 @@ pub bits_within : (g : LinkGraph) (row s : List ℕ) → AreBitsOf g row s → (
 bits_within g row s bits p b = ((bits p).0 b).0
 
 -- the cut and the side are what the rows pick
-pub full_picked : (n : SplitNetState) (k : ℕ) (s : CutRows) → IsGraph n.graph → IsFullBy n k s
+pub full_picked : (n : SplitNetState) (k : ℕ) {W : ℕ} (s : CutRows W) → IsGraph n.graph → IsFullBy n k s
     → IsFull n k (picked s.cut 0 n.graph.nodes) (picked s.side 0 n.graph.nodes)
 full_picked n k s graph f =
     subst (λ (c : List ℕ). IsFull n k c (picked s.side 0 n.graph.nodes))

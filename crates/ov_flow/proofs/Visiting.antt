@@ -1,17 +1,17 @@
 -- The links of one node, taken one after another.
-use Rattle.std.proofs.Common.{◌≡◌, ◌∙◌, ◌↔◌, ◌⊎◌, ℕ, ◌+◌, ◌-◌, ◌*◌, ◌<◌, ◌≤◌, inl, inr, List, length, get_or}
+use Rattle.std.proofs.Common.{◌≡◌, ◌∙◌, ◌↔◌, ◌⊎◌, ℕ, ◌+◌, ◌-◌, ◌<◌, inl, inr, List, length, get_or}
 use Rattle.std.proofs.Common.{Option, Some, None, Bool, true, false, refl, sym, subst, arith, unwrap_or, IsTrue}
 use Rattle.std.proofs.lemmas.Bool.{cases_eq, cases_lt}
 use Rattle.std.proofs.lemmas.List.{get_or_read}
 use Rattle.ov_ids.specs.Members.{Has}
 use Rattle.ov_ids.proofs.Members.{has_place}
 use Rattle.ov_graph.specs.Links.{Linked}
-use Rattle.ov_graph.specs.Row.{has_bit, HasBit, IsFirstFrom}
-use Rattle.ov_graph.proofs.BitRows.Bits.{AreWithout}
+use Rattle.ov_graph.specs.Neighbours.{IsFirst, HoldsNoMore}
+use Rattle.ov_graph.specs.Row.{has_bit, HasBit}
 use Rattle.ov_graph.proofs.EvenTest.Filtered.{linked_node}
 use Rattle.ov_split.specs.SplitNetState.{SplitNetState}
 use Rattle.ov_split.specs.Code.Residual.{Table}
-use Rattle.ov_split.specs.Placed.{IsPlaced}
+use Rattle.ov_split.specs.Placed.{IsPlaced, LinksOutside}
 use Rattle.ov_flow.specs.declared.search_tree.Tree.{Tree}
 use Rattle.ov_flow.specs.Code.Reached.{tip_of, IsStepBy, IsTree, IsGrownBy, IsGrown, IsMore, IsClean, IsSweptAt}
 use Rattle.ov_flow.specs.Code.Walked.{table_of, IsTable}
@@ -41,41 +41,45 @@ read_below n wide from order parents ways k x p t l read =
     let b = order_below n wide from order parents ways k p t l in
     omega (arith, e, b)
 
--- the fresh bits before `after` are taken, and the others are still unseen
-pub record IsVisiting (n : SplitNetState) (from : Table) (began t : Tree) (fresh : List ℕ) (after : ℕ) : Type 0 where
+bit_or_not : (row : List ℕ) (p : ℕ) → HasBit row p ⊎ (¬ HasBit row p)
+bit_or_not row p = go (has_bit row p) refl
+  where
+    go : (b : Bool) → has_bit row p ≡ b → IsTrue b ⊎ (¬ IsTrue b)
+    go true e = inl refl
+    go false e = inr (λ h. absurd (cc h))
+
+-- the links from x to nodes before `after` are taken
+pub record IsVisiting {W : ℕ} (n : SplitNetState) (from : Table) (began t : Tree W) (x after : ℕ) : Type 0 where
   pub grown : IsGrown n from t
   pub more : IsMore began t
   pub clean : IsClean n t
-  pub done : (q : ℕ) → q < after → HasBit fresh q → HasBit t.seen q
-  pub rest : (q : ℕ) → after ≤ q → HasBit fresh q → ¬ HasBit t.seen q
+  pub done : (q : ℕ) → q < after → Linked n.graph x q → HasBit t.seen q
 
 -- a link to w was taken to a node, which is a target, or the search goes on
-pub record IsLinkTaken (n : SplitNetState) (from : Table) (began u : Tree) (new fresh : List ℕ) (w node : ℕ) : Type 0
-  where
-    pub grown : IsGrownBy n from u.order.items u.parents.items u.ways.items u.reached new
-    pub more : IsMore began (record u { seen = new })
-    pub ended : Has n.targets node → Has n.targets (get_or u.order.items (length u.order.items - 1) 0)
-    pub goes : ¬ Has n.targets node → IsVisiting n from began (record u { seen = new }) fresh (w + 1)
+pub record IsLinkTaken {W : ℕ} (n : SplitNetState) (from : Table) (began u : Tree W) (new : List ℕ) (x w node : ℕ)
+    : Type 0 where
+  pub grown : IsGrownBy n from u.order.items u.parents.items u.ways.items u.reached new
+  pub more : IsMore began (record u { seen = new })
+  pub ended : Has n.targets node → Has n.targets (get_or u.order.items (length u.order.items - 1) 0)
+  pub goes : ¬ Has n.targets node → IsVisiting n from began (record u { seen = new }) x (w + 1)
 
-pub visiting_first : (n : SplitNetState) (from : Table) (t : Tree) (row fresh : List ℕ) (words : ℕ) → IsGrown n from t
-    → IsClean n t → AreWithout row t.seen words fresh → IsVisiting n from t t fresh 0
-visiting_first n from t row fresh words g clean are = record {
+pub visiting_first : {W : ℕ} (n : SplitNetState) (from : Table) (t : Tree W) (x : ℕ) → IsGrown n from t → IsClean n t
+    → IsVisiting n from t t x 0
+visiting_first n from t x g clean = record {
   grown = g;
   more = more_refl t;
   clean = clean;
   done = λ q l. absurd (omega arith);
-  rest = λ q l h. ((are q).0 h).2;
 }
 
-module _ (n : SplitNetState) (wide : ℕ) (placed : IsPlaced n wide) (from : List (Option ℕ)) (table : IsTable wide from)
-    (began t : Tree) (row fresh : List ℕ) (words at after w node : ℕ)
-    (x : ℕ) (read : x ≡ get_or began.order.items at x) (bits : (q : ℕ) → HasBit row q ↔ Linked n.graph x q)
-    (are : AreWithout row began.seen words fresh) (v : IsVisiting n (table_of from) began t fresh after)
-    (lt : at < length began.order.items) (first : IsFirstFrom fresh after w) where
+module _ {W : ℕ} (n : SplitNetState) (wide : ℕ) (placed : IsPlaced n wide) (from : List (Option ℕ))
+    (table : IsTable wide from) (began t : Tree W) (at after w node x : ℕ) (read : x ≡ get_or began.order.items at x)
+    (v : IsVisiting n (table_of from) began t x after) (lt : at < length began.order.items)
+    (first : IsFirst (LinksOutside n x t.seen) after w) where
   links_there : Linked n.graph (get_or t.order.items at 0) w
   links_there =
       subst (λ (y : ℕ). Linked n.graph y w) (get_or_read began.order.items at x lt read 0 ∙ sym (v.more.order.1 at lt))
-      ((bits w).0 ((are w).0 first.set).1)
+      first.holds.0
 
   pub link_below : w < wide
   link_below = (placed.nodes w).0 (linked_node n.graph (get_or t.order.items at 0) w placed.net.graph links_there)
@@ -92,8 +96,8 @@ module _ (n : SplitNetState) (wide : ℕ) (placed : IsPlaced n wide) (from : Lis
 
     link_step : IsStepBy n (table_of from) (get_or t.order.items at 0) node (Some w)
     link_step = (
-      (links_there, λ h. v.rest w first.reached first.set (v.grown.off w h)),
-      (λ s. v.rest w first.reached first.set (subst (HasBit t.seen) (sym s) v.grown.source)),
+      (links_there, λ h. first.holds.1 (v.grown.off w h)),
+      (λ s. first.holds.1 (subst (HasBit t.seen) (sym s) v.grown.source)),
       sym tip,
     )
 
@@ -101,7 +105,8 @@ module _ (n : SplitNetState) (wide : ℕ) (placed : IsPlaced n wide) (from : Lis
     link_room room off = node_room n wide (table_of from) t node placed v.grown room node_there off
 
     -- the node is reached, and the bit of the link is set
-    module _ (u : Tree) (new : List ℕ) (reach : (m : SplitNetState) (f : Table) → IsGrown m f t → Has m.graph.nodes node
+    module _ (u : Tree W) (new : List ℕ)
+        (reach : (m : SplitNetState) (f : Table) → IsGrown m f t → Has m.graph.nodes node
         → IsStepBy m f (get_or t.order.items at 0) node (Some w) → IsReachedBy m f t u node) (more : IsMore t u)
         (only : (x : ℕ) → Has u.order.items x → ¬ Has t.order.items x → x ≡ node) (same : u.seen ≡ t.seen)
         (put : (q : ℕ) → HasBit new q ↔ ((q ≡ w) ⊎ HasBit u.seen q)) where
@@ -121,27 +126,27 @@ module _ (n : SplitNetState) (wide : ℕ) (placed : IsPlaced n wide) (from : Lis
         seen = λ q h. (put q).1 (inr (more.seen q h));
       })
 
-      visiting_more : ¬ Has n.targets node
-          → IsVisiting n (table_of from) began (record u { seen = new }) fresh (w + 1)
+      visiting_more : ¬ Has n.targets node → IsVisiting n (table_of from) began (record u { seen = new }) x (w + 1)
       visiting_more off = record {
         grown = link_grown;
         more = link_more;
         clean = clean_more n t.order.items u.order.items node v.clean only off;
-        done = λ q l h. elim (cases_eq q w) [
-          | inl e ↦ (put q).1 (inl e)
-          | inr ne ↦ elim (cases_lt q after) [
-            | inl k ↦ (put q).1 (inr (subst (λ (s : List ℕ). HasBit s q) (sym same) (v.done q k h)))
-            | inr k ↦ absurd (first.first q k (omega (arith, l, ne)) h)
-          ]
-        ];
-        rest = λ q l h s. elim ((put q).0 s) [
-          | inl e ↦ absurd (omega (arith, e, l))
-          | inr k ↦ v.rest q (let r = first.reached in omega (arith, r, l)) h
-              (subst (λ (s : List ℕ). HasBit s q) same k)
-        ];
+        done = λ q l k.
+            let stays : HasBit t.seen q → HasBit new q =
+            λ h. (put q).1 (inr (subst (λ (s : List ℕ). HasBit s q) (sym same) h)) in
+            elim (cases_eq q w) [
+              | inl e ↦ (put q).1 (inl e)
+              | inr ne ↦ elim (cases_lt q after) [
+                | inl m ↦ stays (v.done q m k)
+                | inr m ↦ elim (bit_or_not t.seen q) [
+                  | inl h ↦ stays h
+                  | inr out ↦ absurd (first.first q m (omega (arith, l, ne)) (k, out))
+                ]
+              ]
+            ];
       }
 
-      pub link_taken : IsLinkTaken n (table_of from) began u new fresh w node
+      pub link_taken : IsLinkTaken n (table_of from) began u new x w node
       link_taken = record {
         grown = link_grown;
         more = link_more;
@@ -149,32 +154,16 @@ module _ (n : SplitNetState) (wide : ℕ) (placed : IsPlaced n wide) (from : Lis
         goes = visiting_more;
       }
 
-bit_or_not : (row : List ℕ) (p : ℕ) → HasBit row p ⊎ (¬ HasBit row p)
-bit_or_not row p = go (has_bit row p) refl
-  where
-    go : (b : Bool) → has_bit row p ≡ b → IsTrue b ⊎ (¬ IsTrue b)
-    go true e = inl refl
-    go false e = inr (λ h. absurd (cc h))
-
--- no fresh bit is left
-pub visiting_all : (n : SplitNetState) (wide : ℕ) → IsPlaced n wide
-    → (from : Table) (began t : Tree) (row fresh : List ℕ)
-    (words at x after : ℕ) → wide ≤ 64 * words → at < length began.order.items → x ≡ get_or began.order.items at x
-    → ((q : ℕ) → HasBit row q ↔ Linked n.graph x q)
-    → AreWithout row began.seen words fresh → IsVisiting n from began t fresh after
-    → ((q : ℕ) → after ≤ q → q < 64 * words → ¬ HasBit fresh q) → IsSweptAt n (get_or began.order.items at 0) t
-visiting_all n wide placed from began t row fresh words at x after enough lt read bits are v none = record {
+-- no link is left
+pub visiting_all : {W : ℕ} (n : SplitNetState) (from : Table) (began t : Tree W) (at x after : ℕ)
+    → at < length began.order.items → x ≡ get_or began.order.items at x → IsVisiting n from began t x after
+    → HoldsNoMore (LinksOutside n x t.seen) after → IsSweptAt n (get_or began.order.items at 0) t
+visiting_all n from began t at x after lt read v none = record {
   clean = v.clean;
   links = λ w k.
       let l = subst (λ (y : ℕ). Linked n.graph y w) (sym (get_or_read began.order.items at x lt read 0)) k in
-      elim (bit_or_not began.seen w) [
-        | inl h ↦ v.more.seen w h
-        | inr off ↦
-            let b = (placed.nodes w).0 (linked_node n.graph x w placed.net.graph l) in
-            let h = (are w).1 (omega (arith, b, enough), (bits w).1 l, off) in
-            elim (cases_lt w after) [
-              | inl k ↦ v.done w k h
-              | inr k ↦ absurd (none w k (omega (arith, b, enough)) h)
-            ]
+      elim (cases_lt w after) [
+        | inl m ↦ v.done w m l
+        | inr m ↦ elim (bit_or_not t.seen w) [ inl h ↦ h | inr out ↦ absurd (none w m (l, out)) ]
       ];
 }

@@ -40,11 +40,11 @@ pub record IsBranchBy (n : SplitNetState) (from : Table) (order : List ℕ) (pla
     pub distinct : IsDistinct (nodes_of hops)
 
 -- the same for each net and table by which the tree has grown
-abbrev pub IsBranchOf : Tree → ℕ → ℕ → List Hop → Type 0
+abbrev pub IsBranchOf : {W : ℕ} → Tree W → ℕ → ℕ → List Hop → Type 0
 IsBranchOf t place end hops = (n : SplitNetState) (from : Table) → IsGrown n from t
     → IsBranchBy n from t.order.items place end hops
 
-pub branch_none : (t : Tree) (end : ℕ) → IsBranchOf t end end []
+pub branch_none : {W : ℕ} (t : Tree W) (end : ℕ) → IsBranchOf t end end []
 branch_none t end n from g = record { goes = refl; later = λ x h. absurd h; distinct = tt }
 
 branch_more : (n : SplitNetState) (from : Table) (order parents : List ℕ) (ways : List (Option ℕ)) (place end : ℕ)
@@ -70,7 +70,8 @@ branch_more n from order parents ways place end hops t pos within b =
 abbrev hop_of : ℕ → Option ℕ → Hop
 hop_of x way = record { node = x; way = way }
 
-pub branch_step : (t : Tree) (place end : ℕ) (hops new : List Hop) (x : ℕ) (way : Option ℕ) (p : ℕ) → 0 < place
+pub branch_step : {W : ℕ} (t : Tree W) (place end : ℕ) (hops new : List Hop) (x : ℕ) (way : Option ℕ) (p : ℕ)
+    → 0 < place
     → place < length t.order.items → IsBranchOf t place end (reverse hops)
     → new ≡ hops ++ record { node = x; way = way } ∷ [] → x ≡ get_or t.order.items place x
     → way ≡ get_or t.ways.items place way → p ≡ get_or t.parents.items place p → IsBranchOf t p end (reverse new)
@@ -89,7 +90,8 @@ branch_step t place end hops new x way p pos within b is at at2 at3 n from g =
     (subst (λ (o : Option ℕ). IsBranchBy n from order (get_or parents place 0) end
     (hop_of (get_or order place 0) o ∷ reverse hops)) (sym a) m)))
 
-pub branch_all : (t : Tree) (place end : ℕ) (hops new : List Hop) → place ≤ 0 → IsBranchOf t place end hops → new ≡ hops
+pub branch_all : {W : ℕ} (t : Tree W) (place end : ℕ) (hops new : List Hop) → place ≤ 0
+    → IsBranchOf t place end hops → new ≡ hops
     → (n : SplitNetState) (from : Table) → IsGrown n from t → IsWalkBy n from new (get_or t.order.items end 0)
 branch_all t place end hops new le b is n from g =
     let order = t.order.items in

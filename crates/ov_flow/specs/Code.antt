@@ -2,4 +2,5 @@
 pub mod Flat
 pub mod Reached
 pub mod Walked
+pub mod Stamped
 pub mod Held

@@ -26,7 +26,7 @@ abbrev pub AreBitsOf : LinkGraph → List ℕ → List ℕ → Type 0
 AreBitsOf g row s = (p : ℕ) → HasBit row p ↔ ((p < length g.nodes) × Has s (node_at g p))
 
 -- no fan has more than k paths, and the rows have the bits of the nearest minimum cut and of its side
-pub record IsFullBy (n : SplitNetState) (k : ℕ) (s : CutRows) : Type 0 where
+pub record IsFullBy {W : ℕ} (n : SplitNetState) (k : ℕ) (s : CutRows W) : Type 0 where
   pub cut : List ℕ
   pub side : List ℕ
   pub full : IsFull n k cut side
@@ -34,7 +34,7 @@ pub record IsFullBy (n : SplitNetState) (k : ℕ) (s : CutRows) : Type 0 where
   pub side_row : AreBitsOf n.graph s.side side
 
 -- the result of a search for one more path: one more is held, or there is none and nothing has changed
-abbrev pub IsAugmentation : FlowState → FlowState → Augmentation → Type 0
+abbrev pub IsAugmentation : {W : ℕ} → FlowState → FlowState → Augmentation W → Type 0
 IsAugmentation old new Grew = new ≡ record old { held = old.held + 1 }
 IsAugmentation old new (Stuck s) = (new ≡ old) × IsFullBy old.net old.held s
 

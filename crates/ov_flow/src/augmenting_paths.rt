@@ -9,7 +9,8 @@ use crate::layered_walks::take_more;
 use crate::layers::{Layers, new_layers};
 use crate::one_link_paths::take_direct;
 use crate::path_search::search;
-use crate::path_table::{clear, empty_table, replace_paths};
+use crate::path_table::replace_paths;
+use crate::place_table::PlaceTable;
 use crate::search_tree::{Tree, new_tree};
 use crate::two_link_paths::take_two_links;
 use crate::walk_augmentation::{Hop, walk_back};
@@ -19,43 +20,43 @@ use std::alloc::{AllocError, Global};
 /// The tree and the walk of the last search, and the paths that are held: in `from` the place before each place on its
 /// path, and their ends. `next` is a buffer for `from`. `layers` are those of the last search.
 #[derive(Drop)]
-pub(crate) struct Work {
-    pub tree: Tree,
+pub(crate) struct Work<const W: usize> {
+    pub tree: Tree<W>,
     pub hops: Vec<Hop>,
-    pub from: Vec<Option<u16>>,
-    pub next: Vec<Option<u16>>,
+    pub from: PlaceTable,
+    pub next: PlaceTable,
     pub ends: Vec<u16>,
-    pub layers: Layers,
+    pub layers: Layers<W>,
 }
 
 /// Allocates the buffers for nets with this many places. No path is held.
-pub(crate) fn new_work(alloc: Global, places: usize) -> Result<Work, AllocError>
+pub(crate) fn new_work<const W: usize>(alloc: Global, places: usize) -> Result<Work<W>, AllocError>
     ensures work { IfOk result (λ w. (n : SplitNetState) → length n.graph.nodes ≡ places → IsWorkOf n w) }
     ensures empty { IfOk result (λ w. w.ends.items ≡ []) }
 {
     Ok(Work {
         tree: new_tree(alloc, places)?,
         hops: Vec::with_capacity(alloc, places)?,
-        from: empty_table(alloc, places)?,
-        next: empty_table(alloc, places)?,
+        from: PlaceTable::new(alloc, places)?,
+        next: PlaceTable::new(alloc, places)?,
         ends: Vec::with_capacity(alloc, places)?,
-        layers: new_layers(alloc)?,
+        layers: new_layers(alloc, places)?,
     })
 }
 
 /// Drops all paths that are held.
-fn start(net: &SplitNet<'_>, work: &mut Work)
+fn start<const W: usize>(net: &SplitNet<'_, W>, work: &mut Work<W>)
     requires { HasWorkRoom (length net.now.graph.nodes) work.old }
     ensures work { IsWorkOf net.now work.new }
     ensures empty { work.new.ends.items ≡ [] }
 {
-    clear(&mut work.from);
+    work.from.clear();
     work.ends.clear();
 }
 
 /// Searches for one more path. True: it was found, and is held.
-pub(crate) fn augment(net: &SplitNet<'_>, work: &mut Work) -> bool
-    requires ready { IsReady net.now }
+pub(crate) fn augment<const W: usize>(net: &SplitNet<'_, W>, work: &mut Work<W>) -> bool
+    requires ready { IsReady W net.now }
     requires work { IsWorkOf net.now work.old }
     ensures work { IsWorkOf net.now work.new }
     ensures longer { MatchBool result (IsLonger work.old work.new) (IsSame work.old work.new) }
@@ -81,16 +82,23 @@ pub(crate) fn augment(net: &SplitNet<'_>, work: &mut Work) -> bool
 
 /// Starts again, and searches for `level` paths. After each search that finds one, more walks are taken through its
 /// layers. True: this many are held.
-pub(crate) fn settle(net: &SplitNet<'_>, level: usize, work: &mut Work) -> bool
-    requires ready { IsReady net.now }
+pub(crate) fn settle<const W: usize>(
+    net: &SplitNet<'_, W>,
+    level: usize,
+    work: &mut Work<W>,
+) -> bool
+    requires ready { IsReady W net.now }
     requires room { HasWorkRoom (length net.now.graph.nodes) work.old }
     ensures work { IsWorkOf net.now work.new }
     ensures held { MatchBool result (length work.new.ends.items ≡ level) (length work.new.ends.items < level) }
     ensures end { result ≡ false → IsAtEnd net.now work.new }
 {
     start(net, work);
-    take_direct(net, level, work);
-    take_two_links(net, level, work);
+    let mut far = take_direct(net, level, work);
+    if work.ends.len() >= level {
+        return true;
+    }
+    take_two_links(net, level, &mut far, work);
     while work.ends.len() < level {
         if !augment(net, work) {
             return false;

@@ -1,15 +1,17 @@
-ghost use Rattle.std.specs.Prelude.{◌≡◌, ◌≢◌, ◌≤◌, ℕ, map, reverse, length, OnOk, IfOk};
+ghost use Rattle.std.specs.Prelude.{◌≡◌, ◌≢◌, ◌≤◌, ◌<◌, ◌*◌, ℕ, map, reverse, length, OnOk, IfOk};
 ghost use Rattle.ov_ids.specs.Members.{Has};
+ghost use Rattle.ov_graph.specs.Links.{most_of_any_graph};
 ghost use Rattle.ov_graph.specs.Paths.{node_at};
 ghost use Rattle.ov_split.specs.SplitNetState.{IsFanOf};
 ghost use Rattle.ov_flow.specs.Flow.{ArePlaces, ended_by, places_on};
 ghost use Rattle.ov_split.specs.Code.Residual.{AreHeld, IsFlow};
 ghost use Rattle.ov_split.specs.Places.{net_by_place};
-ghost use Rattle.ov_flow.specs.Code.Walked.{table_of, IsWritten};
+ghost use Rattle.ov_flow.specs.Code.Walked.{table_of, IsTable, IsWritten};
 ghost use Rattle.ov_flow.specs.Code.Held.{IsReady};
 
 use crate::backward_paths::PathsBackwards;
 use crate::paths_out_of_flat_list::{count_paths, push_by_ids, source_in, split_path};
+use crate::place_table::PlaceTable;
 use ov_graph::Graph;
 use ov_ids::{NodeId, OutOfMemory};
 use ov_lists::{Paths, PathsBuilder};
@@ -80,28 +82,46 @@ impl PlacePaths {
     }
 }
 
-/// How many places of the table are on paths, without the source.
-fn used(from: &[Option<u16>]) -> usize
+/// How many places the path to `end` has, without the source.
+fn places_to(from: &PlaceTable, end: u16) -> usize
+    requires table { IsTable (length from.now) from.now }
+    requires end { end < length from.now }
     ensures { result ≤ length from.now }
 {
-    let mut count = 0;
-    for step in from.iter() {
-        if step.is_some() {
-            count += 1;
+    let mut at = end as usize;
+    for step in 0..from.len() {
+        match from.get(at) {
+            Some(before) => at = before as usize,
+            None => return step,
         }
+    }
+    from.len()
+}
+
+/// How many places all paths to the ends have, without the source.
+fn used(from: &PlaceTable, ends: &[u16]) -> usize
+    requires table { IsTable (length from.now) from.now }
+    requires few { length from.now ≤ most_of_any_graph }
+    requires ends { (e : ℕ) → Has ends.now e → e < length from.now }
+    requires few_ends { length ends.now ≤ length from.now }
+    ensures { result ≤ most_of_any_graph * most_of_any_graph }
+{
+    let mut count = 0;
+    for end in ends.iter() {
+        count += places_to(from, *end);
     }
     count
 }
 
 /// Writes the path to `end`, from there back to the source.
-fn write_path(
-    net: &SplitNet<'_>,
-    from: &[Option<u16>],
+fn write_path<const W: usize>(
+    net: &SplitNet<'_, W>,
+    from: &PlaceTable,
     ends: &[u16],
     end: u16,
     flat: &mut Vec<u16>,
 ) -> Result<(), AllocError>
-    requires ready { IsReady net.now }
+    requires ready { IsReady W net.now }
     requires from { length from.now ≡ length net.now.graph.nodes }
     requires held { AreHeld (net_by_place net.now) (table_of from.now) ends.now }
     requires end { Has ends.now end }
@@ -110,7 +130,7 @@ fn write_path(
         (IsWritten (net_by_place net.now) (table_of from.now) flat.old.items flat.new.items end) }
 {
     let mut at = end;
-    while let Some(before) = from[at as usize] {
+    while let Some(before) = from.get(at as usize) {
         flat.push(at)?;
         at = before;
     }
@@ -120,18 +140,18 @@ fn write_path(
 
 /// Writes the paths that are held into a flat list. The list has room for each place on a path, and for the source once
 /// for each path, so it does not grow.
-pub(crate) fn write_paths(
+pub(crate) fn write_paths<const W: usize>(
     alloc: Global,
-    net: &SplitNet<'_>,
-    from: &[Option<u16>],
+    net: &SplitNet<'_, W>,
+    from: &PlaceTable,
     ends: &[u16],
 ) -> Result<PlacePaths, AllocError>
-    requires ready { IsReady net.now }
+    requires ready { IsReady W net.now }
     requires from { length from.now ≡ length net.now.graph.nodes }
     requires flow { IsFlow (net_by_place net.now) (table_of from.now) ends.now }
     ensures { IfOk result (λ ps. IsFanOf (net_by_place net.now) (length ends.now) ps) }
 {
-    let mut flat = Vec::with_capacity(alloc, used(from) + ends.len())?;
+    let mut flat = Vec::with_capacity(alloc, used(from, ends) + ends.len())?;
     for end in ends.iter() {
         write_path(net, from, ends, *end, &mut flat)?;
     }

@@ -14,13 +14,13 @@ use std::marker::Model;
 /// Paths of a net that share only the source. Each augmentation searches for one more (Even, SIAM J. Comput. 4, 1975).
 /// Contracts see the net, and how many paths are held.
 #[derive(Drop)]
-pub struct Flow<'g> {
-    net: SplitNet<'g>,
-    work: Work,
+pub struct Flow<'g, const W: usize> {
+    net: SplitNet<'g, W>,
+    work: Work<W>,
     alloc: Global,
 }
 
-impl<'g> Model for Flow<'g> {
+impl<'g, const W: usize> Model for Flow<'g, W> {
     ghost use Rattle.std.specs.Prelude.{length};
     ghost use Rattle.ov_split.specs.SplitNetState.{IsSplitNet};
     ghost use Rattle.ov_flow.specs.Flow.{FlowState};
@@ -30,13 +30,13 @@ impl<'g> Model for Flow<'g> {
 
     ghost view = { λ f. record { net = f.net; held = length f.work.ends.items } };
 
-    ghost invariant = { λ f. IsSplitNet f.net × IsReady f.net × IsWorkOf f.net f.work };
+    ghost invariant = { λ f. IsSplitNet f.net × IsReady W f.net × IsWorkOf f.net f.work };
 }
 
-impl<'g> Flow<'g> {
+impl<'g, const W: usize> Flow<'g, W> {
     /// Allocates the buffers for searches of this net, and of others of its graph. No path is held. OutOfMemory (99)
     /// if an allocation is refused.
-    pub fn new(alloc: Global, net: SplitNet<'g>) -> Result<Flow<'g>, OutOfMemory>
+    pub fn new(alloc: Global, net: SplitNet<'g, W>) -> Result<Flow<'g, W>, OutOfMemory>
         ensures { IfOk result (λ f. f ≡ record { net = net.entry; held = 0 }) }
     {
         let work = new_work(alloc, net.places())?;
@@ -52,7 +52,7 @@ impl<'g> Flow<'g> {
 
     /// Searches for one more path. If there is none, the result is the nearest minimum cut, whose size is the number of
     /// paths that are held (Menger, Fund. Math. 10, 1927). Nothing is allocated.
-    pub fn augment(&mut self) -> Augmentation
+    pub fn augment(&mut self) -> Augmentation<W>
         ensures augmentation { IsAugmentation self.old self.new result }
         ensures fans { (paths : List (List ℕ)) × IsFanOf self.new.net self.new.held paths }
     {
@@ -66,7 +66,7 @@ impl<'g> Flow<'g> {
     /// two, then many by each search (Even and Tarjan, SIAM J. Comput. 4, 1975). The result is `None` if they are
     /// found. Otherwise fewer paths are held, no fan has more, and the result is the nearest minimum cut (Menger, Fund.
     /// Math. 10, 1927). Nothing is allocated.
-    pub fn seek(&mut self, net: SplitNet<'g>, level: usize) -> Option<CutRows>
+    pub fn seek(&mut self, net: SplitNet<'g, W>, level: usize) -> Option<CutRows<W>>
         requires { net.graph ≡ self.old.net.graph }
         ensures net { self.new.net ≡ net.entry }
         ensures held { MatchOption result (self.new.held ≡ level)

@@ -11,16 +11,16 @@ ghost use Rattle.ov_flow.specs.Code.Held.{IsReady, IsWorkOf, IsOpenWorkOf};
 
 use crate::augmenting_paths::Work;
 use crate::layers::{Layers, set_layers};
-use crate::path_search::tip;
 use crate::path_table::keep_paths;
+use crate::place_table::PlaceTable;
 use crate::walk_augmentation::{Hop, take_hops};
-use ov_graph::bit_rows::{WORDS, both, clear, first_from, has, put};
+use ov_graph::bit_rows::{clear, has, put};
 use ov_split::SplitNet;
 
 /// Takes more walks through the layers of the last search, until `level` paths are held or no walk is left. The last
 /// search found a target, and its walk is taken already.
-pub(crate) fn take_more(net: &SplitNet<'_>, level: usize, work: &mut Work)
-    requires ready { IsReady net.now }
+pub(crate) fn take_more<const W: usize>(net: &SplitNet<'_, W>, level: usize, work: &mut Work<W>)
+    requires ready { IsReady W net.now }
     requires work { IsWorkOf net.now work.old }
     requires grown { IsTreeOf (net_by_place net.now) work.old.tree }
     requires few { length work.old.ends.items ≤ level }
@@ -41,13 +41,13 @@ pub(crate) fn take_more(net: &SplitNet<'_>, level: usize, work: &mut Work)
 
 /// Takes walks until `level` paths are held or no walk is left. True: no walk met a path, so each place in the table is
 /// still on a path to an end.
-fn take_walks(net: &SplitNet<'_>, level: usize, work: &mut Work) -> bool
-    requires ready { IsReady net.now }
+fn take_walks<const W: usize>(net: &SplitNet<'_, W>, level: usize, work: &mut Work<W>) -> bool
+    requires ready { IsReady W net.now }
     requires work { IsWorkOf net.now work.old }
     requires source { HasBit work.old.layers.visited (net_by_place net.now).source }
     requires few { length work.old.ends.items ≤ level }
     ensures work { IsOpenWorkOf net.now work.new }
-    ensures tidy { result ≡ true → IsTidy (table_of work.new.from.items) work.new.ends.items }
+    ensures tidy { result ≡ true → IsTidy (table_of work.new.from) work.new.ends.items }
     ensures few { length work.new.ends.items ≤ level }
     ensures more { length work.old.ends.items ≤ length work.new.ends.items }
 {
@@ -64,14 +64,14 @@ fn take_walks(net: &SplitNet<'_>, level: usize, work: &mut Work) -> bool
 }
 
 /// Takes the walk to one more end. True: the walk met no path.
-fn take_walk(net: &SplitNet<'_>, target: u16, work: &mut Work) -> bool
-    requires ready { IsReady net.now }
+fn take_walk<const W: usize>(net: &SplitNet<'_, W>, target: u16, work: &mut Work<W>) -> bool
+    requires ready { IsReady W net.now }
     requires work { IsOpenWorkOf net.now work.old }
-    requires walk { IsWalkBy (net_by_place net.now) (table_of work.old.from.items) work.old.hops.items target }
+    requires walk { IsWalkBy (net_by_place net.now) (table_of work.old.from) work.old.hops.items target }
     requires target { Has (net_by_place net.now).targets target }
     ensures work { IsOpenWorkOf net.now work.new }
-    ensures tidy { result ≡ true → IsTidy (table_of work.old.from.items) work.old.ends.items
-        → IsTidy (table_of work.new.from.items) work.new.ends.items }
+    ensures tidy { result ≡ true → IsTidy (table_of work.old.from) work.old.ends.items
+        → IsTidy (table_of work.new.from) work.new.ends.items }
     ensures one { length work.new.ends.items ≡ length work.old.ends.items + 1 }
     ensures layers { work.new.layers ≡ work.old.layers }
 {
@@ -80,13 +80,13 @@ fn take_walk(net: &SplitNet<'_>, target: u16, work: &mut Work) -> bool
 }
 
 /// Finds a walk from the source to a target, depth-first through the layers. The result is the target.
-fn find_walk(
-    net: &SplitNet<'_>,
-    from: &[Option<u16>],
+fn find_walk<const W: usize>(
+    net: &SplitNet<'_, W>,
+    from: &PlaceTable,
     hops: &mut Vec<Hop>,
-    layers: &mut Layers,
+    layers: &mut Layers<W>,
 ) -> Option<u16>
-    requires ready { IsReady net.now }
+    requires ready { IsReady W net.now }
     requires table { IsTable (length net.now.graph.nodes) from.now }
     requires room { length net.now.graph.nodes ≤ vec_capacity hops.old }
     requires source { HasBit layers.old.visited (net_by_place net.now).source }
@@ -128,14 +128,14 @@ fn last_node(hops: &[Hop], source: u16) -> u16
 }
 
 /// The next step from a node at this depth, to a node that is not visited. No later walk takes this step.
-fn next_hop(
-    net: &SplitNet<'_>,
-    from: &[Option<u16>],
+fn next_hop<const W: usize>(
+    net: &SplitNet<'_, W>,
+    from: &PlaceTable,
     at: u16,
     depth: usize,
-    layers: &mut Layers,
+    layers: &mut Layers<W>,
 ) -> Option<Hop>
-    requires ready { IsReady net.now }
+    requires ready { IsReady W net.now }
     requires table { IsTable (length net.now.graph.nodes) from.now }
     requires at { at < length net.now.graph.nodes }
     ensures hop { IfSome result (IsNextHop (net_by_place net.now) (table_of from.now) at layers.old.visited) }
@@ -151,30 +151,30 @@ fn next_hop(
 }
 
 /// The next step by a link.
-fn next_link(
-    net: &SplitNet<'_>,
-    from: &[Option<u16>],
+fn next_link<const W: usize>(
+    net: &SplitNet<'_, W>,
+    from: &PlaceTable,
     at: u16,
     depth: usize,
-    layers: &mut Layers,
+    layers: &mut Layers<W>,
 ) -> Option<Hop>
-    requires ready { IsReady net.now }
+    requires ready { IsReady W net.now }
     requires table { IsTable (length net.now.graph.nodes) from.now }
     requires at { at < length net.now.graph.nodes }
     requires depth { depth < length layers.old.links.items }
     ensures hop { IfSome result (IsNextHop (net_by_place net.now) (table_of from.now) at layers.old.visited) }
     ensures visited { layers.new.visited ≡ layers.old.visited }
 {
-    let words = net.words();
-    let ways = both(net.links_at(at as usize), &layers.links[depth], words);
-    let mut after = 0;
-    while let Some(w) = first_from(&ways, after, words) {
+    let mut after = onward_from(&layers.onward, at).min(net.places());
+    while let Some(w) = net.next_within(at as usize, &layers.links[depth], after) {
         clear(&mut layers.links[depth], w);
-        let node = tip(from, w as u16);
+        let way = w as u16;
+        go_onward(&mut layers.onward, at, way);
+        let node = from.tip(way);
         if may_take(net, w) && !has(&layers.visited, node as usize) {
             return Some(Hop {
                 node,
-                way: Some(w as u16),
+                way: Some(way),
             });
         }
         after = w + 1;
@@ -182,17 +182,40 @@ fn next_link(
     None
 }
 
+/// The place to which the last link led that was tried from a node, or 0.
+fn onward_from(onward: &PlaceTable, at: u16) -> usize {
+    if at as usize >= onward.len() {
+        return 0;
+    }
+    match onward.get(at as usize) {
+        Some(w) => w as usize,
+        None => 0,
+    }
+}
+
+/// Keeps the last link that was tried from a node.
+fn go_onward(onward: &mut PlaceTable, at: u16, w: u16) {
+    if (at as usize) < onward.len() {
+        onward.set(at as usize, w);
+    }
+}
+
 /// Whether links to a node may be taken: it is neither the source nor avoided.
-fn may_take(net: &SplitNet<'_>, w: usize) -> bool
-    requires { w < word_bits * WORDS }
+fn may_take<const W: usize>(net: &SplitNet<'_, W>, w: usize) -> bool
+    requires { w < word_bits * W }
     ensures { result ≡ true → (w ≢ (net_by_place net.now).source) × ¬ Has (net_by_place net.now).avoided w }
 {
     w != net.source() && !has(net.avoided(), w)
 }
 
 /// The step back along a path.
-fn next_back(net: &SplitNet<'_>, from: &[Option<u16>], at: u16, layers: &mut Layers) -> Option<Hop>
-    requires ready { IsReady net.now }
+fn next_back<const W: usize>(
+    net: &SplitNet<'_, W>,
+    from: &PlaceTable,
+    at: u16,
+    layers: &mut Layers<W>,
+) -> Option<Hop>
+    requires ready { IsReady W net.now }
     requires table { IsTable (length net.now.graph.nodes) from.now }
     requires at { at < length net.now.graph.nodes }
     ensures hop { IfSome result (IsNextHop (net_by_place net.now) (table_of from.now) at layers.old.visited) }
@@ -202,7 +225,7 @@ fn next_back(net: &SplitNet<'_>, from: &[Option<u16>], at: u16, layers: &mut Lay
         return None;
     }
     clear(&mut layers.backs, at as usize);
-    let Some(node) = from[at as usize] else {
+    let Some(node) = from.get(at as usize) else {
         return None;
     };
     if has(&layers.visited, node as usize) {

@@ -6,8 +6,9 @@ ghost use Rattle.ov_split.specs.Places.{net_by_place};
 ghost use Rattle.ov_flow.specs.Code.Reached.{IsTreeOf};
 ghost use Rattle.ov_flow.specs.Code.Held.{IsReady};
 
-use crate::search_tree::Tree;
-use ov_graph::bit_rows::{EMPTY, Row, clear, has, put, without};
+use crate::place_table::PlaceTable;
+use crate::search_tree::{Tree, no_places};
+use ov_graph::bit_rows::{clear, has, put, without};
 use ov_split::SplitNet;
 use std::alloc::{AllocError, Global};
 
@@ -16,33 +17,45 @@ const MOST_LAYERS: usize = 64;
 
 /// The steps that no walk has taken yet. `links[d]` has the nodes to which a link may be taken from a node at depth
 /// `d`, which is `d` steps from the source. `backs` has the nodes from which the step back may be taken. `visited` has
-/// the source, and the nodes that walks came to.
+/// the source, and the nodes that walks came to. `onward` has for a node the last link that was tried from it: none
+/// before it is left, so that a node with many links is gone through once and not again after each dead end.
 #[derive(Drop)]
-pub(crate) struct Layers {
-    pub links: Vec<Row>,
-    pub backs: Row,
-    pub visited: Row,
+pub(crate) struct Layers<const W: usize> {
+    pub links: Vec<[u64; W]>,
+    pub backs: [u64; W],
+    pub visited: [u64; W],
+    pub onward: PlaceTable,
 }
 
-/// No layers, with room for `MOST_LAYERS`.
-pub(crate) fn new_layers(alloc: Global) -> Result<Layers, AllocError> {
+/// No layers, with room for `MOST_LAYERS`, for nets with this many places.
+pub(crate) fn new_layers<const W: usize>(
+    alloc: Global,
+    places: usize,
+) -> Result<Layers<W>, AllocError> {
     Ok(Layers {
         links: Vec::with_capacity(alloc, MOST_LAYERS)?,
-        backs: EMPTY,
-        visited: EMPTY,
+        backs: [0; W],
+        visited: [0; W],
+        onward: PlaceTable::new(alloc, places)?,
     })
 }
 
 /// Writes the layers of a search that found a target. The walk to this target is taken already, so its nodes are
 /// visited. False: there are more layers than may be.
-pub(crate) fn set_layers(net: &SplitNet<'_>, tree: &Tree, ends: &[u16], layers: &mut Layers) -> bool
-    requires ready { IsReady net.now }
+pub(crate) fn set_layers<const W: usize>(
+    net: &SplitNet<'_, W>,
+    tree: &Tree<W>,
+    ends: &[u16],
+    layers: &mut Layers<W>,
+) -> bool
+    requires ready { IsReady W net.now }
     requires grown { IsTreeOf (net_by_place net.now) tree.now }
     requires ends { (e : ℕ) → Has ends.now e → Has (net_by_place net.now).targets e }
     ensures source { HasBit layers.new.visited (net_by_place net.now).source }
 {
     layers.links.clear();
-    layers.backs = EMPTY;
+    layers.onward.clear();
+    layers.backs = no_places();
     layers.visited = walked(net, tree);
     if !part(net, tree, layers) {
         return false;
@@ -51,12 +64,12 @@ pub(crate) fn set_layers(net: &SplitNet<'_>, tree: &Tree, ends: &[u16], layers: 
 }
 
 /// The nodes on the way from the last node of the tree back to the source.
-fn walked(net: &SplitNet<'_>, tree: &Tree) -> Row
-    requires ready { IsReady net.now }
+fn walked<const W: usize>(net: &SplitNet<'_, W>, tree: &Tree<W>) -> [u64; W]
+    requires ready { IsReady W net.now }
     requires grown { IsTreeOf (net_by_place net.now) tree.now }
     ensures source { HasBit result (net_by_place net.now).source }
 {
-    let mut nodes = EMPTY;
+    let mut nodes = [0; W];
     put(&mut nodes, net.source());
     let mut at = tree.order.len() - 1;
     while at > 0 {
@@ -68,12 +81,12 @@ fn walked(net: &SplitNet<'_>, tree: &Tree) -> Row
 
 /// Writes all layers but the last, which is incomplete. A node is in the next layer if its parent is in this one.
 /// False: there are more layers than may be.
-fn part(net: &SplitNet<'_>, tree: &Tree, layers: &mut Layers) -> bool
-    requires ready { IsReady net.now }
+fn part<const W: usize>(net: &SplitNet<'_, W>, tree: &Tree<W>, layers: &mut Layers<W>) -> bool
+    requires ready { IsReady W net.now }
     requires grown { IsTreeOf (net_by_place net.now) tree.now }
     ensures visited { layers.new.visited ≡ layers.old.visited }
 {
-    let mut row = EMPTY;
+    let mut row = [0; W];
     let mut start = 1;
     for k in 1..tree.order.len() {
         let parent = tree.parents[k] as usize;
@@ -81,7 +94,7 @@ fn part(net: &SplitNet<'_>, tree: &Tree, layers: &mut Layers) -> bool
             if !add_layer(row, layers) {
                 return false;
             }
-            row = EMPTY;
+            row = no_places();
             start = k;
         }
         add_way(net, tree, k, &mut row, layers);
@@ -90,8 +103,14 @@ fn part(net: &SplitNet<'_>, tree: &Tree, layers: &mut Layers) -> bool
 }
 
 /// Adds the step to the node at place `k` of the order, unless the node is visited.
-fn add_way(net: &SplitNet<'_>, tree: &Tree, k: usize, row: &mut Row, layers: &mut Layers)
-    requires ready { IsReady net.now }
+fn add_way<const W: usize>(
+    net: &SplitNet<'_, W>,
+    tree: &Tree<W>,
+    k: usize,
+    row: &mut [u64; W],
+    layers: &mut Layers<W>,
+)
+    requires ready { IsReady W net.now }
     requires grown { IsTreeOf (net_by_place net.now) tree.now }
     requires later { 0 < k }
     requires within { k < length tree.now.order.items }
@@ -110,8 +129,8 @@ fn add_way(net: &SplitNet<'_>, tree: &Tree, k: usize, row: &mut Row, layers: &mu
 }
 
 /// Writes the last layer: links to the targets that no path comes to. False: there are more layers than may be.
-fn add_targets(net: &SplitNet<'_>, ends: &[u16], layers: &mut Layers) -> bool
-    requires ready { IsReady net.now }
+fn add_targets<const W: usize>(net: &SplitNet<'_, W>, ends: &[u16], layers: &mut Layers<W>) -> bool
+    requires ready { IsReady W net.now }
     requires ends { (e : ℕ) → Has ends.now e → Has (net_by_place net.now).targets e }
     ensures visited { layers.new.visited ≡ layers.old.visited }
 {
@@ -123,7 +142,7 @@ fn add_targets(net: &SplitNet<'_>, ends: &[u16], layers: &mut Layers) -> bool
 }
 
 /// Adds the layer at the next depth. False: there are as many as may be.
-fn add_layer(row: Row, layers: &mut Layers) -> bool
+fn add_layer<const W: usize>(row: [u64; W], layers: &mut Layers<W>) -> bool
     ensures visited { layers.new.visited ≡ layers.old.visited }
 {
     if layers.links.len() == layers.links.capacity() {

@@ -11,6 +11,7 @@ mod one_link_paths;
 mod path_search;
 mod path_table;
 mod paths_out_of_flat_list;
+mod place_table;
 mod search_result;
 mod search_tree;
 mod two_link_paths;

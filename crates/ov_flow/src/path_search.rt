@@ -1,40 +1,26 @@
 //! The search for one more path: breadth-first over residual steps (Even, SIAM J. Comput. 4, 1975).
-ghost use Rattle.std.specs.Prelude.{◌≡◌, ◌*◌, ◌<◌, ◌≤◌, length, slice_index, MatchBool};
-ghost use Rattle.ov_graph.specs.Row.{word_bits};
+ghost use Rattle.std.specs.Prelude.{◌<◌, length, slice_index, MatchBool};
 ghost use Rattle.ov_split.specs.Places.{net_by_place};
-ghost use Rattle.ov_flow.specs.Code.Reached.{tip_of, IsGrown, IsMore, IsClean, IsSearchEnded};
+ghost use Rattle.ov_flow.specs.Code.Reached.{IsGrown, IsMore, IsClean, IsSearchEnded};
 ghost use Rattle.ov_flow.specs.Code.Reached.{IsSweptAt, IsVisited, IsSwept};
 ghost use Rattle.ov_flow.specs.Code.Walked.{table_of, IsTable};
 ghost use Rattle.ov_flow.specs.Code.Held.{IsReady, HasTreeRoom};
 
+use crate::place_table::PlaceTable;
 use crate::search_tree::{Tree, begin, reach};
-use ov_graph::bit_rows::{WORDS, first_from, has, put, without};
+use ov_graph::bit_rows::{has, put};
 use ov_split::SplitNet;
 
-/// The open end after a link to `w` is taken.
-pub(crate) fn tip(from: &[Option<u16>], w: u16) -> u16
-    requires { w < length from.now }
-    ensures { result ≡ tip_of (table_of from.now) w }
-{
-    match from[w as usize] {
-        Some(u) => u,
-        None => w,
-    }
-}
-
 /// Takes each link of the node at place `at` of the order. True: the last node reached is a target.
-fn visit_links(
-    net: &SplitNet<'_>,
-    from: &[Option<u16>],
-    tree: &mut Tree,
+fn visit_links<const W: usize>(
+    net: &SplitNet<'_, W>,
+    from: &PlaceTable,
+    tree: &mut Tree<W>,
     at: u16,
-    words: usize,
 ) -> bool
-    requires ready { IsReady net.now }
+    requires ready { IsReady W net.now }
     requires table { IsTable (length net.now.graph.nodes) from.now }
     requires room { HasTreeRoom (length net.now.graph.nodes) tree.old }
-    requires enough { length net.now.graph.nodes ≤ word_bits * words }
-    requires fits { words ≤ WORDS }
     requires grown { IsGrown (net_by_place net.now) (table_of from.now) tree.old }
     requires clean { IsClean (net_by_place net.now) tree.old }
     requires at { at < length tree.old.order.items }
@@ -45,10 +31,9 @@ fn visit_links(
     ensures room { HasTreeRoom (length net.now.graph.nodes) tree.new }
 {
     let x = tree.order[at as usize] as usize;
-    let fresh = without(net.links_at(x), &tree.seen, words);
     let mut after = 0;
-    while let Some(w) = first_from(&fresh, after, words) {
-        let node = tip(from, w as u16);
+    while let Some(w) = net.next_outside(x, &tree.seen, after) {
+        let node = from.tip(w as u16);
         reach(tree, at, Some(w as u16), node);
         put(&mut tree.seen, w);
         if has(net.targets(), node as usize) {
@@ -61,8 +46,13 @@ fn visit_links(
 
 /// Takes the step back from the node at place `at` of the order, if it is on a path: the path gives up its last step.
 /// True: the last node reached is a target.
-fn step_back(net: &SplitNet<'_>, from: &[Option<u16>], tree: &mut Tree, at: u16) -> bool
-    requires ready { IsReady net.now }
+fn step_back<const W: usize>(
+    net: &SplitNet<'_, W>,
+    from: &PlaceTable,
+    tree: &mut Tree<W>,
+    at: u16,
+) -> bool
+    requires ready { IsReady W net.now }
     requires table { IsTable (length net.now.graph.nodes) from.now }
     requires room { HasTreeRoom (length net.now.graph.nodes) tree.old }
     requires grown { IsGrown (net_by_place net.now) (table_of from.now) tree.old }
@@ -74,7 +64,7 @@ fn step_back(net: &SplitNet<'_>, from: &[Option<u16>], tree: &mut Tree, at: u16)
         (IsVisited (net_by_place net.now) (table_of from.now) (slice_index tree.old.order.items at) tree.new) }
     ensures room { HasTreeRoom (length net.now.graph.nodes) tree.new }
 {
-    if let Some(before) = from[tree.order[at as usize] as usize] {
+    if let Some(before) = from.get(tree.order[at as usize] as usize) {
         reach(tree, at, None, before);
         if has(net.targets(), before as usize) {
             return true;
@@ -84,12 +74,15 @@ fn step_back(net: &SplitNet<'_>, from: &[Option<u16>], tree: &mut Tree, at: u16)
 }
 
 /// Takes each step from the node at place `at` of the order. True: the last node reached is a target.
-fn visit(net: &SplitNet<'_>, from: &[Option<u16>], tree: &mut Tree, at: u16, words: usize) -> bool
-    requires ready { IsReady net.now }
+fn visit<const W: usize>(
+    net: &SplitNet<'_, W>,
+    from: &PlaceTable,
+    tree: &mut Tree<W>,
+    at: u16,
+) -> bool
+    requires ready { IsReady W net.now }
     requires table { IsTable (length net.now.graph.nodes) from.now }
     requires room { HasTreeRoom (length net.now.graph.nodes) tree.old }
-    requires enough { length net.now.graph.nodes ≤ word_bits * words }
-    requires fits { words ≤ WORDS }
     requires grown { IsGrown (net_by_place net.now) (table_of from.now) tree.old }
     requires clean { IsClean (net_by_place net.now) tree.old }
     requires at { at < length tree.old.order.items }
@@ -99,15 +92,19 @@ fn visit(net: &SplitNet<'_>, from: &[Option<u16>], tree: &mut Tree, at: u16, wor
         (IsVisited (net_by_place net.now) (table_of from.now) (slice_index tree.old.order.items at) tree.new) }
     ensures room { HasTreeRoom (length net.now.graph.nodes) tree.new }
 {
-    if visit_links(net, from, tree, at, words) {
+    if visit_links(net, from, tree, at) {
         return true;
     }
     step_back(net, from, tree, at)
 }
 
 /// Searches for a target. True: the last node reached is one.
-pub(crate) fn search(net: &SplitNet<'_>, from: &[Option<u16>], tree: &mut Tree) -> bool
-    requires ready { IsReady net.now }
+pub(crate) fn search<const W: usize>(
+    net: &SplitNet<'_, W>,
+    from: &PlaceTable,
+    tree: &mut Tree<W>,
+) -> bool
+    requires ready { IsReady W net.now }
     requires table { IsTable (length net.now.graph.nodes) from.now }
     requires room { HasTreeRoom (length net.now.graph.nodes) tree.old }
     ensures grown { IsGrown (net_by_place net.now) (table_of from.now) tree.new }
@@ -116,10 +113,9 @@ pub(crate) fn search(net: &SplitNet<'_>, from: &[Option<u16>], tree: &mut Tree) 
     ensures room { HasTreeRoom (length net.now.graph.nodes) tree.new }
 {
     begin(net, tree);
-    let words = net.words();
     let mut at: u16 = 0;
     while (at as usize) < tree.order.len() {
-        if visit(net, from, tree, at, words) {
+        if visit(net, from, tree, at) {
             return true;
         }
         at += 1;

@@ -7,37 +7,44 @@ ghost use Rattle.ov_split.specs.Places.{net_by_place};
 ghost use Rattle.ov_flow.specs.Code.Reached.{IsStepBy, IsGrown, IsMore, IsClean};
 ghost use Rattle.ov_flow.specs.Code.Held.{IsReady, HasTreeRoom, HasNodeRoom};
 
-use ov_graph::bit_rows::{EMPTY, Row, WORDS, has, put};
+use ov_graph::bit_rows::{has, put};
 use ov_split::SplitNet;
 use std::alloc::{AllocError, Global};
 
 /// The tree of a search: the reached nodes in the order of finding, for each the place of its parent in that order, and
 /// the link that was taken to it (none for a step back). Links to the nodes in `seen` need not be taken any more.
 #[derive(Drop)]
-pub(crate) struct Tree {
+pub(crate) struct Tree<const W: usize> {
     pub order: Vec<u16>,
     pub parents: Vec<u16>,
     pub ways: Vec<Option<u16>>,
-    pub reached: Row,
-    pub seen: Row,
+    pub reached: [u64; W],
+    pub seen: [u64; W],
 }
 
 /// An empty tree with room for this many nodes.
-pub(crate) fn new_tree(alloc: Global, room: usize) -> Result<Tree, AllocError>
+pub(crate) fn new_tree<const W: usize>(alloc: Global, room: usize) -> Result<Tree<W>, AllocError>
     ensures { IfOk result (HasTreeRoom room) }
 {
     Ok(Tree {
         order: Vec::with_capacity(alloc, room)?,
         parents: Vec::with_capacity(alloc, room)?,
         ways: Vec::with_capacity(alloc, room)?,
-        reached: EMPTY,
-        seen: EMPTY,
+        reached: [0; W],
+        seen: [0; W],
     })
 }
 
+/// The set without places.
+pub(crate) fn no_places<const W: usize>() -> [u64; W]
+    ensures { (p : ℕ) → ¬ HasBit result p }
+{
+    [0; W]
+}
+
 /// Starts a search at the source.
-pub(crate) fn begin(net: &SplitNet<'_>, tree: &mut Tree)
-    requires ready { IsReady net.now }
+pub(crate) fn begin<const W: usize>(net: &SplitNet<'_, W>, tree: &mut Tree<W>)
+    requires ready { IsReady W net.now }
     requires room { HasTreeRoom (length net.now.graph.nodes) tree.old }
     ensures grown { (from : Table) → IsGrown (net_by_place net.now) from tree.new }
     ensures clean { IsClean (net_by_place net.now) tree.new }
@@ -47,7 +54,7 @@ pub(crate) fn begin(net: &SplitNet<'_>, tree: &mut Tree)
     tree.order.clear();
     tree.parents.clear();
     tree.ways.clear();
-    tree.reached = EMPTY;
+    tree.reached = no_places();
     tree.seen = *net.avoided();
     put(&mut tree.seen, source);
     put(&mut tree.reached, source);
@@ -57,9 +64,9 @@ pub(crate) fn begin(net: &SplitNet<'_>, tree: &mut Tree)
 }
 
 /// Adds a node, unless it is reached already. A step leads to it from the node at place `at` of the order.
-pub(crate) fn reach(tree: &mut Tree, at: u16, way: Option<u16>, node: u16)
+pub(crate) fn reach<const W: usize>(tree: &mut Tree<W>, at: u16, way: Option<u16>, node: u16)
     requires at { at < length tree.old.order.items }
-    requires node { node < word_bits * WORDS }
+    requires node { node < word_bits * W }
     requires room { ¬ HasBit tree.old.reached node → HasNodeRoom tree.old }
     ensures grown { (n : SplitNetState) (from : Table) → IsGrown n from tree.old → Has n.graph.nodes node
         → IsStepBy n from (slice_index tree.old.order.items at) node way

@@ -8,6 +8,7 @@ ghost use Rattle.ov_flow.specs.Code.Reached.{IsShaped, IsGrown};
 ghost use Rattle.ov_flow.specs.Code.Walked.{table_of, IsWalkBy};
 ghost use Rattle.ov_flow.specs.Code.Held.{IsReady};
 
+use crate::place_table::PlaceTable;
 use crate::search_tree::Tree;
 use ov_split::SplitNet;
 
@@ -19,7 +20,7 @@ pub(crate) struct Hop {
 }
 
 /// Writes the walk from the source to the last node that is reached.
-pub(crate) fn walk_back(tree: &Tree, hops: &mut Vec<Hop>)
+pub(crate) fn walk_back<const W: usize>(tree: &Tree<W>, hops: &mut Vec<Hop>)
     requires shaped { IsShaped tree.now.order.items tree.now.parents.items tree.now.ways.items }
     requires room { length tree.now.order.items ≤ vec_capacity hops.old }
     ensures walk { (n : SplitNetState) (from : Table) → IsGrown n from tree.now
@@ -38,25 +39,25 @@ pub(crate) fn walk_back(tree: &Tree, hops: &mut Vec<Hop>)
 }
 
 /// Whether a step is by a link to a place on no path.
-fn is_fresh(from: &[Option<u16>], way: Option<u16>) -> bool
+fn is_fresh(from: &PlaceTable, way: Option<u16>) -> bool
     requires { IfSome way (λ w. w < length from.now) }
     ensures { result ≡ true → (w : ℕ) × (way ≡ Some w) × (table_of from.now w ≡ None) }
 {
     match way {
-        Some(w) => from[w as usize].is_none(),
+        Some(w) => from.get(w as usize).is_none(),
         None => false,
     }
 }
 
 /// Takes the steps of a walk from the source. True: the walk met no path, so each place in the table is still on a path
 /// to an end.
-pub(crate) fn take_hops(
-    net: &SplitNet<'_>,
-    from: &mut [Option<u16>],
+pub(crate) fn take_hops<const W: usize>(
+    net: &SplitNet<'_, W>,
+    from: &mut PlaceTable,
     hops: &[Hop],
     target: u16,
 ) -> bool
-    requires ready { IsReady net.now }
+    requires ready { IsReady W net.now }
     requires long { length from.old ≡ length net.now.graph.nodes }
     requires walk { IsWalkBy (net_by_place net.now) (table_of from.old) hops.now target }
     ensures held { (ends : List ℕ)
@@ -64,6 +65,7 @@ pub(crate) fn take_hops(
         → AreHeld (net_by_place net.now) (table_of from.new) (target ∷ ends) }
     ensures tidy { result ≡ true → (ends : List ℕ) → IsTidy (table_of from.old) ends
         → IsTidy (table_of from.new) (target ∷ ends) }
+    ensures long { length from.new ≡ length from.old }
 {
     let mut at = net.source() as u16;
     let mut apart = true;
@@ -72,8 +74,8 @@ pub(crate) fn take_hops(
             apart = false;
         }
         match hop.way {
-            Some(w) => from[w as usize] = Some(at),
-            None => from[at as usize] = None,
+            Some(w) => from.set(w as usize, at),
+            None => from.forget(at as usize),
         }
         at = hop.node;
     }

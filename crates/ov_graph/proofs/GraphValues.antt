@@ -4,3 +4,4 @@ pub mod Grouped
 pub mod ChangedLinks
 pub mod ChangedNodes
 pub mod OneGraph
+pub mod OneMoreLink

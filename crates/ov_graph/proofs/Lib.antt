@@ -1,4 +1,5 @@
 pub mod EvenTest
 pub mod BitRows
 pub mod GraphValues
+pub mod PlaceLists
 pub mod ShapeOfGraph

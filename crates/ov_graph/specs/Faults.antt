@@ -2,7 +2,7 @@
 use Rattle.std.specs.Prelude.{ℕ, suc, ◌<◌, ◌≤◌, List, [], ◌∷◌, length, Option, Some, None}
 use Rattle.ov_ids.specs.Members.{Has}
 use Rattle.ov_ids.specs.FaultOrder.{HoldsThen, Passed}
-use Rattle.ov_graph.specs.Links.{Precedes, most_nodes}
+use Rattle.ov_graph.specs.Links.{Precedes, most_nodes, most_of_any_graph}
 use Rattle.ov_graph.specs.declared.fault.GraphFault.{GraphFault}
 use Rattle.ov_graph.specs.declared.fault.GraphFault.TheVariants.{TooManyNodes, UnorderedNode, BadLink, UnorderedLink}
 use Rattle.ov_graph.specs.declared.fault.GraphFault.TheVariants.{OutOfMemory}
@@ -48,9 +48,17 @@ LinksJudged nodes at before [] answer = Passed answer
 LinksJudged nodes at before (l ∷ links) answer =
     LinkJoins nodes at l (LinkComesAfter at before l (LinksJudged nodes (suc at) (Some l) links)) answer
 
--- the first fault of nodes and links, or None if there is none. First come too many nodes, then the nodes one by one,
--- and then the links one by one
-abbrev pub GraphJudged : List ℕ → List (ℕ × ℕ) → Option GraphFault → Type 0
-GraphJudged nodes links answer =
-    HoldsThen (length nodes ≤ most_nodes) (TooManyNodes (length nodes) most_nodes)
+-- the first fault of nodes and links, of which there may be `most` nodes, or None if there is none. First come too many
+-- nodes, then the nodes one by one, and then the links one by one
+abbrev pub JudgedWithin : ℕ → List ℕ → List (ℕ × ℕ) → Option GraphFault → Type 0
+JudgedWithin most nodes links answer =
+    HoldsThen (length nodes ≤ most) (TooManyNodes (length nodes) most)
     (NodesJudged 0 None nodes (LinksJudged nodes 0 None links)) answer
+
+-- the first fault, where there may be at most `most_nodes` nodes
+abbrev pub GraphJudged : List ℕ → List (ℕ × ℕ) → Option GraphFault → Type 0
+GraphJudged nodes links answer = JudgedWithin most_nodes nodes links answer
+
+-- the first fault, where there may be as many nodes as any graph may have
+abbrev pub LargeGraphJudged : List ℕ → List (ℕ × ℕ) → Option GraphFault → Type 0
+LargeGraphJudged nodes links answer = JudgedWithin most_of_any_graph nodes links answer

@@ -6,6 +6,7 @@ pub mod Theorems
 pub mod Faults
 pub mod Changes
 pub mod Row
+pub mod Neighbours
 pub mod Sums
 pub mod Distances
 pub mod Components

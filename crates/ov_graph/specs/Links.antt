@@ -1,6 +1,8 @@
 -- Simple undirected graphs: a finite set of nodes, which are ids, and a set of links between two different nodes.
 use Rattle.std.specs.Prelude.{◌≡◌, ◌≢◌, ◌↔◌, ◌⊎◌, ℕ, ◌<◌, ◌≤◌, List, length}
 use Rattle.ov_ids.specs.Members.{Has, Ordered, Ascends}
+use Rattle.ov_graph.specs.declared.size_limit.SizeLimit.{SizeLimit}
+use Rattle.ov_graph.specs.declared.size_limit.SizeLimit.TheVariants.{Usual, Large}
 
 -- the nodes, and the links as pairs of nodes
 pub record LinkGraph : Type 0 where
@@ -26,13 +28,26 @@ pub record IsGraph (g : LinkGraph) : Type 0 where
 abbrev pub HasNode : LinkGraph → Type 0
 HasNode g = 0 < length g.nodes
 
--- the most nodes that a graph may have in the code. The theorems have no such limit
+-- the most nodes that a graph may have which the code keeps as rows of bits. The theorems have no such limit
 abbrev pub most_nodes : ℕ
 most_nodes = 1024
 
+-- the most nodes that any graph may have in the code. The theorems have no such limit
+abbrev pub most_of_any_graph : ℕ
+most_of_any_graph = 32768
+
+-- how many nodes a graph may have within a limit
+abbrev pub most_of : SizeLimit → ℕ
+most_of Usual = most_nodes
+most_of Large = most_of_any_graph
+
 -- the graph has at most `most_nodes` nodes
+abbrev pub IsSmall : LinkGraph → Type 0
+IsSmall g = length g.nodes ≤ most_nodes
+
+-- the graph has at most `most_of_any_graph` nodes
 abbrev pub IsWithinLimit : LinkGraph → Type 0
-IsWithinLimit g = length g.nodes ≤ most_nodes
+IsWithinLimit g = length g.nodes ≤ most_of_any_graph
 
 -- a and b are linked: a link joins them, in either order
 unfoldable pub Linked : LinkGraph → ℕ → ℕ → Type 0

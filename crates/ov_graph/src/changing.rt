@@ -34,7 +34,7 @@ pub(crate) fn put_in(
     let p = place_for(nodes, id);
     nodes.insert(p, id)?;
     insert_empty(rows, p);
-    open_all(rows, p, words_for(nodes.len()));
+    open_all(rows, p, words_for::<WORDS>(nodes.len()));
     Ok(())
 }
 
@@ -46,7 +46,7 @@ pub(crate) fn take_out(nodes: &mut Vec<NodeId>, rows: &mut Vec<Row>, p: usize)
     ensures loses { LosesNode (graph_kept nodes.old.items rows.old.items) (slice_index nodes.old.items p)
         (graph_kept nodes.new.items rows.new.items) }
 {
-    let words = words_for(nodes.len());
+    let words = words_for::<WORDS>(nodes.len());
     nodes.remove(p);
     rows.remove(p);
     close_all(rows, p, words);

@@ -1,6 +1,6 @@
 //! The clustering coefficient (Watts and Strogatz, Nature 393, 1998).
 ghost use Rattle.std.specs.Prelude.{ℕ, ◌*◌, ◌<◌, ◌≤◌, length};
-ghost use Rattle.ov_graph.specs.Links.{HasNode, most_nodes};
+ghost use Rattle.ov_graph.specs.Links.{HasNode, most_nodes, IsSmall};
 ghost use Rattle.ov_graph.specs.Paths.{node_at};
 ghost use Rattle.ov_graph.specs.Row.{picked};
 ghost use Rattle.ov_graph.specs.Sums.{IsSum, one_million};
@@ -16,7 +16,8 @@ const MILLION: usize = 1_000_000;
 
 /// The mean of the coefficients of all nodes, in ten-thousandths, rounded down.
 pub(crate) fn clustering(graph: &Graph) -> usize
-    requires { HasNode graph.now }
+    requires node { HasNode graph.now }
+    requires small { IsSmall graph.now }
     ensures { IsClustering graph.now result }
 {
     let nodes = graph.nodes().len();
@@ -29,7 +30,8 @@ pub(crate) fn clustering(graph: &Graph) -> usize
 
 /// The coefficient of the node at a place, in millionths, rounded down.
 fn coefficient(graph: &Graph, place: usize) -> usize
-    requires { place < length graph.now.nodes }
+    requires place { place < length graph.now.nodes }
+    requires small { IsSmall graph.now }
     ensures value { IsCoefficient graph.now (node_at graph.now place) result }
     ensures few { result ≤ most_nodes * most_nodes * one_million }
 {
@@ -44,7 +46,8 @@ fn coefficient(graph: &Graph, place: usize) -> usize
 
 /// How many ordered pairs of neighbours of a node are linked. The row is that of the node.
 fn linked_pairs(graph: &Graph, row: &Row) -> usize
-    requires { IsWithin graph.now row.now }
+    requires within { IsWithin graph.now row.now }
+    requires small { IsSmall graph.now }
     ensures sum { (a : ℕ) → IsNeighbourRow graph.now a row.now
         → IsSum (HaveCommon graph.now a) (picked row.now 0 graph.now.nodes) result }
     ensures few { result ≤ most_nodes * most_nodes }

@@ -1,6 +1,6 @@
 //! The largest component, and the distances within it.
 ghost use Rattle.std.specs.Prelude.{◌*◌, ◌≤◌};
-ghost use Rattle.ov_graph.specs.Links.{HasNode, most_nodes};
+ghost use Rattle.ov_graph.specs.Links.{HasNode, most_nodes, IsSmall};
 ghost use Rattle.ov_graph.specs.Row.{picked};
 ghost use Rattle.ov_graph.specs.ShortestPaths.{IsDistanceSum, IsLongest};
 ghost use Rattle.ov_graph.specs.Code.Found.{IsLargestFound};
@@ -13,7 +13,8 @@ use crate::row_counts::either;
 /// What the search from the first node of the largest component found. It searches from the first node of each
 /// component.
 pub(crate) fn largest_component(graph: &Graph) -> Found
-    requires { HasNode graph.now }
+    requires node { HasNode graph.now }
+    requires small { IsSmall graph.now }
     ensures { IsLargestFound graph.now result.row result.count }
 {
     let words = graph.words();
@@ -41,7 +42,8 @@ pub(crate) struct Distances {
 
 /// The distances within the largest component.
 pub(crate) fn distances_within(graph: &Graph, component: &Found) -> Distances
-    requires { IsLargestFound graph.now component.now.row component.now.count }
+    requires found { IsLargestFound graph.now component.now.row component.now.count }
+    requires small { IsSmall graph.now }
     ensures total { IsDistanceSum graph.now (picked component.now.row 0 graph.now.nodes) result.total }
     ensures far { IsLongest graph.now (picked component.now.row 0 graph.now.nodes) result.far }
     ensures few { result.total ≤ most_nodes * (most_nodes * most_nodes) }

@@ -1,5 +1,5 @@
 //! The degrees at a quarter, at half and at three quarters of all nodes.
-ghost use Rattle.ov_graph.specs.Links.{HasNode};
+ghost use Rattle.ov_graph.specs.Links.{HasNode, IsSmall};
 ghost use Rattle.ov_graph.specs.Degrees.{IsQuartile};
 
 use crate::Graph;
@@ -15,7 +15,8 @@ pub(crate) struct Quartiles {
 
 /// The quartiles of the degrees of all nodes.
 pub(crate) fn quartiles_of(graph: &Graph) -> Quartiles
-    requires { HasNode graph.now }
+    requires node { HasNode graph.now }
+    requires small { IsSmall graph.now }
     ensures first { IsQuartile graph.now 1 result.first }
     ensures median { IsQuartile graph.now 2 result.median }
     ensures third { IsQuartile graph.now 3 result.third }

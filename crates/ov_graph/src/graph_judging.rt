@@ -3,17 +3,19 @@ ghost use Rattle.ov_ids.specs.Members.{Ascends};
 ghost use Rattle.ov_graph.specs.Code.Tests.{fault_of, nodes_fault, links_fault, link_flaw, order_fault};
 
 use crate::fault::{GraphFault, LinkFlaw};
-use crate::graph::Graph;
 use crate::node_places_by_id::is_member;
 use ov_ids::NodeId;
 
-/// The first fault of nodes and links.
-pub(crate) fn first_fault(nodes: &[NodeId], links: &[(NodeId, NodeId)]) -> Option<GraphFault>
-    ensures { result ≡ fault_of nodes.now links.now }
+/// The first fault of nodes and links, of which there may be `most` nodes.
+pub(crate) fn first_fault(
+    nodes: &[NodeId],
+    links: &[(NodeId, NodeId)],
+    most: usize,
+) -> Option<GraphFault>
+    ensures { result ≡ fault_of most nodes.now links.now }
 {
     let count = nodes.len();
-    if count > Graph::MOST_NODES {
-        let most = Graph::MOST_NODES;
+    if count > most {
         return Some(GraphFault::TooManyNodes { count, most });
     }
     if let Some(fault) = first_node_fault(nodes) {

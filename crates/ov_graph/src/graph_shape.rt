@@ -1,5 +1,5 @@
 ghost use Rattle.std.specs.Prelude.{◌≡◌, ◌-◌, ◌*◌, ◌/◌, ◌<◌, ◌≤◌, [], IfSome, IfNone};
-ghost use Rattle.ov_graph.specs.Links.{HasNode, most_nodes};
+ghost use Rattle.ov_graph.specs.Links.{HasNode, most_nodes, IsSmall};
 ghost use Rattle.ov_graph.specs.Clustering.{IsClustering};
 ghost use Rattle.ov_graph.specs.Components.{HasLargest};
 ghost use Rattle.ov_graph.specs.Degrees.{IsQuartile};
@@ -35,9 +35,10 @@ pub struct Shape {
     pub degree_75: usize,
 }
 
-/// The shape of a graph; None if it has no nodes. Nothing is allocated. It measures what Watts and Strogatz (Nature
+/// The shape of a graph of at most 1,024 nodes; None if it has no nodes. Nothing is allocated. It measures what Watts and Strogatz (Nature
 /// 393, 1998) and HyParView's paper (Leitão, Pereira and Rodrigues, DSN 2007) measure.
 pub fn shape_of(graph: &Graph) -> Option<Shape>
+    requires { IsSmall graph.now }
     ensures largest { IfSome result (λ s. HasLargest graph.now s.largest) }
     ensures clustering { IfSome result (λ s. IsClustering graph.now s.clustering) }
     ensures path { IfSome result (λ s. HasMeanPath graph.now s.path) }

@@ -12,6 +12,13 @@ pub(crate) fn are_equal(left: &[NodeId], right: &[NodeId]) -> bool
     left == right
 }
 
+/// Whether two lists of links are equal.
+pub(crate) fn have_same_links(left: &[(NodeId, NodeId)], right: &[(NodeId, NodeId)]) -> bool
+    ensures { IsTrue result ↔ left.now ≡ right.now }
+{
+    left == right
+}
+
 /// Whether two lists of rows have the same bits in the first `words` words of each row.
 pub(crate) fn have_same_rows(left: &[Row], right: &[Row], words: usize) -> bool
     requires each { length left.now ≡ length right.now }

@@ -1,6 +1,7 @@
 //! The nodes that are joined to a node, layer by layer: in the next layer are the neighbours of this one that no layer
 //! had before, and all nodes of a layer are at one distance.
 ghost use Rattle.std.specs.Prelude.{◌↔◌, ℕ, ◌<◌, length};
+ghost use Rattle.ov_graph.specs.Links.{IsSmall};
 ghost use Rattle.ov_graph.specs.Paths.{node_at};
 ghost use Rattle.ov_graph.specs.Row.{HasBit};
 ghost use Rattle.ov_graph.specs.Code.Found.{IsFound, IsWithin, IsBeside};
@@ -21,7 +22,8 @@ pub(crate) struct Found {
 
 /// Searches from the node at a place.
 pub(crate) fn search(graph: &Graph, place: usize) -> Found
-    requires { place < length graph.now.nodes }
+    requires place { place < length graph.now.nodes }
+    requires small { IsSmall graph.now }
     ensures { IsFound graph.now (node_at graph.now place) result }
 {
     prove!(place < graph.nodes().len());
@@ -49,7 +51,8 @@ pub(crate) fn search(graph: &Graph, place: usize) -> Found
 
 /// The neighbours of the nodes of a layer that were not reached before.
 fn next_layer(graph: &Graph, front: &Row, reached: &Row) -> Row
-    requires { IsWithin graph.now front.now }
+    requires within { IsWithin graph.now front.now }
+    requires small { IsSmall graph.now }
     ensures { (q : ℕ) → HasBit result q ↔ (IsBeside graph.now front.now q × ¬ HasBit reached.now q) }
 {
     let words = graph.words();

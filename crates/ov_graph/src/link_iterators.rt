@@ -1,44 +1,48 @@
 ghost use Rattle.std.specs.Prelude.{◌≡◌};
 ghost use Rattle.std.specs.Iterator.{YieldsFirst, item_count};
-ghost use Rattle.ov_graph.specs.Row.{picked};
-ghost use Rattle.ov_graph.specs.Code.Kept.{links_read, IsRowOf, IsKept};
 
-use crate::bit_rows::{Row, first_from, words_for};
+use crate::listed_link_iterators::{ListedLinks, ListedNeighbours};
+use crate::row_link_iterators::{RowLinks, RowNeighbours};
 use ov_ids::NodeId;
 use std::marker::Model;
 
 /// The neighbours of a node, ascending. Contracts see those that are still to come.
 #[derive(Drop)]
 pub struct Neighbours<'a> {
-    nodes: &'a [NodeId],
-    row: &'a Row,
-    words: usize,
-    next: usize,
+    left: NeighboursLeft<'a>,
+}
+
+/// Neighbours still to come, by how a graph is kept.
+#[derive(Drop)]
+enum NeighboursLeft<'a> {
+    Rows(RowNeighbours<'a>),
+    Lists(ListedNeighbours<'a>),
 }
 
 impl<'a> Model for Neighbours<'a> {
-    ghost use Rattle.std.specs.Prelude.{List, ℕ, length, drop};
-    ghost use Rattle.ov_graph.specs.Row.{AreWordsFor};
-    ghost use Rattle.ov_graph.specs.Row.{picked};
-    ghost use Rattle.ov_graph.specs.Code.Kept.{IsRowOf};
+    ghost use Rattle.std.specs.Prelude.{List, ℕ};
 
     ghost Value = { List ℕ };
 
-    ghost view = { λ n. picked n.row.now n.next (drop n.next n.nodes.now) };
+    ghost use Rattle.ov_graph.specs.Code.Dispatched.{neighbours_left};
 
-    ghost invariant = { λ n. IsRowOf n.nodes.now n.row.now × AreWordsFor (length n.nodes.now) n.words };
+    ghost view = { λ n. neighbours_left n.left };
 }
 
 impl<'a> Neighbours<'a> {
-    pub(crate) fn new(nodes: &'a [NodeId], row: &'a Row) -> Neighbours<'a>
-        requires { IsRowOf nodes.now row.now }
-        ensures { result ≡ picked row.now 0 nodes.now }
+    pub(crate) fn of_rows(rows: RowNeighbours<'a>) -> Neighbours<'a>
+        ensures { result ≡ rows.entry }
     {
         Neighbours {
-            nodes,
-            row,
-            words: words_for(nodes.len()),
-            next: 0,
+            left: NeighboursLeft::Rows(rows),
+        }
+    }
+
+    pub(crate) fn of_lists(lists: ListedNeighbours<'a>) -> Neighbours<'a>
+        ensures { result ≡ lists.entry }
+    {
+        Neighbours {
+            left: NeighboursLeft::Lists(lists),
         }
     }
 }
@@ -51,45 +55,50 @@ impl Iterator for Neighbours<'_> {
     ghost remaining = { item_count (λ n. n) };
 
     fn next(&mut self) -> Option<NodeId> {
-        let place = first_from(self.row, self.next, self.words)?;
-        self.next = place + 1;
-        Some(self.nodes[place])
+        match &mut self.left {
+            NeighboursLeft::Rows(rows) => rows.next(),
+            NeighboursLeft::Lists(lists) => lists.next(),
+        }
     }
 }
 
 /// The links of a graph, ascending. Contracts see those that are still to come.
 #[derive(Drop)]
 pub struct Links<'a> {
-    nodes: &'a [NodeId],
-    rows: &'a [Row],
-    words: usize,
-    lower: usize,
-    next: usize,
+    left: LinksLeft<'a>,
+}
+
+/// Links still to come, by how a graph is kept.
+#[derive(Drop)]
+enum LinksLeft<'a> {
+    Rows(RowLinks<'a>),
+    Lists(ListedLinks<'a>),
 }
 
 impl<'a> Model for Links<'a> {
-    ghost use Rattle.std.specs.Prelude.{List, ℕ, length};
-    ghost use Rattle.ov_graph.specs.Row.{AreWordsFor};
-    ghost use Rattle.ov_graph.specs.Code.Kept.{links_from, IsKept};
+    ghost use Rattle.std.specs.Prelude.{List, ℕ};
 
     ghost Value = { List (ℕ × ℕ) };
 
-    ghost view = { λ l. links_from l.nodes.now l.rows.now l.lower l.next };
+    ghost use Rattle.ov_graph.specs.Code.Dispatched.{links_left};
 
-    ghost invariant = { λ l. IsKept l.nodes.now l.rows.now × AreWordsFor (length l.nodes.now) l.words };
+    ghost view = { λ l. links_left l.left };
 }
 
 impl<'a> Links<'a> {
-    pub(crate) fn new(nodes: &'a [NodeId], rows: &'a [Row]) -> Links<'a>
-        requires { IsKept nodes.now rows.now }
-        ensures { result ≡ links_read 0 nodes.now rows.now }
+    pub(crate) fn of_rows(rows: RowLinks<'a>) -> Links<'a>
+        ensures { result ≡ rows.entry }
     {
         Links {
-            nodes,
-            rows,
-            words: words_for(nodes.len()),
-            lower: 0,
-            next: 1,
+            left: LinksLeft::Rows(rows),
+        }
+    }
+
+    pub(crate) fn of_lists(lists: ListedLinks<'a>) -> Links<'a>
+        ensures { result ≡ lists.entry }
+    {
+        Links {
+            left: LinksLeft::Lists(lists),
         }
     }
 }
@@ -102,14 +111,9 @@ impl Iterator for Links<'_> {
     ghost remaining = { item_count (λ l. l) };
 
     fn next(&mut self) -> Option<(NodeId, NodeId)> {
-        while self.lower < self.nodes.len() {
-            if let Some(higher) = first_from(&self.rows[self.lower], self.next, self.words) {
-                self.next = higher + 1;
-                return Some((self.nodes[self.lower], self.nodes[higher]));
-            }
-            self.lower += 1;
-            self.next = self.lower + 1;
+        match &mut self.left {
+            LinksLeft::Rows(rows) => rows.next(),
+            LinksLeft::Lists(lists) => lists.next(),
         }
-        None
     }
 }

@@ -8,3 +8,4 @@ pub mod Told
 pub mod Meanings
 pub mod Sole
 pub mod Commented
+pub mod Bearers

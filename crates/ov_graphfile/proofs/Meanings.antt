@@ -1,21 +1,22 @@
 -- What parts of a text mean, and the places that are marked for them.
 use Rattle.std.proofs.Common.{◌≡◌, ◌≢◌, ◌∙◌, ◌↔◌, ◌⊎◌, ℕ, ◌+◌, ◌<◌, ◌≤◌, List, length, get_or, Some, None, inl, inr}
-use Rattle.std.proofs.Common.{Bool, true, Option, IsTrue, is_some, refl, sym, ap, subst, arith}
-use Rattle.std.proofs.lemmas.Bool.{cases_eq, cases_order}
+use Rattle.std.proofs.Common.{Bool, true, Option, IsTrue, is_some, replicate, refl, sym, ap, subst, arith}
+use Rattle.std.proofs.lemmas.Bool.{cases_eq}
 use Rattle.ov_ids.specs.Members.{Has}
 use Rattle.ov_ids.proofs.Members.{has_place, place_of}
 use Rattle.ov_graph.specs.Links.{LinkGraph, IsGraph}
 use Rattle.ov_graph.specs.Paths.{node_at}
 use Rattle.ov_graph.specs.Row.{HasBit, picked}
-use Rattle.ov_graph.specs.declared.bit_rows.TheConstants.{EMPTY}
-use Rattle.ov_graph.proofs.BitRows.Bits.{bit_moved, empty_bit}
+use Rattle.ov_graph.proofs.BitRows.Bits.{bit_moved, no_bits}
 use Rattle.ov_graph.proofs.BitRows.Read.{has_picked, in_picked, ascends_picked, one_place}
 use Rattle.ov_lines.specs.Lines.{words_of, one, short_bits}
 use Rattle.ov_graphfile.specs.NamesState.{NamesState, IsNamed}
 use Rattle.ov_graphfile.specs.Groups.{part_at, HasNumeralName, Means, MeansAt, IsShared, IsGroupNamed}
 use Rattle.ov_graphfile.specs.Groups.{IsGroupFault}
-use Rattle.ov_graphfile.specs.Code.Owners.{IsNumeralAt, IsFirstNamed, AreMarked}
+use Rattle.ov_graphfile.specs.Code.Bearers.{IsBearerOf}
+use Rattle.ov_graphfile.specs.Code.Owners.{IsNumeralAt, AreMarked}
 use Rattle.ov_graphfile.specs.declared.group_names_fault.GroupFault.TheVariants.{NamedTwice}
+use Rattle.ov_graphfile.specs.declared.nodes_by_name.Bearer.TheVariants.{One, Several}
 use Rattle.ov_graphfile.proofs.Tables.{some_one}
 
 -- ---- one part
@@ -27,31 +28,28 @@ pub none_named : (names : NamesState) (part : List ℕ)
 none_named names part none m h = none h.0 h.1 h.3
 
 -- the name of one node
-pub one_named : (names : NamesState) (part : List ℕ) (p : ℕ) → IsFirstNamed names part 0 p
-    → ((q : ℕ) → p + 1 ≤ q → q < length names.graph.nodes → ¬ (get_or names.told q None ≡ Some part))
-    → Means names part (node_at names.graph p)
-one_named names part p first none = inl (
-  (p, first.below, refl, first.here),
-  λ m h. elim (cases_order h.0 p) [
-    | inl e ↦ sym h.2 ∙ ap (node_at names.graph) e
-    | inr (inl l) ↦ absurd (first.first h.0 (omega arith) l h.3)
-    | inr (inr l) ↦ absurd (none h.0 (omega (arith, l)) h.1 h.3)
-  ],
-)
+pub one_named : (names : NamesState) (part : List ℕ) (p : ℕ)
+    → IsBearerOf names.told (length names.graph.nodes) part (Some (One p)) → Means names part (node_at names.graph p)
+one_named names part p b =
+    inl ((p, b.0, refl, b.1), (λ m h. sym h.2 ∙ ap (node_at names.graph) (b.2 h.0 h.1 h.3)))
 
 -- the name of two
-pub two_named : (names : NamesState) (part : List ℕ) (p q : ℕ) → IsGraph names.graph → IsFirstNamed names part 0 p
-    → IsFirstNamed names part (p + 1) q → IsShared names part
-two_named names part p q graph first second = (
-  node_at names.graph p,
-  node_at names.graph q,
-  (λ e.
-      let same = one_place names.graph.nodes p q graph.nodes_ascend first.below second.below e in
-      let l = second.reached in
-      omega (arith, same, l)),
-  (p, first.below, refl, first.here),
-  (q, second.below, refl, second.here),
-)
+pub two_named : (names : NamesState) (part : List ℕ) → IsGraph names.graph
+    → IsBearerOf names.told (length names.graph.nodes) part (Some Several) → IsShared names part
+two_named names part graph b =
+    let p : ℕ = b.0 in
+    let q : ℕ = b.1 in
+    let less : p < q = b.2 in
+    let below : q < length names.graph.nodes = b.3 in
+    let within : p < length names.graph.nodes = omega (arith, less, below) in (
+      node_at names.graph p,
+      node_at names.graph q,
+      (λ e.
+          let same = one_place names.graph.nodes p q graph.nodes_ascend within below e in
+          omega (arith, same, less)),
+      (p, within, refl, b.4),
+      (q, below, refl, b.5),
+    )
 
 -- the id of a node
 pub spelled : (names : NamesState) (part : List ℕ) (g : LinkGraph) (place id : ℕ) → ¬ HasNumeralName names
@@ -112,9 +110,10 @@ no_numeral names count all none h =
 
 -- ---- the parts so far
 
-pub none_marked : (names : NamesState) (parts : List (List ℕ)) → AreMarked names parts EMPTY 0
-none_marked names parts = record {
-  bits = λ p. ((λ h. absurd (empty_bit p h)), (λ h. let l = h.1.1 in absurd (omega (arith, l))));
+pub none_marked : (names : NamesState) (parts : List (List ℕ)) (words : ℕ)
+    → AreMarked names parts (replicate words 0) 0
+none_marked names parts words = record {
+  bits = λ p. ((λ h. absurd (no_bits words p h)), (λ h. let l = h.1.1 in absurd (omega (arith, l))));
   each = λ i l. absurd (omega (arith, l));
   once = λ i j n l m a b. absurd (omega (arith, l));
 }

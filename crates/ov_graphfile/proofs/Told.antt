@@ -1,11 +1,13 @@
 -- The names that the lines of a file give nodes, in the order of the lines, are the names of its graph.
 use Rattle.std.proofs.Common.{◌≡◌, ◌∙◌, ◌⊎◌, ◌<◌, ℕ, zero, suc, Bool, true, false, nat_eq, if◌then◌else◌, List, [], ◌∷◌}
 use Rattle.std.proofs.Common.{◌++◌, length, map, take, get_or, Option, Some, None, inl, inr, refl, sym, ap, ap₂, subst}
-use Rattle.std.proofs.Common.{arith, eqb-true, length-append}
+use Rattle.std.proofs.Common.{◌≤◌, arith, eqb-true, length-append}
 use Rattle.std.specs.Str.Lines.{lines}
 use Rattle.std.proofs.lemmas.Bool.{eq-eqb}
 use Rattle.std.proofs.lemmas.List.{length-map, take_all}
-use Rattle.ov_graph.specs.Links.{LinkGraph, IsWithinLimit, most_nodes}
+use Rattle.ov_graph.specs.Links.{LinkGraph, IsWithinLimit, most_of}
+use Rattle.ov_graph.specs.declared.size_limit.SizeLimit.{SizeLimit}
+use Rattle.ov_graph.specs.declared.size_limit.SizeLimit.TheVariants.{Usual, Large}
 use Rattle.ov_graphfile.specs.GraphFiles.{graph_line, graph_lines, node_said, nodes_said}
 use Rattle.ov_graphfile.specs.NamesState.{names_of}
 use Rattle.ov_graphfile.specs.NameLines.{comment_said, AreNaming, AreNamesOf}
@@ -118,28 +120,34 @@ naming_place before (line ∷ more) n name (inr later) =
 
 -- ---- the file
 
--- all names are kept, since a graph has no more nodes than that
-all_kept : (bytes : List ℕ) (g : LinkGraph) (told : List (Option (List ℕ))) → g.nodes ≡ nodes_said (graph_lines bytes)
-    → IsWithinLimit g → told ≡ take most_nodes (names_in [] (lines bytes)) → told ≡ names_in [] (lines bytes)
-all_kept bytes g told says within kept =
+-- a graph within a limit is within that of all graphs
+pub within_limit : (limit : SizeLimit) (g : LinkGraph) → length g.nodes ≤ most_of limit → IsWithinLimit g
+within_limit Usual g few = omega (arith, few)
+within_limit Large g few = few
+
+-- all names are kept, since the graph has no more nodes than that
+all_kept : (most : ℕ) (bytes : List ℕ) (g : LinkGraph) (told : List (Option (List ℕ)))
+    → g.nodes ≡ nodes_said (graph_lines bytes) → length g.nodes ≤ most → told ≡ take most (names_in [] (lines bytes))
+    → told ≡ names_in [] (lines bytes)
+all_kept most bytes g told says within kept =
     let same = ap length (says ∙ all_nodes bytes) in
-    kept ∙ take_all most_nodes (names_in [] (lines bytes)) (omega (arith, as_many [] (lines bytes), same, within))
+    kept ∙ take_all most (names_in [] (lines bytes)) (omega (arith, as_many [] (lines bytes), same, within))
 
 -- each node has its place among the names
-pub name_each : (bytes : List ℕ) (g : LinkGraph) (told : List (Option (List ℕ)))
-    → g.nodes ≡ nodes_said (graph_lines bytes) → IsWithinLimit g → told ≡ take most_nodes (names_in [] (lines bytes))
+pub name_each : (most : ℕ) (bytes : List ℕ) (g : LinkGraph) (told : List (Option (List ℕ)))
+    → g.nodes ≡ nodes_said (graph_lines bytes) → length g.nodes ≤ most → told ≡ take most (names_in [] (lines bytes))
     → length told ≡ length g.nodes
-name_each bytes g told says within kept =
-    ap length (all_kept bytes g told says within kept) ∙ as_many [] (lines bytes)
+name_each most bytes g told says within kept =
+    ap length (all_kept most bytes g told says within kept) ∙ as_many [] (lines bytes)
     ∙ ap length (sym (says ∙ all_nodes bytes))
 
 -- these are the names that the file keeps of its graph
-pub are_names : (bytes : List ℕ) (g : LinkGraph) (told : List (Option (List ℕ)))
-    → g.nodes ≡ nodes_said (graph_lines bytes) → IsWithinLimit g → told ≡ take most_nodes (names_in [] (lines bytes))
+pub are_names : (most : ℕ) (bytes : List ℕ) (g : LinkGraph) (told : List (Option (List ℕ)))
+    → g.nodes ≡ nodes_said (graph_lines bytes) → length g.nodes ≤ most → told ≡ take most (names_in [] (lines bytes))
     → AreNamesOf bytes g (names_of g told)
-are_names bytes g told says within kept =
+are_names most bytes g told says within kept =
     let nodes : g.nodes ≡ nodes_in (lines bytes) = says ∙ all_nodes bytes in
-    let all : told ≡ names_in [] (lines bytes) = all_kept bytes g told says within kept in
+    let all : told ≡ names_in [] (lines bytes) = all_kept most bytes g told says within kept in
     record {
       graph = refl;
       said = λ n name h. names_said [] (lines bytes) h.0 n name

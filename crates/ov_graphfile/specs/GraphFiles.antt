@@ -4,10 +4,11 @@
 use Rattle.std.specs.Prelude.{◌≡◌, ℕ, ◌-◌, ◌^◌, min, Bool, true, false, ⊤, List, [], ◌∷◌, ◌++◌, length, map, take}
 use Rattle.std.specs.Prelude.{slice_get, codes, Option, Some, None, option_map, is_none}
 use Rattle.std.specs.List.{filter}
-use Rattle.ov_graph.specs.Faults.{GraphJudged}
-use Rattle.ov_graph.specs.Links.{LinkGraph, IsGraph, IsWithinLimit}
+use Rattle.ov_graph.specs.Faults.{JudgedWithin}
+use Rattle.ov_graph.specs.Links.{LinkGraph, IsGraph, IsWithinLimit, most_of}
 use Rattle.ov_graph.specs.declared.fault.GraphFault.{GraphFault}
 use Rattle.ov_graph.specs.declared.fault.GraphFault.TheVariants as graph_fault
+use Rattle.ov_graph.specs.declared.size_limit.SizeLimit.{SizeLimit}
 use Rattle.ov_lines.specs.Lines.{kept_lines, words_of, row, long_bits, short_bits, one, two}
 use Rattle.ov_graphfile.specs.declared.fault.GraphFileFault.{GraphFileFault}
 use Rattle.ov_graphfile.specs.declared.fault.GraphFileFault.TheVariants as fault
@@ -119,15 +120,18 @@ pub record IsGraphFile (bytes : List ℕ) (g : LinkGraph) : Type 0 where
   pub graph : IsGraph g
   pub within : IsWithinLimit g
 
--- the nodes and the links of a file are no graph, and this is their first fault, on this line. All lines can be read
-pub record IsNoGraph (bytes : List ℕ) (fault : GraphFault) (n : ℕ) : Type 0 where
+-- the nodes and the links of a file are no graph of at most as many nodes as the limit says, and this is their first
+-- fault, on this line. All lines can be read
+pub record IsNoGraph (limit : SizeLimit) (bytes : List ℕ) (fault : GraphFault) (n : ℕ) : Type 0 where
   pub readable : unread_lines bytes ≡ []
-  pub judged : GraphJudged (nodes_said (graph_lines bytes)) (links_said (graph_lines bytes)) (Some fault)
+  pub judged :
+      JudgedWithin (most_of limit) (nodes_said (graph_lines bytes)) (links_said (graph_lines bytes)) (Some fault)
   pub line : line_at_fault bytes fault ≡ Some n
 
--- a file of these bytes can be refused with this fault: that of the first line that can't be read, or, if all can be
--- read, the first fault of the nodes and the links; or out of memory
-abbrev pub IsGraphFileFault : List ℕ → GraphFileFault → Type 0
-IsGraphFileFault bytes (fault.Line unread) = slice_get (unread_lines bytes) 0 ≡ Some unread.line
-IsGraphFileFault bytes (fault.Graph fault line) = IsNoGraph bytes fault line
-IsGraphFileFault bytes fault.OutOfMemory = ⊤
+-- a file of these bytes, which may say a graph of as many nodes as the limit says, can be refused with this fault: that
+-- of the first line that can't be read, or, if all can be read, the first fault of the nodes and the links; or out of
+-- memory
+abbrev pub IsGraphFileFault : SizeLimit → List ℕ → GraphFileFault → Type 0
+IsGraphFileFault limit bytes (fault.Line unread) = slice_get (unread_lines bytes) 0 ≡ Some unread.line
+IsGraphFileFault limit bytes (fault.Graph fault line) = IsNoGraph limit bytes fault line
+IsGraphFileFault limit bytes fault.OutOfMemory = ⊤

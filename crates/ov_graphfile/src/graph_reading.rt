@@ -1,10 +1,10 @@
-ghost use Rattle.std.specs.Prelude.{◌≡◌, ◌++◌, ◌∷◌, [], ℕ, List, Option, Some, None, false, length, map, take, is_none};
-ghost use Rattle.std.specs.Prelude.{IfOk, IfErr, OnOk};
+ghost use Rattle.std.specs.Prelude.{◌≡◌, ◌≤◌, ◌++◌, ◌∷◌, [], ℕ, List, Option, Some, None, false, length, map, take};
+ghost use Rattle.std.specs.Prelude.{is_none, IfOk, IfErr, OnOk};
 ghost use Rattle.std.specs.Option.{option_copied};
 ghost use Rattle.std.specs.Str.Lines.{lines};
 ghost use Rattle.ov_ids.specs.FaultOrder.{IsRefusedBy};
-ghost use Rattle.ov_graph.specs.Faults.{GraphJudged};
-ghost use Rattle.ov_graph.specs.Links.{most_nodes};
+ghost use Rattle.ov_graph.specs.Faults.{JudgedWithin};
+ghost use Rattle.ov_graph.specs.Links.{most_of};
 ghost use Rattle.ov_graph.specs.declared.fault.GraphFault.TheVariants.{OutOfMemory as out_of_memory};
 ghost use Rattle.ov_lines.specs.Lines.{is_skipped};
 ghost use Rattle.ov_graphfile.specs.GraphFiles.{graph_line, graph_lines, node_said, link_said, nodes_said, links_said};
@@ -18,7 +18,7 @@ use crate::fault::{GraphFileFault, UnreadLine};
 use crate::graph_line::{GraphLine, read_graph_line};
 use crate::line_finding::line_at_fault;
 use crate::name_comment_reading::name_by;
-use ov_graph::{Graph, GraphFault};
+use ov_graph::{Graph, GraphFault, SizeLimit};
 use ov_ids::{NodeId, OutOfMemory};
 use ov_lines::{LineCursor, split_line};
 use std::alloc::Global;
@@ -28,7 +28,7 @@ use std::alloc::Global;
 struct Parts<'a> {
     nodes: Vec<NodeId>,
     links: Vec<(NodeId, NodeId)>,
-    /// The names of the first nodes, each at the place of its node: of as many as a graph may have.
+    /// The names of the first nodes, each at the place of its node: of as many as the graph may have.
     told: Vec<Option<&'a [u8]>>,
 }
 
@@ -46,48 +46,55 @@ impl<'a> Parts<'a> {
         }
     }
 
-    /// Adds what the next line says, behind the line `before`.
-    fn add(&mut self, line: GraphLine, before: &'a [u8]) -> Result<(), OutOfMemory>
+    /// Adds what the next line says, behind the line `before`. Names are kept of `most` nodes.
+    fn add(&mut self, most: usize, line: GraphLine, before: &'a [u8]) -> Result<(), OutOfMemory>
         ensures nodes { OnOk result (self.new.nodes.items ≡ self.old.nodes.items ++ node_said (Some line)) }
         ensures links { OnOk result (self.new.links.items ≡ self.old.links.items ++ link_said (Some line)) }
         ensures told { OnOk result ((names : List (Option (List ℕ)))
-            → map (λ t. option_copied t) self.old.told.items ≡ take most_nodes names
+            → map (λ t. option_copied t) self.old.told.items ≡ take most names
             → map (λ t. option_copied t) self.new.told.items
-            ≡ take most_nodes (names ++ map (name_by before.now) (node_said (Some line)))) }
+            ≡ take most (names ++ map (name_by before.now) (node_said (Some line)))) }
     {
         match line {
             GraphLine::Node(node) => {
                 self.nodes.push(node)?;
-                self.tell(name_by(before, node))?;
+                self.tell(most, name_by(before, node))?;
             }
             GraphLine::Link(from, to) => self.links.push((from, to))?,
         }
         Ok(())
     }
 
-    /// Adds the name of the next node, or that it has none, unless there are as many nodes as a graph may have.
-    fn tell(&mut self, name: Option<&'a [u8]>) -> Result<(), OutOfMemory>
+    /// Adds the name of the next node, or that it has none, unless there are those of `most` nodes.
+    fn tell(&mut self, most: usize, name: Option<&'a [u8]>) -> Result<(), OutOfMemory>
         ensures nodes { self.new.nodes ≡ self.old.nodes }
         ensures links { self.new.links ≡ self.old.links }
         ensures told { OnOk result ((names : List (Option (List ℕ)))
-            → map (λ t. option_copied t) self.old.told.items ≡ take most_nodes names
+            → map (λ t. option_copied t) self.old.told.items ≡ take most names
             → map (λ t. option_copied t) self.new.told.items
-            ≡ take most_nodes (names ++ option_copied name.entry ∷ [])) }
+            ≡ take most (names ++ option_copied name.entry ∷ [])) }
     {
-        if self.told.len() < Graph::MOST_NODES {
+        if self.told.len() < most {
             self.told.push(name)?;
         }
         Ok(())
     }
 
-    /// Adds what a line says, unless it is skipped. It has this number, and `before` is the line before it.
-    fn take(&mut self, number: usize, line: &[u8], before: &'a [u8]) -> Result<(), GraphFileFault>
+    /// Adds what a line says, unless it is skipped. It has this number, and `before` is the line before it. Names are
+    /// kept of `most` nodes.
+    fn take(
+        &mut self,
+        most: usize,
+        number: usize,
+        line: &[u8],
+        before: &'a [u8],
+    ) -> Result<(), GraphFileFault>
         ensures nodes { OnOk result (self.new.nodes.items ≡ self.old.nodes.items ++ node_said (graph_line line.now)) }
         ensures links { OnOk result (self.new.links.items ≡ self.old.links.items ++ link_said (graph_line line.now)) }
         ensures told { OnOk result ((names : List (Option (List ℕ)))
-            → map (λ t. option_copied t) self.old.told.items ≡ take most_nodes names
+            → map (λ t. option_copied t) self.old.told.items ≡ take most names
             → map (λ t. option_copied t) self.new.told.items
-            ≡ take most_nodes (names ++ map (name_by before.now) (node_said (graph_line line.now)))) }
+            ≡ take most (names ++ map (name_by before.now) (node_said (graph_line line.now)))) }
         ensures readable { OnOk result (is_skipped line.now ≡ false → is_none (graph_line line.now) ≡ false) }
         ensures fault { IfErr result (IsUnreadAt number line.now) }
     {
@@ -96,7 +103,7 @@ impl<'a> Parts<'a> {
         }
         match read_graph_line(line) {
             Ok(says) => {
-                self.add(says, before)?;
+                self.add(most, says, before)?;
                 Ok(())
             }
             Err(unread) => Err(GraphFileFault::Line(UnreadLine {
@@ -120,12 +127,14 @@ fn is_skipped(text: &[u8]) -> bool
 /// Reads a graph file, whose form is chosen here, and returns the graph that it says. Line (70) is returned for the
 /// first line that can't be read, which is neither `node N` nor `link A B` with ids of 32 bits: the first of
 /// `unread_lines`. Graph (31 to 33) is returned if each line can be read, and the nodes and the links, each in the
-/// order of the file, are no graph. OutOfMemory (99) is returned if an allocation was refused.
-pub fn read_graph(alloc: Global, bytes: &[u8]) -> Result<Graph, GraphFileFault>
+/// order of the file, are no graph of at most as many nodes as the limit says. OutOfMemory (99) is returned if an
+/// allocation was refused.
+pub fn read_graph(alloc: Global, limit: SizeLimit, bytes: &[u8]) -> Result<Graph, GraphFileFault>
     ensures graph { IfOk result (IsGraphFile bytes.now) }
-    ensures fault { IfErr result (IsGraphFileFault bytes.now) }
+    ensures within { IfOk result (λ g. length g.nodes ≤ most_of limit) }
+    ensures fault { IfErr result (IsGraphFileFault limit bytes.now) }
 {
-    match read_named_graph(alloc, bytes) {
+    match read_named_graph(alloc, limit, bytes) {
         Ok((graph, _told)) => Ok(graph),
         Err(fault) => Err(fault),
     }
@@ -135,33 +144,37 @@ pub fn read_graph(alloc: Global, bytes: &[u8]) -> Result<Graph, GraphFileFault>
 /// `read_names` does: each at the place of its node, as `Names::new` takes them. Each line is read once.
 pub fn read_named_graph(
     alloc: Global,
+    limit: SizeLimit,
     bytes: &[u8],
 ) -> Result<(Graph, Vec<Option<&[u8]>>), GraphFileFault>
     ensures graph { IfOk result (λ read. IsGraphFile bytes.now read.0) }
+    ensures within { IfOk result (λ read. length read.0.nodes ≤ most_of limit) }
     ensures names { IfOk result (λ read. AreNamesOf bytes.now read.0
         (names_of read.0 (map (λ t. option_copied t) read.1.items))) }
     ensures places { IfOk result (λ read. length read.1.items ≡ length read.0.nodes) }
-    ensures fault { IfErr result (IsGraphFileFault bytes.now) }
+    ensures fault { IfErr result (IsGraphFileFault limit bytes.now) }
 {
-    let Parts { nodes, links, told } = match read_parts(alloc, bytes) {
+    let Parts { nodes, links, told } = match read_parts(alloc, limit, bytes) {
         Ok(parts) => parts,
         Err(fault) => return Err(fault),
     };
-    match Graph::new(alloc, &nodes, &links) {
+    match Graph::within(alloc, limit, &nodes, &links) {
         Ok(graph) => Ok((graph, told)),
-        Err(fault) => Err(fault_of_file(bytes, fault)),
+        Err(fault) => Err(fault_of_file(limit, bytes, fault)),
     }
 }
 
-/// What the lines of a graph file say, or the first line that can't be read.
-fn read_parts(alloc: Global, bytes: &[u8]) -> Result<Parts<'_>, GraphFileFault>
+/// What the lines of a graph file say, with the names of as many nodes as the limit says, or the first line that can't
+/// be read.
+fn read_parts(alloc: Global, limit: SizeLimit, bytes: &[u8]) -> Result<Parts<'_>, GraphFileFault>
     ensures readable { OnOk result (unread_lines bytes.now ≡ []) }
     ensures nodes { IfOk result (λ parts. parts.nodes.items ≡ nodes_said (graph_lines bytes.now)) }
     ensures links { IfOk result (λ parts. parts.links.items ≡ links_said (graph_lines bytes.now)) }
     ensures told { IfOk result (λ parts. map (λ t. option_copied t) parts.told.items
-        ≡ take most_nodes (names_in [] (lines bytes.now))) }
-    ensures fault { IfErr result (IsGraphFileFault bytes.now) }
+        ≡ take (most_of limit) (names_in [] (lines bytes.now))) }
+    ensures fault { IfErr result (IsGraphFileFault limit bytes.now) }
 {
+    let most = limit.most();
     let mut parts = Parts::new(alloc);
     let mut before: &[u8] = &[];
     let mut left = bytes;
@@ -169,7 +182,7 @@ fn read_parts(alloc: Global, bytes: &[u8]) -> Result<Parts<'_>, GraphFileFault>
     while !left.is_empty() {
         let (line, later) = split_line(left);
         count += 1;
-        match parts.take(count, line, before) {
+        match parts.take(most, count, line, before) {
             Ok(()) => {}
             Err(fault) => return Err(fault),
         }
@@ -180,11 +193,11 @@ fn read_parts(alloc: Global, bytes: &[u8]) -> Result<Parts<'_>, GraphFileFault>
 }
 
 /// The fault of a file whose nodes and links are refused with this fault as a graph. Out of memory alone has no line.
-fn fault_of_file(bytes: &[u8], fault: GraphFault) -> GraphFileFault
+fn fault_of_file(limit: SizeLimit, bytes: &[u8], fault: GraphFault) -> GraphFileFault
     requires readable { unread_lines bytes.now ≡ [] }
     requires refused { IsRefusedBy out_of_memory
-        (GraphJudged (nodes_said (graph_lines bytes.now)) (links_said (graph_lines bytes.now))) fault }
-    ensures fault { IsGraphFileFault bytes.now result }
+        (JudgedWithin (most_of limit) (nodes_said (graph_lines bytes.now)) (links_said (graph_lines bytes.now))) fault }
+    ensures fault { IsGraphFileFault limit bytes.now result }
     ensures memory { (result ≡ GraphFileFault.OutOfMemory) → (fault ≡ out_of_memory) }
 {
     match line_at_fault(bytes, &fault) {

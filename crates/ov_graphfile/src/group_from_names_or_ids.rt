@@ -1,16 +1,21 @@
-ghost use Rattle.std.specs.Prelude.{◌≡◌, ℕ, ◌<◌, ◌≤◌, length, map, slice_index_or, Some, None};
-ghost use Rattle.std.specs.Prelude.{IfOk, IfErr, IfSome, IfNone, IsTrue, ◌↔◌};
+ghost use Rattle.std.specs.Prelude.{◌≡◌, ℕ, ◌<◌, length, map, slice_index_or, Some, None};
+ghost use Rattle.std.specs.Prelude.{IfOk, IfErr, IsTrue, ◌↔◌};
+ghost use Rattle.std.specs.BTreeMap.{get_by};
+ghost use Rattle.std.specs.Cmp.Lexicographic.{slice_cmp};
 ghost use Rattle.std.specs.List.{slice_split};
-ghost use Rattle.ov_graph.specs.Links.{IsGraph, IsWithinLimit};
+ghost use Rattle.std.specs.Ordering.{nat_cmp};
+ghost use Rattle.ov_graph.specs.Links.{IsGraph};
 ghost use Rattle.ov_graph.specs.Row.{HasBit, picked};
 ghost use Rattle.ov_lines.specs.Lines.{is_comma, one, short_bits, words_of};
 ghost use Rattle.ov_graphfile.specs.Groups.{parts_of, part_at, HasNumeralName, IsGroupNamed, IsGroupFault};
-ghost use Rattle.ov_graphfile.specs.Code.Owners.{IsOwner, IsNumeralAt, IsFirstNamed, AreMarked};
+ghost use Rattle.ov_graphfile.specs.Code.Bearers.{AreBearers};
+ghost use Rattle.ov_graphfile.specs.Code.Owners.{IsOwner, IsNumeralAt, AreMarked};
 
 use crate::group_names_fault::GroupFault;
 use crate::name_table::Names;
+use crate::nodes_by_name::{Bearer, NodesByName};
 use ov_graph::Graph;
-use ov_graph::bit_rows::{EMPTY, WORDS, first_from, has, put};
+use ov_graph::bit_rows::{ALL_WORDS, first_from, has, put, words_for};
 use ov_ids::{NodeId, OutOfMemory};
 use ov_lines::{ID, Kind, LineCursor};
 use std::alloc::{AllocError, Global};
@@ -21,8 +26,8 @@ const NODE_ID: &[Kind] = &[ID];
 /// The group that a text names: parts with commas between them, each the name of exactly one node, or else the id of a
 /// node. If some name is a numeral, no part is an id, so that a wrong name never means another node. The ids ascend.
 /// NoSuchName (84), SharedName (85) or NamedTwice (34) is returned for the first part that is at fault, OutOfMemory
-/// (99) if an allocation is refused. The form is chosen here. Each part is looked for among the names of all nodes; as
-/// no node is meant twice, there are no more parts to look for than nodes, and one.
+/// (99) if an allocation is refused. The form is chosen here. Names are found in a map that has them in order; as no
+/// node is meant twice, there are no more parts to look for than nodes, and one.
 pub fn ids_of_group(
     alloc: Global,
     names: &Names<'_>,
@@ -32,7 +37,7 @@ pub fn ids_of_group(
     ensures fault { IfErr result (IsGroupFault names.now (parts_of text.now)) }
 {
     let parts = split_at_commas(alloc, text)?;
-    let members = marked_members(names, &parts)?;
+    let members = marked_members(alloc, names, &parts)?;
     Ok(marked_nodes(alloc, names.graph(), &members)?)
 }
 
@@ -44,22 +49,46 @@ fn split_at_commas(alloc: Global, text: &[u8]) -> Result<Vec<&[u8]>, AllocError>
 }
 
 /// The row of the nodes that these parts mean.
-fn marked_members(names: &Names<'_>, parts: &[&[u8]]) -> Result<[u64; WORDS], GroupFault>
+fn marked_members(
+    alloc: Global,
+    names: &Names<'_>,
+    parts: &[&[u8]],
+) -> Result<[u64; ALL_WORDS], GroupFault>
     ensures marked { IfOk result (λ row.
         AreMarked names.now (map (λ part. part.now) parts.now) row (length parts.now)) }
     ensures fault { IfErr result (IsGroupFault names.now (map (λ part. part.now) parts.now)) }
 {
+    let by_name = NodesByName::new(alloc, names)?;
+    match marked_by(names, &by_name, parts) {
+        Ok(row) => Ok(row),
+        Err(fault) => Err(fault),
+    }
+}
+
+/// The same, where it is known who has a name.
+fn marked_by(
+    names: &Names<'_>,
+    by_name: &NodesByName<'_>,
+    parts: &[&[u8]],
+) -> Result<[u64; ALL_WORDS], GroupFault>
+    requires { AreBearers names.now.told (length names.now.graph.nodes)
+        (λ name. get_by (λ k. slice_cmp nat_cmp name k.now) by_name.now.bearers) }
+    ensures marked { IfOk result (λ row.
+        AreMarked names.now (map (λ part. part.now) parts.now) row (length parts.now)) }
+    ensures fault { IfErr result (IsGroupFault names.now (map (λ part. part.now) parts.now)) }
+{
+    let nodes = names.graph().nodes();
     let numerals = has_numeral_name(names);
-    let mut row = EMPTY;
+    let mut row = [0; ALL_WORDS];
     for at in 0..parts.len() {
         let part = part_at(parts, at);
-        let place = match owner_of(names, numerals, part) {
+        let place = match owner_of(names, by_name, numerals, part) {
             Owner::One(place) => place,
             Owner::Nobody => return Err(GroupFault::NoSuchName(at)),
             Owner::Several => return Err(GroupFault::SharedName(at)),
         };
         if has(&row, place) {
-            return Err(GroupFault::NamedTwice(names.graph().nodes()[place]));
+            return Err(GroupFault::NamedTwice(nodes[place]));
         }
         put(&mut row, place);
     }
@@ -119,37 +148,19 @@ fn id_spelled(text: &[u8]) -> Option<NodeId>
     }
 }
 
-/// Whom a part means, if it is known whether some name is a numeral.
-fn owner_of(names: &Names<'_>, numerals: bool, part: &[u8]) -> Owner
-    requires { IsTrue numerals ↔ HasNumeralName names.now }
-    ensures owner { IsOwner names.now part.now result }
-    ensures graph { IsGraph names.now.graph }
-    ensures few { IsWithinLimit names.now.graph }
+/// Whom a part means, if it is known who has a name, and whether some name is a numeral.
+fn owner_of(names: &Names<'_>, by_name: &NodesByName<'_>, numerals: bool, part: &[u8]) -> Owner
+    requires named { AreBearers names.now.told (length names.now.graph.nodes)
+        (λ name. get_by (λ k. slice_cmp nat_cmp name k.now) by_name.now.bearers) }
+    requires numerals { IsTrue numerals ↔ HasNumeralName names.now }
+    requires graph { IsGraph names.now.graph }
+    ensures { IsOwner names.now part.now result }
 {
-    let Some(place) = place_named(names, part, 0) else {
-        return owner_spelled(names, numerals, part);
-    };
-    match place_named(names, part, place + 1) {
-        None => Owner::One(place),
-        Some(_) => Owner::Several,
+    match by_name.bearer(part) {
+        Some(Bearer::One(place)) => Owner::One(place),
+        Some(Bearer::Several) => Owner::Several,
+        None => owner_spelled(names, numerals, part),
     }
-}
-
-/// The first place from `from` on whose node has this name.
-fn place_named(names: &Names<'_>, part: &[u8], from: usize) -> Option<usize>
-    ensures some { IfSome result (λ p. IsFirstNamed names.now part.now from p) }
-    ensures none { IfNone result ((p : ℕ) → from ≤ p → p < length names.now.graph.nodes
-        → ¬ (slice_index_or names.now.told p None ≡ Some part.now)) }
-    ensures graph { IsGraph names.now.graph }
-    ensures few { IsWithinLimit names.now.graph }
-{
-    let count = names.graph().nodes().len();
-    for place in from..count {
-        if names.is_named_at(place, part) {
-            return Some(place);
-        }
-    }
-    None
 }
 
 /// Whose id a part spells, if no name is a numeral. No node has the part as its name.
@@ -175,14 +186,14 @@ fn owner_spelled(names: &Names<'_>, numerals: bool, part: &[u8]) -> Owner
 fn marked_nodes(
     alloc: Global,
     graph: &Graph,
-    row: &[u64; WORDS],
+    row: &[u64; ALL_WORDS],
 ) -> Result<Vec<NodeId>, OutOfMemory>
     requires { (p : ℕ) → HasBit row.now p → p < length graph.now.nodes }
     ensures ids { IfOk result (λ ids. ids.items ≡ picked row.now 0 graph.now.nodes) }
     ensures graph { IsGraph graph.now }
 {
     let nodes = graph.nodes();
-    let words = graph.words();
+    let words = words_for::<ALL_WORDS>(nodes.len());
     let mut ids = Vec::new(alloc);
     let mut next = 0;
     while let Some(place) = first_from(row, next, words) {

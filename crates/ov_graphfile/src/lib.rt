@@ -12,6 +12,7 @@ mod line_writing;
 mod name_comment_reading;
 mod name_reading;
 mod name_table;
+mod nodes_by_name;
 mod one_name_per_node_theorem;
 mod text_writing;
 mod unread_lines_with_count;

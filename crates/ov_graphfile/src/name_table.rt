@@ -1,4 +1,4 @@
-ghost use Rattle.std.specs.Prelude.{◌≡◌, ◌<◌, ℕ, List, length, slice_index_or, Some, None, IfSome, IfNone, IsTrue, ◌↔◌};
+ghost use Rattle.std.specs.Prelude.{◌≡◌, ◌<◌, ℕ, List, length, slice_index_or, None, IfSome, IfNone};
 
 use ov_graph::Graph;
 use ov_ids::NodeId;
@@ -61,22 +61,4 @@ impl<'a> Names<'a> {
     {
         self.told[place]
     }
-
-    /// Whether the node at a place has this name.
-    pub(crate) fn is_named_at(&self, place: usize, text: &[u8]) -> bool
-        requires { place < length self.now.graph.nodes }
-        ensures { IsTrue result ↔ slice_index_or self.now.told place None ≡ Some text.now }
-    {
-        match self.name_at(place) {
-            Some(name) => are_equal(name, text),
-            None => false,
-        }
-    }
-}
-
-/// Whether two names have the same bytes.
-fn are_equal(left: &[u8], right: &[u8]) -> bool
-    ensures { IsTrue result ↔ left.now ≡ right.now }
-{
-    left == right
 }

@@ -1,14 +1,16 @@
 -- The invariant of a world: it holds at the beginning and after each event.
 use Rattle.std.proofs.Common.{◌≡◌, ◌≤◌, ◌<◌, ◌+◌, ℕ, zero, suc, Bool, true, false, cond, List, [], ◌∷◌, ◌++◌, length}
 use Rattle.std.proofs.Common.{length-append, Option, None, Some, is_some, inl, inr, refl, sym, ap, subst, ◌∙◌, arith}
-use Rattle.std.specs.Prelude.{slice_get, remove}
+use Rattle.std.specs.Prelude.{slice_get, remove, take}
 use Rattle.std.specs.Cmp.{nat_cmp_total}
 use Rattle.std.specs.FinMap as map
 use Rattle.std.specs.Ordering.{nat_cmp}
 use Rattle.ov_ids.specs.ParamsState.{ParamsState}
+use Rattle.ov_ids.specs.Members.{Has}
+use Rattle.ov_ids.proofs.Members.{has_append_cases, has_append_left, has_append_right}
 use Rattle.ov_ids.proofs.Stepping.{step_none}
 use Rattle.ov_wire.specs.declared.message.Message.{Message}
-use Rattle.ov_graph.specs.Links.{LinkGraph, IsGraph, Linked}
+use Rattle.ov_graph.specs.Links.{LinkGraph, IsGraph, IsSmall, Linked}
 use Rattle.ov_peer.specs.PeerState.{PeerState}
 use Rattle.ov_peer.specs.declared.input_and_output.Delivery.{Delivery}
 use Rattle.ov_peer.specs.declared.input_and_output.Input.{Input}
@@ -16,14 +18,15 @@ use Rattle.ov_peer.specs.declared.input_and_output.Input.TheVariants as input
 use Rattle.ov_net.specs.Code.Codes.{world_of}
 use Rattle.ov_net.specs.Code.Effects.{AreEffects, HaveRoom, IsAfter, NamedNodeChanges, packets_after}
 use Rattle.ov_net.specs.Code.LinkChanges.{AreChanged, Gains, MayGain, newborn_of}
-use Rattle.ov_net.specs.Journal.{AreLinks}
+use Rattle.ov_net.specs.Journal.{AreLinks, changes_of}
 use Rattle.ov_net.specs.Limits.{most_world_nodes, most_packets, most_entries}
 use Rattle.ov_net.specs.Net.{Net, LivesAs}
 use Rattle.ov_net.specs.NetStep.{NetStep, Happens, TakesInput, LiveTakesInput, Received}
 use Rattle.ov_net.specs.Refusals.{MayHappen, EventJudged, ContactThen, BirthLast, PlacesLast}
-use Rattle.ov_net.specs.World.{WorldState, Stands, opening_world}
+use Rattle.ov_net.specs.World.{WorldState, Stands, HasFewNodes, opening_world}
 use Rattle.ov_net.specs.declared.planned_effects.Effects.{Effects}
 use Rattle.ov_net.specs.declared.journal_entry_and_changes.Change.{Change}
+use Rattle.ov_net.specs.declared.journal_entry_and_changes.Change.TheVariants.{Born}
 use Rattle.ov_net.specs.declared.journal_entry_and_changes.Entry.{Entry}
 use Rattle.ov_net.specs.declared.event.Event.{Event}
 use Rattle.ov_net.specs.declared.event.Event.TheVariants.{Boot, Deliver, Lose, Repeat, Crash, CrashReport, Shuffle}
@@ -33,7 +36,7 @@ use Rattle.ov_net.specs.declared.member.Member.{Member}
 use Rattle.ov_net.specs.declared.member.Member.TheVariants as member
 use Rattle.ov_net.proofs.Journal.Outcomes.{Outcome, outcome, not_none}
 use Rattle.ov_net.proofs.Journal.Telling.{own_begun, own_kept, tells_begun, tells_kept}
-use Rattle.ov_net.proofs.Links.Kept.{IsMutual, by_views, by_journal, few_live, mutual_after}
+use Rattle.ov_net.proofs.Links.Kept.{IsMutual, by_views, by_journal, few_keys, few_live, mutual_after}
 use Rattle.ov_net.proofs.Messages.Tracing.{traced_begun, traced_kept}
 use Rattle.ov_net.proofs.Steps.EventEffects.{contact_next}
 
@@ -227,7 +230,7 @@ graph_after seen c event words b nodes g k same s are effects changed gains grap
   graph = graph;
 }
 
--- the newborn node of an event that may happen is not in the graph, which has room for it
+-- the graph is small, and the newborn node of an event that may happen is not in it, and has room
 pub may_gain : (seen c : WorldState) (event : Event) (g : LinkGraph) → seen ≡ c → Stands seen
     → AreLinks seen.journal (length seen.journal) g → MayHappen c.net (length c.journal) event
     → MayGain (newborn_of event) g
@@ -235,6 +238,10 @@ may_gain seen c event g same s are judged =
     by event (step_none (length seen.journal < most_entries) TooManyEntries (EventJudged seen.net event)
     (subst (λ (x : WorldState). MayHappen x.net (length x.journal) event) (sym same) judged)).1
   where
+    small : IsSmall g
+    small = let few = few_live seen.net.nodes g (by_views seen g s.tells are) in
+        let nodes = s.nodes in omega (arith, few, nodes)
+
     by : (e : Event) → EventJudged seen.net e None → MayGain (newborn_of e) g
     by (Boot a contact) j =
         let w = seen.net in
@@ -245,15 +252,15 @@ may_gain seen c event g same s are judged =
           (λ i. let l = (is.nodes a).0 i in not_none (member.Live l.0) (map.get w.nodes a) l.1 r.0),
           omega (arith, room, few),
         )
-    by (Deliver i) j = tt
-    by (Lose i) j = tt
-    by (Repeat i) j = tt
-    by (Crash a) j = tt
-    by (CrashReport a crashed) j = tt
-    by (Shuffle a) j = tt
-    by (Broadcast a payload) j = tt
-    by (Timer a id) j = tt
-    by Snapshot j = tt
+    by (Deliver i) j = small
+    by (Lose i) j = small
+    by (Repeat i) j = small
+    by (Crash a) j = small
+    by (CrashReport a crashed) j = small
+    by (Shuffle a) j = small
+    by (Broadcast a payload) j = small
+    by (Timer a id) j = small
+    by Snapshot j = small
 
 -- the graph after an event, changed with its changes
 pub graph_next : (seen : WorldState) (event : Event) (nodes : map.FinMap nat_cmp Member) (changes : List Change)
@@ -275,3 +282,21 @@ links_begun journal g e f =
       nodes = λ a. ((λ i. absurd i), (λ l. absurd l.0));
       links = λ a b. ((λ l. elim l [ inl i ↦ absurd i | inr i ↦ absurd i ]), (λ h. absurd h.0.0));
     }))
+
+-- a change of the first entries is one of all
+has_earlier : (journal : List Entry) (m : ℕ) (change : Change) → Has (changes_of (take m journal)) change
+    → Has (changes_of journal) change
+has_earlier journal zero change h = absurd h
+has_earlier [] (suc m) change h = absurd h
+has_earlier (e ∷ journal) (suc m) change h =
+    elim (has_append_cases e.changes (changes_of (take m journal)) change h) [
+      | inl i ↦ has_append_left e.changes (changes_of journal) change i
+      | inr i ↦ has_append_right e.changes (changes_of journal) change (has_earlier journal m change i)
+    ]
+
+-- who was alive at a moment was born, so these are no more than may be born
+pub few_at_each_moment : (c : WorldState) → Stands c → HasFewNodes c.journal
+few_at_each_moment c s m g links =
+    let few = few_keys g.nodes c.net.nodes links.graph.nodes_ascend
+    (λ a i none. s.tells.unborn a (Born a) none (has_earlier c.journal m (Born a) ((links.nodes a).0 i).0) refl) in
+    let most = s.nodes in omega (arith, few, most)

@@ -5,9 +5,10 @@ use Rattle.ov_ids.specs.ParamsState.{ParamsState}
 use Rattle.ov_ids.specs.Members.{Has}
 use Rattle.ov_ids.specs.declared.id.MsgId.{MsgId}
 use Rattle.ov_wire.specs.declared.message.Body.TheVariants.{Gossip}
+use Rattle.ov_graph.specs.Links.{LinkGraph}
 use Rattle.ov_peer.specs.PeerState.{PeerState}
 use Rattle.ov_plum.specs.PlumState.{HeldState}
-use Rattle.ov_net.specs.Journal.{changes_of, node_of, HasActive, Live, Delivers, DeliversOnce}
+use Rattle.ov_net.specs.Journal.{changes_of, node_of, AreLinks, HasActive, Live, Delivers, DeliversOnce}
 use Rattle.ov_net.specs.Limits.{most_world_nodes, most_packets, most_entries}
 use Rattle.ov_net.specs.Net.{Net, LivesAs, HaveOwnIds}
 use Rattle.ov_net.specs.declared.journal_entry_and_changes.Change.{Change}
@@ -65,3 +66,7 @@ pub record Stands (c : WorldState) : Type 0 where
   pub own : HaveOwnIds c.net
   pub tells : TellsViews c
   pub traced : Traced c
+
+-- at no moment were more nodes alive than may ever be born
+abbrev pub HasFewNodes : List Entry → Type 0
+HasFewNodes journal = (m : ℕ) (g : LinkGraph) → AreLinks journal m g → length g.nodes ≤ most_world_nodes

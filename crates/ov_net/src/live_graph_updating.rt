@@ -1,6 +1,6 @@
 //! The graph of a world, changed with the changes of each entry.
 ghost use Rattle.std.specs.Prelude.{◌≡◌, ◌≢◌, ◌↔◌, OnOk, OnErr, IsTrue};
-ghost use Rattle.ov_graph.specs.Links.{LinkGraph, IsGraph};
+ghost use Rattle.ov_graph.specs.Links.{LinkGraph, IsGraph, IsSmall};
 ghost use Rattle.ov_graph.specs.Changes.{LosesLink};
 ghost use Rattle.ov_net.specs.Code.LinkChanges.{AreChanged, Fit, FitsOne, Gains, HasAllLive, Holds, IsChanged, MayGain};
 ghost use Rattle.ov_net.specs.Code.LinkChanges.{newborn_of};
@@ -29,6 +29,7 @@ pub(crate) fn add_newborn(graph: &mut Graph, event: &Event) -> Result<(), OutOfM
 
 /// Removes the node that was born at an event, if one was. The graph is what it was before the node was added.
 pub(crate) fn remove_newborn(graph: &mut Graph, event: &Event)
+    requires { IsSmall graph.old }
     ensures { (g : LinkGraph) → IsGraph g → MayGain (newborn_of event.now) g
         → Gains (newborn_of event.now) g graph.old → graph.new ≡ g }
 {
@@ -50,6 +51,7 @@ fn newborn_of(event: &Event) -> Option<NodeId>
 /// Changes the graph by the changes of an entry, in order. The newborn node is in it already. Nothing is allocated.
 pub(crate) fn change_graph(graph: &mut Graph, nodes: &Nodes, changes: &[Change])
     requires graph { IsGraph graph.old }
+    requires small { IsSmall graph.old }
     requires live { HasAllLive nodes.now graph.old }
     requires fit { Fit nodes.now changes.now }
     ensures { AreChanged nodes.now changes.now graph.old graph.new }
@@ -62,6 +64,7 @@ pub(crate) fn change_graph(graph: &mut Graph, nodes: &Nodes, changes: &[Change])
 /// Changes the graph by one change.
 fn change_once(graph: &mut Graph, nodes: &Nodes, change: Change)
     requires graph { IsGraph graph.old }
+    requires small { IsSmall graph.old }
     requires live { HasAllLive nodes.now graph.old }
     requires fits { FitsOne nodes.now change }
     ensures change { IsChanged nodes.now change graph.old graph.new }
@@ -78,6 +81,7 @@ fn change_once(graph: &mut Graph, nodes: &Nodes, change: Change)
 /// Links a node with another one that came into its active view, if that one holds it too.
 fn link_if_mutual(graph: &mut Graph, nodes: &Nodes, node: NodeId, other: NodeId)
     requires graph { IsGraph graph.old }
+    requires small { IsSmall graph.old }
     requires live { HasAllLive nodes.now graph.old }
     requires fits { FitsOne nodes.now (one.Up node other) }
     ensures change { IsChanged nodes.now (one.Up node other) graph.old graph.new }
@@ -97,6 +101,7 @@ fn is_mutual(nodes: &Nodes, node: NodeId, other: NodeId) -> bool
 
 /// Unlinks two nodes, if they are linked.
 fn unlink_if_linked(graph: &mut Graph, node: NodeId, other: NodeId)
+    requires { IsSmall graph.old }
     ensures change { LosesLink graph.old node other graph.new }
     ensures graph { IsGraph graph.new }
 {

@@ -11,7 +11,7 @@ ghost use Rattle.ov_net.specs.Limits.{most_packets, most_entries};
 ghost use Rattle.ov_net.specs.Net.{LivesAs};
 ghost use Rattle.ov_net.specs.NetStep.{NetStep};
 ghost use Rattle.ov_net.specs.Refusals.{MayHappen, IsBorn, IsRefusal};
-ghost use Rattle.ov_net.specs.World.{Stands, opening_world};
+ghost use Rattle.ov_net.specs.World.{HasFewNodes, Stands, opening_world};
 
 use crate::event::Event;
 use crate::fault::NetFault;
@@ -103,12 +103,13 @@ impl World {
     }
 
     /// The entries of all events so far, in order. They say who is alive and whom each node holds in its active view.
-    /// Each delivery in them is of a broadcast, and no node delivers one twice. Contracts also say the invariant of a
-    /// world here.
+    /// Each delivery in them is of a broadcast, and no node delivers one twice. At no moment were more than 256 nodes
+    /// alive. Contracts also say the invariant of a world here.
     pub fn journal(&self) -> &[Entry]
         ensures value { result.now ≡ self.now.journal }
         ensures stands { Stands self.now }
         ensures once { DeliversOnce self.now.journal }
+        ensures few { HasFewNodes self.now.journal }
     {
         &self.journal
     }

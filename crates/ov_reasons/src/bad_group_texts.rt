@@ -1,5 +1,5 @@
 use crate::event_texts::push_node;
-use ov_graph::{Graph, is_member};
+use ov_graph::{Graph, SizeLimit, is_member};
 use ov_graphfile::{GraphFileFault, read_graph};
 use ov_ids::{NodeId, OutOfMemory};
 use std::alloc::{AllocError, Global};
@@ -7,14 +7,15 @@ use std::fmt::Write;
 
 /// Why the analysis of a graph file of these bytes, for this group, is answered by a refusal: the graph has no nodes
 /// (30), or the ids are no group of nodes (34). Without a group, all nodes are the group. The text ends with a line
-/// feed. None if the analysis is not refused, or if the bytes say no graph, which `graph_reasons` explains. OutOfMemory
-/// (99) if an allocation is refused.
+/// feed. None if the analysis is not refused, or if the bytes say no graph within the limit, which `graph_reasons`
+/// explains. OutOfMemory (99) if an allocation is refused.
 pub fn group_reason(
     alloc: Global,
+    limit: SizeLimit,
     bytes: &[u8],
     group: Option<&[NodeId]>,
 ) -> Result<Option<String>, OutOfMemory> {
-    match read_graph(alloc, bytes) {
+    match read_graph(alloc, limit, bytes) {
         Ok(graph) if graph.nodes().is_empty() => {
             Ok(Some(String::from_str(alloc, why_no_nodes(bytes))?))
         }

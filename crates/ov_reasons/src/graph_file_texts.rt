@@ -2,7 +2,7 @@ use crate::device_texts::OUT_OF_MEMORY;
 use crate::line_and_mark::push_marked_word;
 use crate::line_number_and_remaining_count::{MOST_LINES, line_of, push_number, push_remark};
 use crate::unread_line_texts::push_unread;
-use ov_graph::{GraphFault, LinkFlaw};
+use ov_graph::{GraphFault, LinkFlaw, SizeLimit};
 use ov_graphfile::{
     GraphFileFault, LINE_NAMES, UnreadLine, UnreadLines, line_of_link, line_of_node, unread_lines,
 };
@@ -11,7 +11,10 @@ use ov_lines::KeptLines;
 use std::alloc::{AllocError, Global};
 use std::fmt::Write;
 
-/// What is said of a graph of too many nodes, below it.
+/// What is said of a graph of too many nodes, below it, if it is not too large for all.
+const LARGE_TIP: &str = "tip: `overlay analyse --large` takes up to 32768 nodes\n";
+
+/// What is said of one that is.
 const PART_TIP: &str = "tip: analyse a part as a graph of its own, such as the hosts of one site, \
                         or a group and its neighbours; its k is that of the part alone\n";
 
@@ -78,10 +81,16 @@ fn push_graph_line(
     push_graph_fault(text, bytes, fault)?;
     let line = line_of(&mut KeptLines::new(bytes), number);
     push_marked_word(text, line.text, word_at_fault(fault))?;
-    if let GraphFault::TooManyNodes { .. } = fault {
-        text.push_str(PART_TIP)?;
+    text.push_str(size_tip(fault))
+}
+
+/// What to do with too many nodes.
+fn size_tip(fault: &GraphFault) -> &'static str {
+    match fault {
+        GraphFault::TooManyNodes { count, .. } if *count <= SizeLimit::Large.most() => LARGE_TIP,
+        GraphFault::TooManyNodes { .. } => PART_TIP,
+        _ => "",
     }
-    Ok(())
 }
 
 /// The place of the word at fault on the line of the node or the link at fault.

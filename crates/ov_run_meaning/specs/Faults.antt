@@ -6,6 +6,7 @@ use Rattle.ov_io.specs.Refusal.{refusal_text}
 use Rattle.ov_io.specs.declared.fault.ReadFault.{ReadFault}
 use Rattle.ov_io.specs.declared.fault.ReadFault.TheVariants as read
 use Rattle.ov_graph.specs.Faults as graph
+use Rattle.ov_graph.specs.declared.size_limit.SizeLimit.{SizeLimit}
 use Rattle.ov_scenario.specs.Scenarios.{IsReadingFault}
 use Rattle.ov_scenario.specs.declared.scenario_fault.LineFault.{LineFault}
 use Rattle.ov_scenario.specs.declared.scenario_fault.LineFault.TheVariants.{OutOfLimits}
@@ -82,9 +83,11 @@ fault_of_graph_file graph_file.OutOfMemory = OutOfMemory
 abbrev pub IsScenarioFileFault : List ℕ → RunFault → Type 0
 IsScenarioFileFault bytes f = (own : ScenarioFault) × IsReadingFault bytes own × (f ≡ fault_of_scenario own)
 
--- a graph file of these bytes can be refused with this fault: that of the file, or out of memory
-abbrev pub IsAnalysisFileFault : List ℕ → RunFault → Type 0
-IsAnalysisFileFault bytes f = (own : GraphFileFault) × IsGraphFileFault bytes own × (f ≡ fault_of_graph_file own)
+-- a graph file of these bytes, which may say a graph of as many nodes as the limit says, can be refused with this
+-- fault: that of the file, or out of memory
+abbrev pub IsAnalysisFileFault : SizeLimit → List ℕ → RunFault → Type 0
+IsAnalysisFileFault limit bytes f =
+    (own : GraphFileFault) × IsGraphFileFault limit bytes own × (f ≡ fault_of_graph_file own)
 
 -- what the fault of a run says of the bytes that the reader had: one of a line is that of their first line at fault. No
 -- run returns a fault of a graph. What it says of a line that was refused is `StopsScenario`
@@ -97,15 +100,17 @@ IsRunFault reader Write = ⊤
 IsRunFault reader (Refused n refusal) = ⊤
 IsRunFault reader OutOfMemory = ⊤
 
--- the same for an analysis of a graph file, which has no line of parameters, and none that runs
-abbrev pub IsAnalysisFault : Option (List ℕ) → RunFault → Type 0
-IsAnalysisFault reader (Line n) = IfSome reader (λ bytes. IsAnalysisFileFault bytes (Line n))
-IsAnalysisFault reader (Params n) = ⊥
-IsAnalysisFault reader (Graph fault line) = IfSome reader (λ bytes. IsAnalysisFileFault bytes (Graph fault line))
-IsAnalysisFault reader Read = ⊤
-IsAnalysisFault reader Write = ⊤
-IsAnalysisFault reader (Refused n refusal) = ⊥
-IsAnalysisFault reader OutOfMemory = ⊤
+-- the same for an analysis of a graph file, which has no line of parameters, and none that runs. Its graph may have as
+-- many nodes as the limit says
+abbrev pub IsAnalysisFault : SizeLimit → Option (List ℕ) → RunFault → Type 0
+IsAnalysisFault limit reader (Line n) = IfSome reader (λ bytes. IsAnalysisFileFault limit bytes (Line n))
+IsAnalysisFault limit reader (Params n) = ⊥
+IsAnalysisFault limit reader (Graph fault line) =
+    IfSome reader (λ bytes. IsAnalysisFileFault limit bytes (Graph fault line))
+IsAnalysisFault limit reader Read = ⊤
+IsAnalysisFault limit reader Write = ⊤
+IsAnalysisFault limit reader (Refused n refusal) = ⊥
+IsAnalysisFault limit reader OutOfMemory = ⊤
 
 -- the fault was met before anything ran: the reader failed, or a line or the graph is at fault
 abbrev pub IsOfReading : RunFault → Type 0

@@ -2,7 +2,9 @@
 #![tactic(auto)]
 
 mod menger_and_nearest_cut_theorems;
+mod place_set;
 mod source_and_targets_net;
 
 pub use menger_and_nearest_cut_theorems::{menger, one_nearest_cut};
+pub use place_set::PlaceSet;
 pub use source_and_targets_net::SplitNet;

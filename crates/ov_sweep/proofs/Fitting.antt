@@ -4,7 +4,7 @@ use Rattle.std.proofs.Common.{◌≡◌, ◌<◌, ◌≤◌, ◌*◌, ◌++◌, 
 use Rattle.std.proofs.Common.{arith, ◌^◌, ◌∙◌, refl, inl, inr}
 use Rattle.ov_ids.specs.Members.{Has, Ordered}
 use Rattle.ov_ids.proofs.Members.{all_member, has_append_left, has_append_right}
-use Rattle.ov_graph.specs.Links.{LinkGraph, IsGraph, IsWithinLimit, Precedes, most_nodes}
+use Rattle.ov_graph.specs.Links.{LinkGraph, IsGraph, IsWithinLimit, Precedes, most_of_any_graph}
 use Rattle.std.proofs.lemmas.Nat.{mul-le}
 
 -- the list without this member
@@ -87,5 +87,5 @@ few_links g graph =
 pub links_counted : (g : LinkGraph) → IsGraph g → IsWithinLimit g → length g.links < 2 ^ 32
 links_counted g graph within =
     let few = few_links g graph in
-    let most = mul-le (length g.nodes) (length g.nodes) most_nodes most_nodes within within in
+    let most = mul-le (length g.nodes) (length g.nodes) most_of_any_graph most_of_any_graph within within in
     omega (arith, few, most)

@@ -1,5 +1,5 @@
 ghost use Rattle.std.specs.Prelude.{◌≡◌, IfOk, option_map};
-ghost use Rattle.ov_graph.specs.Links.{HasNode};
+ghost use Rattle.ov_graph.specs.Links.{HasNode, IsSmall};
 ghost use Rattle.ov_sweep.specs.Rows.{IsShapeOf};
 
 use ov_articulations::articulation_points;
@@ -8,10 +8,11 @@ use ov_ids::OutOfMemory;
 use ov_sweep_rows::{FourDecimals, PhaseShape};
 use std::alloc::Global;
 
-/// The shape of a graph, which must have a node. OutOfMemory (99) is returned if a number is past 32 bits, or if an
+/// The shape of a graph, which must have a node, and at most 1,024 of them. OutOfMemory (99) is returned if a number is past 32 bits, or if an
 /// allocation is refused.
 pub(crate) fn phase_shape(alloc: Global, graph: &Graph) -> Result<PhaseShape, OutOfMemory>
-    requires { HasNode graph.now }
+    requires some { HasNode graph.now }
+    requires small { IsSmall graph.now }
     ensures { IfOk result (IsShapeOf graph.now) }
 {
     let Some(shape) = shape_of(graph) else {

@@ -1,5 +1,5 @@
 ghost use Rattle.std.specs.Prelude.{IfErr, IfOk};
-ghost use Rattle.ov_graph.specs.Links.{HasNode};
+ghost use Rattle.ov_graph.specs.Links.{HasNode, IsSmall};
 ghost use Rattle.ov_snap.specs.CoreState.{HasReportOfAll};
 ghost use Rattle.ov_snap.specs.ReportState.{ReportState};
 ghost use Rattle.ov_grow.specs.Growth.{Growth};
@@ -15,6 +15,7 @@ use crate::phase_shape::phase_shape;
 use ov_grow::{GrowFault, LoggedGrowth, MessageCost, PhaseEnd, grow_logged};
 use ov_grow_options::GrowOptions;
 use ov_ids::OutOfMemory;
+use ov_net::MOST_ENTRIES;
 use ov_snap::{Core, Report};
 use ov_sweep_rows::{Measures, PhaseCosts, PhaseRow, PhaseShape, Row};
 use std::alloc::Global;
@@ -91,6 +92,7 @@ fn row_after(
     ensures { IfOk result (λ p. (s : Growth) → AreCosts s costs.now
         → IsToldOf measures s core.now phase broadcasts p) }
 {
+    prove!(core.world().journal().len() <= MOST_ENTRIES);
     match core.report(phase.moment) {
         Some(report) => {
             let costs = costs_asked(measures.costs, costs)?;
@@ -111,13 +113,14 @@ fn costs_asked(asked: bool, costs: &[MessageCost]) -> Result<Option<PhaseCosts>,
     Ok(Some(phase_costs(costs)?))
 }
 
-/// The shape of a report's graph, if it is asked for. The graph must have a node.
+/// The shape of a report's graph, if it is asked for. The graph must have a node, and at most 1,024 of them.
 fn shape_asked(
     alloc: Global,
     asked: bool,
     report: &Report,
 ) -> Result<Option<PhaseShape>, OutOfMemory>
-    requires { HasNode report.now.graph }
+    requires some { HasNode report.now.graph }
+    requires small { IsSmall report.now.graph }
     ensures { IfOk result (IsAsked asked (IsShapeOf report.now.graph)) }
 {
     if !asked {

@@ -4,7 +4,7 @@ use ov_even::{Piece, group_piece_at, group_total, total};
 use ov_graph::Graph;
 
 /// How many nodes, how many of them are members of the group, and how many pieces there are.
-static TOTALS: [(usize, usize, u64); 10] = [
+static TOTALS: [(usize, usize, u64); 11] = [
     (1, 1, 0),
     (2, 2, 1),
     (3, 3, 4),
@@ -12,6 +12,7 @@ static TOTALS: [(usize, usize, u64); 10] = [
     (10, 10, 165),
     (256, 256, 2_796_160),
     (1024, 1024, 178_956_800),
+    (32_768, 32_768, 5_864_062_009_344),
     (3, 2, 2),
     (4, 3, 7),
     (5, 2, 4),
@@ -19,7 +20,7 @@ static TOTALS: [(usize, usize, u64); 10] = [
 
 /// How many pieces there are for so many nodes and members, at most as many as the nodes.
 fn count(nodes: usize, members: usize) -> Option<u64> {
-    if nodes > Graph::MOST_NODES || members > nodes {
+    if nodes > Graph::MOST_OF_ANY || members > nodes {
         return None;
     }
     Some(group_total(nodes, members))
@@ -39,7 +40,7 @@ fn pieces_are_counted(rt: HostRuntime) {
 
 /// How many nodes and members, a number, and the piece that has it: its level, and its places, the first of which is 0
 /// of a fan.
-static PIECES: [(usize, usize, u64, u16, u16, u16); 26] = [
+static PIECES: [(usize, usize, u64, u16, u16, u16); 28] = [
     (2, 2, 0, 1, 0, 2),
     (3, 3, 0, 1, 0, 2),
     (3, 3, 1, 1, 0, 3),
@@ -66,6 +67,8 @@ static PIECES: [(usize, usize, u64, u16, u16, u16); 26] = [
     (4, 3, 5, 3, 1, 3),
     (5, 2, 1, 2, 1, 2),
     (5, 2, 3, 4, 1, 2),
+    (32_768, 32_768, 5_864_062_009_342, 32_767, 32_766, 32_767),
+    (32_768, 32_768, 5_864_062_009_343, 32_767, 0, 32_768),
 ];
 
 /// The piece of this level at these places.
@@ -78,7 +81,7 @@ fn named(level: u16, i: u16, j: u16) -> Piece {
 
 /// The piece of this number, if there are so many.
 fn piece(nodes: usize, members: usize, number: u64) -> Option<Piece> {
-    if nodes > Graph::MOST_NODES || members > nodes {
+    if nodes > Graph::MOST_OF_ANY || members > nodes {
         return None;
     }
     let count = group_total(nodes, members);

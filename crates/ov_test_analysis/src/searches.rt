@@ -13,10 +13,13 @@ use std::alloc::Global;
 use std::test::Fail;
 
 /// The net from the third node of a graph to the first two.
-fn from_third(graph: &Graph) -> Option<SplitNet<'_>>
+fn from_third(graph: &Graph) -> Option<SplitNet<'_, WORDS>>
     ensures { IfSome result (λ net. net.graph ≡ graph.now) }
 {
     if graph.nodes().len() < 3 {
+        return None;
+    }
+    if graph.nodes().len() > Graph::MOST_NODES {
         return None;
     }
     let mut targets = EMPTY;
@@ -34,7 +37,7 @@ fn has_alone(row: &Row, one: u8, other: u8) -> bool {
 }
 
 /// Of the square: the second and the fourth node part the third one from the first.
-fn is_cut_of_square(rows: &CutRows) -> bool {
+fn is_cut_of_square(rows: &CutRows<WORDS>) -> bool {
     has_alone(&rows.cut, 1, 3) && has_alone(&rows.side, 2, 2)
 }
 
@@ -86,7 +89,7 @@ fn tells_two(alloc: Global, graph: &Graph) -> Result<bool, OutOfMemory> {
 }
 
 /// The flow grows twice, and then no more.
-fn grows_twice(flow: &mut Flow<'_>) -> bool {
+fn grows_twice(flow: &mut Flow<'_, WORDS>) -> bool {
     for held in 0..2 {
         if flow.held() != held {
             return false;

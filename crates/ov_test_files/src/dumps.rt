@@ -2,6 +2,7 @@
 //! `examples`).
 use ov_dot::read_dot;
 use ov_dump::{Choice, Dump, named_graph, read_views};
+use ov_graph::SizeLimit;
 use std::alloc::{AllocError, Global};
 
 /// Appends a text many times.
@@ -56,6 +57,7 @@ fn deep_nesting(rt: HostRuntime) {
 const ALL: Choice = Choice {
     either: false,
     entries_only: false,
+    limit: SizeLimit::Usual,
 };
 
 /// Views, and why they give no graph. A program tells the line or the entry in other words.

@@ -1,6 +1,7 @@
 //! That the watcher of an analysis of a graph file sees how far it has come, with the certificate and without it.
 use ov_answers::{ReportOrRefusal, analyse_bytes};
 use ov_even::Watcher;
+use ov_graph::SizeLimit;
 use ov_ids::Workers;
 use ov_io::Sink;
 use std::thread::Threads;
@@ -47,6 +48,7 @@ fn is_told(rt: &(impl AllocGlobal + Threads + Sync), certificate: bool) -> bool 
     let answered = analyse_bytes(
         rt,
         rt.alloc(),
+        SizeLimit::Usual,
         TRIANGLES.as_bytes(),
         &mut sink,
         None,

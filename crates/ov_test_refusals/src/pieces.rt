@@ -1,4 +1,4 @@
-//! Pieces of small graphs.
+//! Pieces of small graphs, and of a graph that is kept as lists.
 ghost use Rattle.std.specs.Prelude.{◌<◌, ◌≤◌, length, IsTrue};
 ghost use Rattle.ov_fans.specs.Pieces.{IsPiece};
 
@@ -26,9 +26,15 @@ type Row = (u16, u16, u16, Want);
 /// How many nodes there are from 1 on, the links, and pieces.
 type GraphRow = (u32, &'static [(u32, u32)], &'static [Row]);
 
-/// A path of three nodes, a ring of four, the triangles 1, 2, 3 and 3, 4, 5, and the Petersen graph.
-static GRAPHS: [GraphRow; 4] = [
+/// A path of three nodes, alone and beside 1,027 nodes without links, a ring of four, the triangles 1, 2, 3 and 3, 4, 5,
+/// and the Petersen graph.
+static GRAPHS: [GraphRow; 5] = [
     (3, &[(1, 2), (2, 3)], &[(2, 0, 3, Cut(&[2], 3, 1, &[3]))]),
+    (
+        1030,
+        &[(1, 2), (2, 3)],
+        &[(2, 0, 3, Cut(&[2], 3, 1, &[3])), (1, 0, 3, Paths)],
+    ),
     (
         4,
         &[(1, 2), (1, 4), (2, 3), (3, 4)],
@@ -51,7 +57,7 @@ fn graph(alloc: Global, last: u32, pairs: &[(u32, u32)]) -> Result<Graph, GraphF
     for (low, high) in pairs {
         links.push((NodeId(*low), NodeId(*high)))?;
     }
-    Graph::new(alloc, &nodes, &links)
+    Graph::large(alloc, &nodes, &links)
 }
 
 /// The piece of this level at these places.

@@ -131,7 +131,7 @@ fn do_asked<T: Threads + Wait + Sync>(
         Request::Analyse { file, analysis } => Ok(analyse_asked(rt, threads, file, &analysis)?),
         Request::Import { file, dump } => Ok(import_asked(rt, file, dump)?),
         Request::Picture { file, picture } => Ok(picture_asked(rt, file, picture)?),
-        Request::Graph { file } => Ok(graph_asked(rt, file)?),
+        Request::Graph { file, large } => Ok(graph_asked(rt, file, large)?),
         Request::Tell(telling) => Ok(tell_asked(rt, telling)?),
     }
 }

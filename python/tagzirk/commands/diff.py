@@ -101,6 +101,8 @@ def cause_lines(it: Difference) -> List[str]:
             lines.append(f"  and {len(it.restoring) - MOST_LINES} more; --json has all")
     elif it.hosts_went or it.links_went:
         lines.append(f"Nothing that went gives k {then} again if it alone is put back.")
+    if it.untried:
+        lines.append(f"{counted(it.untried, 'change')} more might: they were not tried, since there are so many hosts.")
     if it.burdening:
         lines.append(f"Without one of these, which came, k is {then} or more: {some(it.burdening)}.")
     if it.with_all_back is not None and (it.hosts_went or it.links_went) and not it.restoring:
@@ -120,6 +122,7 @@ def value_of(it: Difference) -> Dict[str, Any]:
         "restoring": [{"host": them[0]} if len(them) == 1 else {"link": list(them)} for them in it.restoring],
         "burdening": list(it.burdening),
         "k_with_all_back": it.with_all_back,
+        **({"untried": it.untried} if it.untried else {}),
     }
 
 

@@ -11,7 +11,7 @@ from dataclasses import dataclass
 from typing import TYPE_CHECKING, Any, Dict, List, Optional
 
 from ..contents import is_dump
-from ..crashes import Crash, badness, each
+from ..crashes import Crash, badness, cut_off_by, each
 from ..dumps import Dump
 from ..errors import BadDump, TagzirkError
 from ..graphs import NamedGraph, shown
@@ -22,7 +22,7 @@ from ..racks import Loss, fewest_racks, racks_of
 from ..reports import Report, analysed
 from ..sites import Sites
 from ..wide import Wide, widest
-from ..worst import Worst, worst
+from ..worst import Cut, Worst, worst
 from .telling import (
     rack_line,
     site_lines,
@@ -62,7 +62,8 @@ def add(commands: Commands, parents: Parents) -> None:
 
 @dataclass(frozen=True)
 class Told:
-    """All that is told of crashes, and what one is of: `host`, `rack`, or a pair of these."""
+    """All that is told of crashes, and what one is of: `host`, `rack`, or a pair of these. So many hosts are `cut_off`
+    by the cut of the report."""
 
     kind: str
     dump: Dump
@@ -72,6 +73,7 @@ class Told:
     wide: Optional[Wide[str]]
     loss: Optional[Loss[str]]
     sites: Optional[Sites]
+    cut_off: int
 
 
 def run_each(words: argparse.Namespace) -> int:
@@ -96,7 +98,8 @@ def run_each(words: argparse.Namespace) -> int:
         wide = widest(graph, report, known, workers=words.workers, progress=progress)
         loss = None if racks is None else fewest_racks(graph, racks, progress)
     crashes = crashes if words.pairs else sorted(crashes, key=lambda it: (*badness(it), -at_stake(it, found)))
-    of = Told(kind, dump, report, crashes, found, wide, loss, sites)
+    away = len(cut_off_by(graph, {graph.ids[it] for it in report.cut}))
+    of = Told(kind, dump, report, crashes, found, wide, loss, sites, away)
     if words.json:
         print(json.dumps(value_of(of, words.rows), ensure_ascii=False))
     else:
@@ -125,13 +128,30 @@ def at_stake(crash: Crash[str], found: Worst[str]) -> int:
 def lines_of(of: Told) -> List[str]:
     """What is told above the table."""
     rack = "" if of.loss is None else " The hosts of a rack crash at once; k counts hosts, of any racks."
+    worse = of.worst.worse_than(of.report.k, of.cut_off)
+    first = f"{cut_first(worse)} The certificate has another one: " if worse else ""
     return [
-        f"k is {of.report.k} now: {of.report}{rack}",
+        f"k is {of.report.k} now: {first}{of.report}{rack}",
         *worst_lines(of.worst, of.report.k, of.sites, MOST_WORST),
         said_of(of.wide),
         *(site_lines(of.sites, of.wide.crashed, of.wide.cut_off) if of.wide else []),
         *([] if of.loss is None else [rack_line(of.loss, of.sites)]),
+        *unasked_lines(of),
     ]
+
+
+def cut_first(cut: Cut[str]) -> str:
+    """What the worst of the smallest cuts does, in a sentence."""
+    crash = "The crash" if len(cut.crashed) == 1 else "Crashing"
+    who = f"of {some(cut.crashed)}" if len(cut.crashed) == 1 else some(cut.crashed)
+    return f"{crash} {who} cuts off {counted(len(cut.cut_off), 'host')}, the most of the smallest cuts found."
+
+
+def unasked_lines(of: Told) -> List[str]:
+    """Of how many crashes k was not asked for, in a line, if there are such."""
+    number = sum(it.at_least is not None for it in of.crashes)
+    kind = counted(number, of.kind)
+    return [f"After the crash of {kind} k was not asked for, since there are so many hosts."] if number else []
 
 
 def said_of(wide: Optional[Wide[str]]) -> str:
@@ -158,7 +178,8 @@ def table_of(of: Told, is_of_pairs: bool, rows: Optional[int]) -> List[str]:
     number = rows or (MOST_PAIRS if is_of_pairs else len(of.crashes))
     cells = [(f"after the crash of {f'two {of.kind}s' if is_of_pairs else of.kind}", "k", "cut off")]
     for it in of.crashes[:number]:
-        k = "-" if it.k is None else f"{it.k} all linked" if it.is_linked else str(it.k)
+        rest = "-" if it.at_least is None else f"{it.at_least} or more"
+        k = rest if it.k is None else f"{it.k} all linked" if it.is_linked else str(it.k)
         cells.append((name_of(it), k, said_of_crash(it, of)))
     wide = [max(len(row[at]) for row in cells) for at in range(2)]
     lines = [f"{a:{wide[0]}}  {b:{wide[1]}}  {c}" for a, b, c in cells]

@@ -56,6 +56,8 @@ def run_mend(words: argparse.Namespace) -> int:
         told("the certificate is the last line: | tail -n 1 | overlay-check")
     if mended.links:
         told(f"k is {before}, and {after} with {counted(len(mended.links), 'more link')}")
+        if mended.untried:
+            told(f"{mended.untried} of them may be to spare: of so many hosts not each was tried without")
     else:
         told(f"k is {before} already, so no link is needed")
     return 0

@@ -53,6 +53,8 @@ def worst_lines(found: Worst[str], k: int, sites: Optional[Sites], most: int) ->
 def rack_line(loss: Loss[str], sites: Optional[Sites]) -> str:
     """The fewest racks whose loss splits the overlay, in a sentence."""
     if loss.racks is None:
+        if loss.tried == 1:
+            return "No rack splits the overlay if it is lost, which was tried of all; more at once were not tried."
         return f"No {loss.tried} racks split the overlay if they are lost, which was tried of all."
     if not loss.racks:
         return f"It is split without the loss of any rack: {counted(len(loss.cut_off), 'host')} cut off."
@@ -115,6 +117,8 @@ def value_of_crash(crash: Crash[str], sites: Optional[Sites]) -> Dict[str, Any]:
         "all_linked": crash.is_linked,
         "cut_off": list(crash.cut_off),
     }
+    if crash.at_least is not None:
+        value["k_at_least"] = crash.at_least
     if sites:
         value["sites"] = list(map(value_of_site, sites.hit(crash.hosts, crash.cut_off)))
     return value

@@ -13,6 +13,7 @@ from ..dumps import Dump, Options, read_dump
 from ..errors import BadDump
 from ..forms import FORMS
 from ..graphs import in_line, shown
+from ..limits import MOST_HOSTS
 from ..outputs import Output, demand_apart
 from ..taken import up_of
 from .tips import tips
@@ -120,8 +121,8 @@ def up_words(text: str) -> str:
 def at_least_one(text: str) -> int:
     """A number of hosts, links or questions that somebody typed."""
     number = int(text) if text.isascii() and text.isdigit() else 0
-    if not 1 <= number <= 1024:
-        raise argparse.ArgumentTypeError(f"it takes a number from 1 to 1024, and not {text!r}")
+    if not 1 <= number <= MOST_HOSTS:
+        raise argparse.ArgumentTypeError(f"it takes a number from 1 to {MOST_HOSTS}, and not {text!r}")
     return number
 
 

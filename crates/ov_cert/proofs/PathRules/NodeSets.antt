@@ -1,6 +1,6 @@
 -- Sets of nodes stored as rows of bits.
 use Rattle.std.proofs.Common.{◌≡◌, ◌≢◌, ◌∙◌, ◌↔◌, ◌⊎◌, ℕ, ◌+◌, ◌<◌, Bool, true, false, ◌&&◌, not, cond, List, [], ◌∷◌}
-use Rattle.std.proofs.Common.{◌++◌, length, get_or, IsTrue, refl, sym, ap, subst, arith, inl, inr}
+use Rattle.std.proofs.Common.{◌++◌, replicate, length, get_or, IsTrue, refl, sym, ap, subst, arith, inl, inr}
 use Rattle.std.proofs.lemmas.Bool.{le-ltb, lt-ltb, ne_eqb}
 use Rattle.std.specs.List.{AllByRecursion}
 use Rattle.ov_ids.specs.Members.{Has, Ascends}
@@ -11,8 +11,7 @@ use Rattle.ov_graph.specs.Links.{LinkGraph, IsGraph}
 use Rattle.ov_graph.specs.Paths.{node_at}
 use Rattle.ov_graph.specs.Row.{HasBit}
 use Rattle.ov_graph.specs.Row.{picked}
-use Rattle.ov_graph.specs.declared.bit_rows.TheConstants.{EMPTY}
-use Rattle.ov_graph.proofs.BitRows.Bits.{bit_moved, empty_bit}
+use Rattle.ov_graph.proofs.BitRows.Bits.{bit_moved, no_bits}
 use Rattle.ov_graph.proofs.BitRows.Read.{picked_at, has_picked, ascends_picked, none_picked}
 use Rattle.ov_cert.specs.Code.Kept.{NodeSetState}
 use Rattle.ov_cert.proofs.PathRules.Ends.{same_test}
@@ -45,9 +44,9 @@ picked_put old new nodes p up l put =
           ((put k.place).1 (inr (bit_moved old (0 + k.place) k.place z k.bit))))
     ])
 
--- the empty row has no members
-pub picked_empty : (nodes : List ℕ) → picked EMPTY 0 nodes ≡ []
-picked_empty nodes = none_picked EMPTY 0 nodes (λ q l. empty_bit q)
+-- words without bits have no members
+pub picked_empty : (words : ℕ) (nodes : List ℕ) → picked (replicate words 0) 0 nodes ≡ []
+picked_empty words nodes = none_picked (replicate words 0) 0 nodes (λ q l. no_bits words q)
 
 has_among : (row nodes : List ℕ) (x : ℕ) → Has (picked row 0 nodes) x → Has nodes x
 has_among row nodes x h = let k = has_picked row 0 nodes x h in subst (Has nodes) k.node

@@ -4,7 +4,7 @@ use Rattle.json.specs.Token.{Token}
 use Rattle.json.specs.Tree.{members_tokens}
 use Rattle.serde_json.specs.Data.{Members, member}
 use Rattle.serde_json.specs.Written.{members_outline}
-use Rattle.ov_graph.specs.Links.{LinkGraph, IsGraph, most_nodes}
+use Rattle.ov_graph.specs.Links.{LinkGraph, IsGraph, IsWithinLimit}
 use Rattle.ov_certfile.specs.Forms.{ids_in, links_in, last_moment_of}
 use Rattle.ov_certfile.specs.Kinds.{most_nodes_of, version_number, names_group}
 use Rattle.ov_certfile.specs.DataOf.{ids_data, list_data, link_data, cert_members}
@@ -54,5 +54,5 @@ pub record TakesContent (newest : Version) (c : Content) (old new : List Token) 
 -- the nodes and links are a graph within the limits of all graphs and of the version
 pub record IsGraphWithin (version : Version) (g : LinkGraph) : Type 0 where
   pub is_graph : IsGraph g
-  pub within : length g.nodes ≤ most_nodes
+  pub within : IsWithinLimit g
   pub few : length g.nodes ≤ most_nodes_of version

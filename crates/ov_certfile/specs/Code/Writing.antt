@@ -1,8 +1,8 @@
 -- The texts that the functions append that write a file, and that what is written is read back.
-use Rattle.std.specs.Prelude.{◌≡◌, ◌≤◌, ◌++◌, ℕ, Bool, true, List, length, MatchBool, Some}
+use Rattle.std.specs.Prelude.{◌≡◌, ◌++◌, ℕ, Bool, true, List, MatchBool, Some}
 use Rattle.serde_json.specs.Data.{Data, Members}
 use Rattle.serde_json.specs.Written.{compact_text, members_text}
-use Rattle.ov_graph.specs.Links.{LinkGraph, IsGraph, most_nodes}
+use Rattle.ov_graph.specs.Links.{LinkGraph, IsGraph, IsWithinLimit}
 use Rattle.ov_cert.specs.declared.cert.Cert.{Cert}
 use Rattle.ov_cert.specs.declared.cert.Cert.TheVariants as cert
 use Rattle.ov_cert.specs.declared.cert.Split.{Split}
@@ -20,10 +20,10 @@ WritesValue d old new = new ≡ old ++ compact_text d
 pub record WritesMembers (later : Bool) (add : Members → Members) (old : List ℕ) (new : List ℕ) : Type 0 where
   pub followed : (ms : Members) → new ++ members_text true ms ≡ old ++ members_text later (add ms)
 
--- g is a graph within the limit, and the values written for its nodes and links read back
+-- g is a graph within the limit of all graphs, and the values written for its nodes and links read back
 pub record GraphReadsBack (g : LinkGraph) : Type 0 where
   pub is_graph : IsGraph g
-  pub within : length g.nodes ≤ most_nodes
+  pub within : IsWithinLimit g
   pub nodes : ids_in (ids_data g.nodes) ≡ Some g.nodes
   pub links : links_in (list_data link_data g.links) ≡ Some g.links
 

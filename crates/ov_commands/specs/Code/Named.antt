@@ -1,6 +1,7 @@
 -- Why lists name no nodes.
 use Rattle.std.specs.Prelude.{◌≡◌, ◌⊎◌, ℕ, Bool, List, Option, Some, None, Result, Ok, Err}
 use Rattle.ov_graphfile.specs.Groups.{IsGroupNamed, IsGroupFault, parts_of}
+use Rattle.ov_graph.specs.declared.size_limit.SizeLimit.{SizeLimit}
 use Rattle.ov_graphfile.specs.NamesState.{NamesState}
 use Rattle.ov_run_meaning.specs.declared.run_fault.RunFault.TheVariants as run
 use Rattle.ov_io.specs.Device.{SinkState}
@@ -32,11 +33,11 @@ IsNotFound bytes named those these (Group fault) =
 IsNotFound bytes named those these other = ⊥
 
 -- what came of an analysis without these nodes and of this group, and the status of the alarm
-abbrev pub WasAnswered : {W : Type 0} → List ℕ → List ℕ → Option (List ℕ) → Bool → Bool → Option ℕ
+abbrev pub WasAnswered : {W : Type 0} → SizeLimit → List ℕ → List ℕ → Option (List ℕ) → Bool → Bool → Option ℕ
     → (W → Option (List ℕ)) → SinkState W → SinkState W → Result ℕ CommandFault → Type 0
-WasAnswered bytes gone group certificate named least contents old new (Ok status) =
-    (told : ToldAnalysis) × IsToldOf bytes contents old gone group certificate named new (Ok told)
+WasAnswered limit bytes gone group certificate named least contents old new (Ok status) =
+    (told : ToldAnalysis) × IsToldOf limit bytes contents old gone group certificate named new (Ok told)
     × (status ≡ alarm_status least told.answered)
-WasAnswered bytes gone group certificate named least contents old new (Err (Run fault)) =
-    IsToldOf bytes contents old gone group certificate named new (Err fault)
-WasAnswered bytes gone group certificate named least contents old new (Err other) = ⊥
+WasAnswered limit bytes gone group certificate named least contents old new (Err (Run fault)) =
+    IsToldOf limit bytes contents old gone group certificate named new (Err fault)
+WasAnswered limit bytes gone group certificate named least contents old new (Err other) = ⊥

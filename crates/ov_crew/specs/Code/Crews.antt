@@ -1,6 +1,6 @@
 -- What the workers of a crew have done at a board, while they are put together.
 use Rattle.std.specs.Prelude.{◌≡◌, ℕ, ◌+◌, ◌<◌, true, List, [], ◌∷◌, length, Result, Ok, IfOk, OnOk}
-use Rattle.ov_ids.specs.Limits.{number_limit}
+use Rattle.ov_board.specs.Limits.{piece_limit}
 use Rattle.ov_ids.specs.declared.out_of_memory.OutOfMemory.{OutOfMemory}
 use Rattle.ov_graph.specs.Links.{LinkGraph}
 use Rattle.ov_board.specs.Claims.{fresh}
@@ -10,10 +10,10 @@ use Rattle.ov_even.specs.declared.worker_haul.Haul.{Haul}
 use Rattle.ov_even.specs.declared.worker_haul.Keeping.{Keeping}
 use Rattle.ov_crew.specs.Code.Kept.{IsHaulKeeping}
 
--- the numbers from `first` on, `total` of them, are numbers of pieces, and fit in 32 bits
+-- the numbers from `first` on, `total` of them, are numbers of pieces, and a board may share out as many
 pub record IsRange (g : LinkGraph) (q : List ℕ) (first total : ℕ) : Type 0 where
   pub below : (x : ℕ) → x < total → AreMoreThan (length g.nodes) (length q) (first + x)
-  pub small : first + total < number_limit
+  pub small : first + total < piece_limit
 
 -- a seat of the board before its first claim
 abbrev pub IsNewAt : BoardState → SeatState → Type 0

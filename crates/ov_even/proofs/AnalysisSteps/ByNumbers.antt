@@ -31,7 +31,8 @@ done_before keeping g q hauls first least y r done numbered from to =
     done (y - first) (omega arith) r
     (subst (λ (z : ℕ). IsNumbered (length g.nodes) (length q) z r) e numbered)
 
--- where the first pieces of a level are done with, and these are all of it or the next one has a cut, the level was tried
+-- where the first pieces of a level are done with, and these are all of it or the next one has a cut, the level was
+-- tried
 pub tried_by_numbers : (keeping : Keeping) (g : LinkGraph) (q : List ℕ) (hauls : List Haul)
     (level first size least : ℕ) → AreNumbersOf (length g.nodes) (length q) level first size → least ≤ size
     → AreDoneUpTo keeping g q hauls first least → (least ≡ size) ⊎ IsCutAt g q hauls (first + least)

@@ -1,9 +1,9 @@
 -- What is known of a level while its pieces are settled one after another.
 use Rattle.std.proofs.Common.{◌≡◌, inl, inr, ℕ, ◌<◌, ◌≤◌, List, [], ◌∷◌, ◌++◌, length, refl, sym, ◌∙◌, subst, ap}
-use Rattle.std.proofs.Common.{arith, append_assoc, append-nil}
+use Rattle.std.proofs.Common.{arith, append_assoc, append-nil, ◌^◌}
 use Rattle.ov_ids.specs.Members.{Has, Ordered}
 use Rattle.ov_ids.proofs.Members.{has_append_left, has_append_right, has_append_cases}
-use Rattle.ov_graph.specs.Links.{LinkGraph, IsGraph}
+use Rattle.ov_graph.specs.Links.{LinkGraph, IsGraph, most_of_any_graph}
 use Rattle.ov_fans.specs.Pieces.{IsPiece, IsGood, IsLinkedPair, level_of}
 use Rattle.std.proofs.lemmas.Bool.{cases_lt}
 use Rattle.ov_even.proofs.PieceNumbers.LevelPlaces.{length_level_low, length_level_high}
@@ -234,8 +234,8 @@ pub linked_right : (g : LinkGraph) (q : List ℕ) (s : Settled) (p : Piece) → 
 linked_right g q s p right e same =
     subst (IsLinkedPair g q) same (subst (IsFoundFor g q s.piece) e right)
 
--- a level has at most a million pieces
-pub level_few : (m level : ℕ) → m ≤ 1024 → length (pieces_of_level m level) ≤ 1000000
+-- a level of a group within the limit has fewer than 2^30 pieces
+pub level_few : (m level : ℕ) → m ≤ most_of_any_graph → length (pieces_of_level m level) < 2 ^ 30
 level_few m level most = elim (cases_lt level m) [
   | inl l ↦
       let e = length_level_high m level (omega (arith, l)) in
@@ -243,6 +243,6 @@ level_few m level most = elim (cases_lt level m) [
       omega (arith, e, few, most)
   | inr l ↦
       let e = length_level_low m level l in
-      let few = pairs_few m most in
+      let few = pairs_few m (omega (arith, most)) in
       omega (arith, e, few)
 ]

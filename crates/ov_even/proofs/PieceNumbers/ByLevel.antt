@@ -1,5 +1,5 @@
 -- The numbers of the pieces of a level: those after the numbers of all lower levels.
-use Rattle.std.proofs.Common.{◌≡◌, ℕ, zero, suc, ◌+◌, ◌-◌, ◌<◌, ◌≤◌, ◌^◌, inl, inr, List, ◌++◌, length, Some}
+use Rattle.std.proofs.Common.{◌≡◌, ℕ, zero, suc, ◌+◌, ◌-◌, ◌<◌, ◌≤◌, inl, inr, List, ◌++◌, length, Some}
 use Rattle.std.proofs.Common.{sym, ap, ◌∙◌, arith}
 use Rattle.std.proofs.lemmas.Bool.{cases_lt}
 use Rattle.std.proofs.lemmas.List.{length-append}
@@ -7,6 +7,8 @@ use Rattle.std.specs.List.{slice_get}
 use Rattle.ov_fans.specs.Pieces.{level_of}
 use Rattle.ov_fans.specs.declared.piece.Piece.{Piece}
 use Rattle.ov_even.specs.Levels.{AreNumbersOf}
+use Rattle.ov_graph.specs.Links.{most_of_any_graph}
+use Rattle.ov_board.specs.Limits.{piece_limit}
 use Rattle.ov_even.specs.Code.Levels.{pieces_of_level, levels_behind, all_pieces}
 use Rattle.ov_even.proofs.PieceOrder.InOrder.{has_at, at_left, at_right}
 use Rattle.ov_even.proofs.PieceNumbers.AllLevels.{level_in, has_levels, levels_split}
@@ -111,8 +113,8 @@ numbers_of_level n m (suc k) first size low high e f =
     numbers_behind n m k first size high (e ∙ ap (λ (x : ℕ). length (levels_behind m 0 x)) same) f
 
 -- the pieces of the levels up to this one are few
-pub level_small : (n m level : ℕ) → n ≤ 1024 → m ≤ n → 1 ≤ level → level < n
-    → length (levels_behind m 0 (level - 1)) + length (pieces_of_level m level) < 2 ^ 32
+pub level_small : (n m level : ℕ) → n ≤ most_of_any_graph → m ≤ n → 1 ≤ level → level < n
+    → length (levels_behind m 0 (level - 1)) + length (pieces_of_level m level) < piece_limit
 level_small n m zero few l low high = absurd (omega arith)
 level_small n m (suc k) few l low high =
     let same : suc k - 1 ≡ k = omega arith in

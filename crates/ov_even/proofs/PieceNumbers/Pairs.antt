@@ -40,10 +40,10 @@ pairs_within a b l = elim (cases_lt a b) [
       absurd (omega (arith, pairs_rise b (a - b), f))
 ]
 
--- among 1,024 members there are 523,776 pairs
-pub pairs_few : (n : ℕ) → n ≤ 1024 → pairs_among n ≤ 523776
+-- among 32,768 members there are 536,854,528 pairs
+pub pairs_few : (n : ℕ) → n ≤ 32768 → pairs_among n ≤ 536854528
 pairs_few n l =
-    let a : n * (n - 1) ≤ n * 1023 = mul-le-mul_left n (omega arith) in
+    let a : n * (n - 1) ≤ n * 32767 = mul-le-mul_left n (omega arith) in
     omega (arith, twice_pairs n, a)
 
 -- one more member is in one pair with each earlier member

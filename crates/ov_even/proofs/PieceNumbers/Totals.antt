@@ -1,8 +1,10 @@
 -- The number of pieces of all levels, as a formula.
-use Rattle.std.proofs.Common.{◌≡◌, ℕ, zero, suc, ◌+◌, ◌-◌, ◌*◌, ◌/◌, ◌<◌, ◌≤◌, ◌^◌, [], length, ap, arith}
+use Rattle.std.proofs.Common.{◌≡◌, ℕ, zero, suc, ◌+◌, ◌-◌, ◌*◌, ◌/◌, ◌<◌, ◌≤◌, [], length, ap, arith}
 use Rattle.std.proofs.lemmas.List.{length-append}
 use Rattle.std.proofs.lemmas.Nat.{mul-le}
 use Rattle.std.proofs.Math.Nat.{mul-add, mul-suc, mul_left_comm, suc-mul}
+use Rattle.ov_graph.specs.Links.{most_of_any_graph}
+use Rattle.ov_board.specs.Limits.{piece_limit}
 use Rattle.ov_even.specs.Code.Levels.{pieces_of_level, levels_behind, all_pieces, pairs_among}
 use Rattle.ov_even.proofs.PieceNumbers.Pairs.{twice_pairs, pairs_few}
 use Rattle.ov_even.proofs.PieceNumbers.LevelPlaces.{length_level_low, length_level_high}
@@ -103,11 +105,11 @@ in_figures n m l =
     let d : (n - m) * (2 * pairs) ≡ 2 * ((n - m) * pairs) = mul_left_comm (n - m) 2 pairs in
     omega (arith, length_all n m l, a, b, c, d)
 
--- a graph within the limit has fewer than 2 ^ 32 pieces
-pub total_small : (n m : ℕ) → n ≤ 1024 → m ≤ n → length (all_pieces n m) < 2 ^ 32
+-- a graph within the limit has fewer than `piece_limit` pieces
+pub total_small : (n m : ℕ) → n ≤ most_of_any_graph → m ≤ n → length (all_pieces n m) < piece_limit
 total_small n m few l =
     let pairs = pairs_among m in
-    let a : pairs ≤ 523776 = pairs_few m (omega arith) in
-    let b : (m + 1) * pairs ≤ 1025 * 523776 = mul-le (m + 1) pairs 1025 523776 (omega arith) a in
-    let c : (n - m) * pairs ≤ 1024 * 523776 = mul-le (n - m) pairs 1024 523776 (omega arith) a in
+    let a : pairs ≤ 536854528 = pairs_few m (omega arith) in
+    let b : (m + 1) * pairs ≤ 32769 * 536854528 = mul-le (m + 1) pairs 32769 536854528 (omega arith) a in
+    let c : (n - m) * pairs ≤ 32768 * 536854528 = mul-le (n - m) pairs 32768 536854528 (omega arith) a in
     omega (arith, length_all n m l)

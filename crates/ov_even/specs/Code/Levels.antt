@@ -1,7 +1,7 @@
 -- The pieces as lists, in their order: of one level, and of all levels. Column j of a level has the pieces of that
 -- level whose last member is j. Up to the level a column consists of pairs; each later column is one fan.
 use Rattle.std.specs.Prelude.{◌≡◌, ℕ, zero, suc, ◌+◌, ◌-◌, ◌<◌, ◌≤◌, ◌^◌, List, [], ◌∷◌, ◌++◌, if◌then◌else◌, nat_le}
-use Rattle.ov_graph.specs.Links.{most_nodes}
+use Rattle.ov_graph.specs.Links.{most_of_any_graph}
 use Rattle.ov_fans.specs.declared.piece.Piece.{Piece}
 use Rattle.ov_fans.specs.declared.piece.Piece.TheVariants.{Pair, Fan}
 
@@ -48,7 +48,7 @@ pairs_among (suc count) = count + pairs_among count
 -- the first and the last member of the next piece: the first comes before the last, and the group is within the limit
 -- of nodes
 pub record IsToCome (m i j : ℕ) : Type 0 where
-  pub few : m ≤ most_nodes
+  pub few : m ≤ most_of_any_graph
   pub less : i < j
 
 -- the piece is the pair of this level that has `place` pairs before it

@@ -32,10 +32,10 @@ place_below nodes i j up l less m = elim (cases_order i j) [
 ]
 
 -- the aim of a pair
-pub pair_aimed : (g : LinkGraph) (a b source avoided : ℕ) (row : List ℕ) → IsGraph g → a ≢ b → ¬ Linked g a b
+pub pair_aimed : {W : ℕ} (g : LinkGraph) (a b source avoided : ℕ) (row : List ℕ) → IsGraph g → a ≢ b → ¬ Linked g a b
     → source < length g.nodes → node_at g source ≡ a → avoided < length g.nodes → node_at g avoided ≡ b
     → ((p : ℕ) → HasBit row p ↔ ((p < length g.nodes) × Linked g b (node_at g p)))
-    → IsAimFor g (record { graph = g; avoided = b ∷ []; source = a; targets = neighbours_in g.links b g.nodes })
+    → IsAimFor {W = W} g (record { graph = g; avoided = b ∷ []; source = a; targets = neighbours_in g.links b g.nodes })
     (record { avoided = Some avoided; source = source; targets = row })
 pair_aimed g a b source avoided row graph differ apart l at m off bits = record {
   net =
@@ -81,10 +81,10 @@ below_picked g q a source members row graph group kept l at bits =
     (in_picked row 0 g.nodes p below (bit_moved row p (0 + p) (omega arith) b)))
 
 -- the aim of a fan
-pub fan_aimed : (g : LinkGraph) (q : List ℕ) (a source : ℕ) (members row : List ℕ) → IsGraph g → IsGroup g q
+pub fan_aimed : {W : ℕ} (g : LinkGraph) (q : List ℕ) (a source : ℕ) (members row : List ℕ) → IsGraph g → IsGroup g q
     → AreBitsOf g members q → source < length g.nodes → node_at g source ≡ a
     → ((p : ℕ) → HasBit row p ↔ ((p < source) × HasBit members p))
-    → IsAimFor g (record { graph = g; avoided = []; source = a; targets = members_below q a })
+    → IsAimFor {W = W} g (record { graph = g; avoided = []; source = a; targets = members_below q a })
     (record { avoided = None; source = source; targets = row })
 fan_aimed g q a source members row graph group kept l at bits = record {
   net = ap₂ (λ (y : ℕ) (t : List ℕ). record { graph = g; avoided = []; source = y; targets = t }) at

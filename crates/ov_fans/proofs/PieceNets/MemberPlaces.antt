@@ -5,7 +5,7 @@ use Rattle.std.proofs.lemmas.List.{length-map, take_more}
 use Rattle.ov_ids.specs.Members.{Has, Ascends}
 use Rattle.ov_ids.proofs.Members.{has_append_left, has_append_right, has_append_cases, has_place, all_member}
 use Rattle.ov_ids.proofs.Members.{all_from_members, ordered_at}
-use Rattle.ov_graph.specs.Links.{LinkGraph, IsGraph, IsWithinLimit, IsGroup, most_nodes}
+use Rattle.ov_graph.specs.Links.{LinkGraph, IsGraph, IsWithinLimit, IsGroup}
 use Rattle.ov_graph.specs.Paths.{node_at}
 use Rattle.ov_graph.specs.Row.{HasBit}
 use Rattle.ov_graph.proofs.BitRows.Read.{one_place}
@@ -76,7 +76,6 @@ node_there g (p ∷ ps) (suc i) l = node_there g ps i (omega arith)
 pub record IsMemberPlace (g : LinkGraph) (q : List ℕ) (i p : ℕ) : Type 0 where
   pub below : p < length g.nodes
   pub there : node_at g p ≡ member_at q i
-  pub fits : p < most_nodes
 
 pub member_placed : (g : LinkGraph) (places row : List ℕ) (i p : ℕ) → AreMemberPlaces g places row → 1 ≤ i
     → i ≤ length (map (node_at g) places) → p ≡ get_or places (i - 1) p → IsMemberPlace g (map (node_at g) places) i p
@@ -84,11 +83,9 @@ member_placed g places row i p kept low high e =
     let before : i - 1 < length places = omega (arith, low, high, length-map places (node_at g)) in
     let f : p ≡ slice_index places (i - 1) = read_at places (i - 1) p before e in
     let below : p < length g.nodes = kept.below p (subst (Has places) (sym f) (has_place places (i - 1) 0 before)) in
-    let within = kept.within in
     record {
       below = below;
       there = ap (λ (r : ℕ). node_at g r) f ∙ node_there g places (i - 1) before;
-      fits = omega (arith, below, within);
     }
 
 -- the places of the first members

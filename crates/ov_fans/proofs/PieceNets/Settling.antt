@@ -68,12 +68,13 @@ pair_paths g q level i j other paths graph group at node fan =
     (asked_paths g q (Pair level i j) (map (map (node_at g)) paths) graph group at fan)
 
 -- the result of a search of the net of a piece, in terms of the graph
-pub record IsFullIn (g : LinkGraph) (q : List ℕ) (p : Piece) (k : ℕ) (s : CutRows) : Type 0 where
+pub record IsFullIn {W : ℕ} (g : LinkGraph) (q : List ℕ) (p : Piece) (k : ℕ) (s : CutRows W) : Type 0 where
   pub full : IsFull (net_of g q p) k (picked s.cut 0 g.nodes) (picked s.side 0 g.nodes)
   pub cut_places : (i : ℕ) → HasBit s.cut i → i < length g.nodes
   pub side_places : (i : ℕ) → HasBit s.side i → i < length g.nodes
 
-pub full_in : (g : LinkGraph) (q : List ℕ) (p : Piece) (k : ℕ) (s : CutRows) → IsGraph g → IsFullBy (net_of g q p) k s
+pub full_in : {W : ℕ} (g : LinkGraph) (q : List ℕ) (p : Piece) (k : ℕ) (s : CutRows W) → IsGraph g
+    → IsFullBy (net_of g q p) k s
     → IsFullIn g q p k s
 full_in g q (Pair level i j) k s graph f = record {
   full = full_picked (net_of g q (Pair level i j)) k s graph f;

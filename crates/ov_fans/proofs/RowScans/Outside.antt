@@ -9,12 +9,11 @@ use Rattle.ov_graph.specs.Paths.{node_at}
 use Rattle.ov_graph.specs.Even.{members_below}
 use Rattle.ov_graph.specs.Row.{has_bit, HasBit, IsFirstFrom, AreWordsFor}
 use Rattle.ov_graph.specs.Row.{picked}
-use Rattle.ov_graph.specs.Code.Kept.{IsRowOf}
 use Rattle.ov_graph.proofs.BitRows.Bits.{bit_moved, AreWithout}
 use Rattle.ov_graph.proofs.BitRows.Read.{has_picked, in_picked, picked_at}
 use Rattle.ov_fans.specs.Pieces.{member_at, level_of, IsPiece}
 use Rattle.ov_fans.specs.Cuts.{IsCut, IsFar}
-use Rattle.ov_fans.specs.Code.Kept.{IsLowestOutside}
+use Rattle.ov_fans.specs.Code.Kept.{AreBitsOfNodes, IsLowestOutside}
 use Rattle.ov_fans.specs.declared.piece.Piece.{Piece}
 use Rattle.ov_fans.specs.declared.piece.Piece.TheVariants.{Fan}
 use Rattle.ov_fans.proofs.PieceCuts.Refuted.{far_exists}
@@ -30,12 +29,12 @@ true_or_not true = inl refl
 true_or_not false = inr (λ e. both_ways false refl e)
 
 -- the first bit of the rest is that of the lowest node outside the other row
-pub lowest_picked : (g : LinkGraph) (row other rest : List ℕ) (words p : ℕ) → IsGraph g → IsRowOf g.nodes row
+pub lowest_picked : (g : LinkGraph) (row other rest : List ℕ) (words p : ℕ) → IsGraph g → AreBitsOfNodes g.nodes row
     → AreWordsFor (length g.nodes) words → AreWithout row other words rest → IsFirstFrom rest 0 p
     → IsLowestOutside (picked other 0 g.nodes) (picked row 0 g.nodes) (node_at g p)
 lowest_picked g row other rest words p graph kept wide is first =
     let b = (is p).0 first.set in
-    let l = kept.within p b.1 in
+    let l = kept p b.1 in
     record {
       member = in_picked row 0 g.nodes p l (bit_moved row p (0 + p) (omega arith) b.1);
       outside = λ h. b.2 ((node_picked g other (node_at g p) p graph l refl).0 h);

@@ -13,6 +13,10 @@ use Rattle.ov_fans.specs.declared.piece_net.Aim.{Aim}
 abbrev pub group_at : LinkGraph → List ℕ → SettlerState
 group_at g places = record { graph = g; members = map (node_at g) places }
 
+-- the row has bits only at places of these nodes
+abbrev pub AreBitsOfNodes : List ℕ → List ℕ → Type 0
+AreBitsOfNodes nodes row = (p : ℕ) → HasBit row p → p < length nodes
+
 -- these are one or more places of nodes, ascending, and the row has their bits
 pub record AreMemberPlaces (g : LinkGraph) (places row : List ℕ) : Type 0 where
   pub graph : IsGraph g
@@ -23,7 +27,7 @@ pub record AreMemberPlaces (g : LinkGraph) (places row : List ℕ) : Type 0 wher
   pub bits : (p : ℕ) → HasBit row p ↔ Has places p
 
 -- n is the net of the aim in g. Its places are those of nodes, and the source is neither avoided nor a target
-pub record IsAimFor (g : LinkGraph) (n : SplitNetState) (aim : Aim) : Type 0 where
+pub record IsAimFor {W : ℕ} (g : LinkGraph) (n : SplitNetState) (aim : Aim W) : Type 0 where
   pub net : net_at g aim.avoided aim.source aim.targets ≡ n
   pub source : aim.source < length g.nodes
   pub avoided : IfSome aim.avoided (λ p. (p < length g.nodes) × (p ≢ aim.source))

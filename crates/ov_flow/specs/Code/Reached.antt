@@ -60,11 +60,11 @@ pub record IsGrownBy (n : SplitNetState) (from : Table) (order parents : List �
   pub sees : (w : ℕ) → HasBit seen w → (Has n.avoided w ⊎ (w ≡ n.source)) ⊎ IsTaken n from order w
 
 -- the same for a `Tree`
-abbrev pub IsGrown : SplitNetState → Table → Tree → Type 0
+abbrev pub IsGrown : {W : ℕ} → SplitNetState → Table → Tree W → Type 0
 IsGrown n from t = IsGrownBy n from t.order.items t.parents.items t.ways.items t.reached t.seen
 
 -- the tree of a search, by some table
-abbrev pub IsTreeOf : SplitNetState → Tree → Type 0
+abbrev pub IsTreeOf : {W : ℕ} → SplitNetState → Tree W → Type 0
 IsTreeOf n t = (from : Table) × IsGrown n from t
 
 -- xs is a prefix of ys
@@ -72,29 +72,29 @@ abbrev pub Extends : List ℕ → List ℕ → Type 0
 Extends xs ys = (length xs ≤ length ys) × ((k : ℕ) → k < length xs → slice_index ys k ≡ slice_index xs k)
 
 -- each node that was reached or seen still is
-pub record IsMore (old new : Tree) : Type 0 where
+pub record IsMore {W : ℕ} (old new : Tree W) : Type 0 where
   pub order : Extends old.order.items new.order.items
   pub seen : (w : ℕ) → HasBit old.seen w → HasBit new.seen w
 
 -- no target is reached
-abbrev pub IsClean : SplitNetState → Tree → Type 0
+abbrev pub IsClean : {W : ℕ} → SplitNetState → Tree W → Type 0
 IsClean n t = (x : ℕ) → Has t.order.items x → ¬ Has n.targets x
 
 -- the last node reached is a target
-abbrev pub IsSearchEnded : SplitNetState → Tree → Type 0
+abbrev pub IsSearchEnded : {W : ℕ} → SplitNetState → Tree W → Type 0
 IsSearchEnded n t = Has n.targets (get_or t.order.items (length t.order.items - 1) 0)
 
 -- no target is reached, and each node that x is linked to is seen
-pub record IsSweptAt (n : SplitNetState) (x : ℕ) (t : Tree) : Type 0 where
+pub record IsSweptAt {W : ℕ} (n : SplitNetState) (x : ℕ) (t : Tree W) : Type 0 where
   pub clean : IsClean n t
   pub links : (w : ℕ) → Linked n.graph x w → HasBit t.seen w
 
 -- each step from x was taken, and no target is reached
-pub record IsVisited (n : SplitNetState) (from : Table) (x : ℕ) (t : Tree) : Type 0 where
+pub record IsVisited {W : ℕ} (n : SplitNetState) (from : Table) (x : ℕ) (t : Tree W) : Type 0 where
   pub swept : IsSweptAt n x t
   pub back : (u : ℕ) → from x ≡ Some u → Has t.order.items u
 
 -- a search found no target: it is stuck, and each node that a reached node is linked to is seen
-pub record IsSwept (n : SplitNetState) (from : Table) (t : Tree) : Type 0 where
+pub record IsSwept {W : ℕ} (n : SplitNetState) (from : Table) (t : Tree W) : Type 0 where
   pub stuck : IsStuck n from t.order.items
   pub links : (x w : ℕ) → Has t.order.items x → Linked n.graph x w → HasBit t.seen w

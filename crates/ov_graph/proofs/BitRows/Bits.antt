@@ -8,12 +8,13 @@ use Rattle.std.proofs.lemmas.Nat.{mod_below, div-add-mod', div-mul-add, mod-mul-
 use Rattle.std.proofs.lemmas.Nat.Bits.{bit_at_and, bit_at_not, bit_at-trailing_zeros, bit_at-lt, bit_at-zero}
 use Rattle.std.proofs.lemmas.Nat.Bits.{bit_at_above, same_from_bits_below}
 use Rattle.std.proofs.Math.ListN.{get_or-eq_default}
-use Rattle.std.proofs.Math.Nat.{div-div-eq-div-mul}
+use Rattle.std.proofs.Math.Nat.{div-div-eq-div-mul, div-le_self}
 use Rattle.std.specs.Int.{bit_at, trailing_zeros, bit_not}
 use Rattle.ov_graph.specs.declared.bit_rows.TheConstants.{EMPTY, WORDS}
 use Rattle.ov_graph.specs.Links.{most_nodes}
-use Rattle.ov_graph.specs.Row.{has_bit, HasBit, IsFirstFrom, AreWordsFor}
-use Rattle.ov_graph.specs.Code.Shifts.{IsLowest}
+use Rattle.ov_graph.specs.Row.{has_bit, HasBit, AreWordsFor}
+use Rattle.ov_graph.specs.Code.Shifts.{IsLowestFrom, HoldsNowhere}
+use Rattle.ov_graph.specs.Neighbours.{IsFirst}
 
 -- a set bit is a 1
 pub bit_one : (row : List ℕ) (p : ℕ) → HasBit row p → bit_at (slice_index row (p / 64)) (p % 64) ≡ 1
@@ -115,87 +116,84 @@ clear_bit row p a l none others q = elim (cases_eq q p) [
   | inr ne ↦ let b = bit_elsewhere row p a l others q ne in ((λ h. (ne, b.0 h)), (λ h. b.1 h.1))
 ]
 
--- the lowest bit of a word that is not 0
-pub lowest_bit : (word : ℕ) → 0 < word → word < 2 ^ 64 → IsLowest word (trailing_zeros w64 word)
-lowest_bit word pos fits =
-    let h = bit_at-trailing_zeros w64 word pos fits in
-    record { below = h.0; set = h.1; first = h.2 }
-
 -- the bits of a word that is shifted down
 pub bit_shifted : (word k i : ℕ) → bit_at (word / 2 ^ k) i ≡ bit_at word (k + i)
 bit_shifted word k i = ap (λ (n : ℕ). n % 2)
     (div-div-eq-div-mul word (2 ^ k) (2 ^ i) ∙ ap (λ (n : ℕ). word / n) (sym (pow-add 2 k i)))
 
--- a set bit of a shifted word is a bit of the word
-pub in_word : (word k t : ℕ) → word < 2 ^ 64 → IsLowest (word / 2 ^ k) t → k + t < 64
-in_word word k t fits low =
-    let one : bit_at word (k + t) ≡ 1 = sym (bit_shifted word k t) ∙ low.set in
-    elim (cases_lt (k + t) 64) [
-      | inl l ↦ l
-      | inr ge ↦ let z = bit_at_above word 64 (k + t) fits ge in absurd (omega (arith, z, one))
-    ]
-
--- the first set bit of a shifted word
-pub first_in_word : (row : List ℕ) (from t : ℕ) → slice_index row (from / 64) < 2 ^ 64
-    → IsLowest (slice_index row (from / 64) / 2 ^ (from % 64)) t → IsFirstFrom row from (from + t)
-first_in_word row from t fits low =
-    let word = slice_index row (from / 64) in
-    let k = from % 64 in
-    let d = div-add-mod' from 64 in
-    let one : bit_at word (k + t) ≡ 1 = sym (bit_shifted word k t) ∙ low.set in
-    let below = in_word word k t fits low in
+-- the first bit from `start` on is the lowest of the shifted word
+pub lowest_bit : (word start : ℕ) → 0 < word / 2 ^ start → word < 2 ^ 64
+    → IsLowestFrom word start (start + trailing_zeros w64 (word / 2 ^ start))
+lowest_bit word start pos fits =
+    let left = word / 2 ^ start in
+    let less : left ≤ word = div-le_self word (2 ^ start) in
+    let h = bit_at-trailing_zeros w64 left pos (omega (arith, less, fits)) in
+    let t = trailing_zeros w64 left in
+    let one : bit_at word (start + t) ≡ 1 = sym (bit_shifted word start t) ∙ h.1 in
     record {
       reached = omega arith;
-      set = bit_in row (from / 64) (k + t) (from + t) below (omega (arith, d)) one;
-      first = λ q l m h.
-          let i : ℕ = q - from in
-          let o = bit_of row (from / 64) (k + i) q (omega (arith, l, m, below)) (omega (arith, d, l)) h in
-          let s = bit_shifted word k i in
-          let z = low.first i (omega (arith, l, m)) in
-          omega (arith, o, s, z);
+      below = elim (cases_lt (start + t) 64) [
+        | inl l ↦ l
+        | inr ge ↦ let z = bit_at_above word 64 (start + t) fits ge in absurd (omega (arith, z, one))
+      ];
+      set = one;
+      first = λ i a b.
+          let k : ℕ = i - start in
+          let e : start + k ≡ i = omega (arith, a) in
+          sym (ap (bit_at word) e) ∙ sym (bit_shifted word start k) ∙ h.2 k (omega (arith, a, b));
     }
 
 -- the shifted word is 0
-pub none_in_word : (row : List ℕ) (from : ℕ) → slice_index row (from / 64) / 2 ^ (from % 64) ≡ 0 → (q : ℕ) → from ≤ q
-    → q < 64 * (from / 64 + 1) → ¬ HasBit row q
-none_in_word row from none q l m h =
-    let word = slice_index row (from / 64) in
-    let k = from % 64 in
-    let d = div-add-mod' from 64 in
-    let i : ℕ = q - from in
-    let o = bit_of row (from / 64) (k + i) q (omega (arith, d, l, m)) (omega (arith, d, l)) h in
-    let s = bit_shifted word k i in
-    let z : bit_at (word / 2 ^ k) i ≡ bit_at 0 i = ap (λ (n : ℕ). bit_at n i) none in
-    let y = bit_at-zero i in
-    omega (arith, o, s, z, y)
+pub none_left : (word start : ℕ) → word / 2 ^ start ≡ 0 → (i : ℕ) → start ≤ i → bit_at word i ≡ 0
+none_left word start none i l =
+    let k : ℕ = i - start in
+    let e : start + k ≡ i = omega (arith, l) in
+    sym (ap (bit_at word) e) ∙ sym (bit_shifted word start k) ∙ ap (λ (n : ℕ). bit_at n k) none ∙ bit_at-zero k
 
--- the first set bit of a later word
-pub first_later : (row : List ℕ) (from later t : ℕ) → from ≤ 64 * later
-    → ((q : ℕ) → from ≤ q → q < 64 * later → ¬ HasBit row q) → IsLowest (slice_index row later) t
-    → IsFirstFrom row from (64 * later + t)
-first_later row from later t l none low = record {
-  reached = omega (arith, l);
-  set = bit_in row later t (64 * later + t) low.below refl low.set;
-  first = λ q a b h. elim (cases_lt q (64 * later)) [
-    | inl c ↦ none q a c h
-    | inr ge ↦
-        let i : ℕ = q - 64 * later in
-        let w = low.below in
-        let o = bit_of row later i q (omega (arith, b, w, ge)) (omega (arith, ge)) h in
-        let z = low.first i (omega (arith, b, ge)) in
-        absurd (omega (arith, o, z))
-  ];
-}
+-- the bits of v are those places of one word of a row for which P holds
+abbrev pub Shows : (ℕ → Type 0) → ℕ → ℕ → Type 0
+Shows P word v = (i : ℕ) → i < 64 → (bit_at v i ≡ 1) ↔ P (64 * word + i)
 
--- a word that is 0 has no bit set
-pub none_more : (row : List ℕ) (from later : ℕ) → slice_index row later ≡ 0
-    → ((q : ℕ) → from ≤ q → q < 64 * later → ¬ HasBit row q) → (q : ℕ) → from ≤ q → q < 64 * (later + 1)
-    → ¬ HasBit row q
-none_more row from later z none q a b h = elim (cases_lt q (64 * later)) [
+pub shows_row : (row : List ℕ) (word : ℕ) → Shows (HasBit row) word (slice_index row word)
+shows_row row word i l = (bit_in row word i (64 * word + i) l refl, bit_of row word i (64 * word + i) l refl)
+
+-- the first place of one more word
+pub first_more : (P : ℕ → Type 0) (from word start v t : ℕ) → Shows P word v → from ≤ 64 * word + start
+    → HoldsNowhere P from (64 * word + start) → IsLowestFrom v start t → IsFirst P from (64 * word + t)
+first_more P from word start v t shows l none low =
+    let r = low.reached in
+    record {
+      reached = omega (arith, l, r);
+      holds = (shows t low.below).0 low.set;
+      first = λ q a b h. elim (cases_lt q (64 * word + start)) [
+        | inl c ↦ none q a c h
+        | inr ge ↦
+            let w = low.below in
+            let i : ℕ = q - 64 * word in
+            let e : q ≡ 64 * word + i = omega (arith, ge) in
+            let o = (shows i (omega (arith, b, w, ge))).1 (subst P e h) in
+            let z = low.first i (omega (arith, ge)) (omega (arith, b, ge)) in
+            absurd (omega (arith, o, z))
+      ];
+    }
+
+-- one more word shows no place
+pub none_more : (P : ℕ → Type 0) (from word start v : ℕ) → Shows P word v → HoldsNowhere P from (64 * word + start)
+    → ((i : ℕ) → start ≤ i → i < 64 → bit_at v i ≡ 0) → HoldsNowhere P from (64 * (word + 1))
+none_more P from word start v shows none zero q a b h = elim (cases_lt q (64 * word + start)) [
   | inl c ↦ none q a c h
-  | inr ge ↦ let e : q / 64 ≡ later = omega (arith, div-mul-add later 64 (q - 64 * later) (omega (arith, b, ge)), ge) in
-      no_word row q (ap (λ (w : ℕ). slice_index row w) e ∙ z) h
+  | inr ge ↦
+      let i : ℕ = q - 64 * word in
+      let e : q ≡ 64 * word + i = omega (arith, ge) in
+      let o = (shows i (omega (arith, b, ge))).1 (subst P e h) in
+      let z = zero i (omega (arith, ge)) (omega (arith, b, ge)) in
+      absurd (omega (arith, o, z))
 ]
+
+-- the same of what holds for the same places
+pub first_by : (P Q : ℕ → Type 0) (from p : ℕ) → ((q : ℕ) → P q ↔ Q q) → IsFirst P from p → IsFirst Q from p
+first_by P Q from p same first =
+    record { reached = first.reached; holds = (same p).0 first.holds; first = λ q a b h. first.first q a b ((same q).1 h) }
 
 -- a row of words that are 0 has no bit
 pub no_bits : (n p : ℕ) → ¬ HasBit (replicate n 0) p
@@ -238,8 +236,11 @@ word_more row word a P l before here q =
     ]
 
 -- no word is written yet
+pub no_word_of : (n : ℕ) (P : ℕ → Type 0) (q : ℕ) → HasBit (replicate n 0) q ↔ ((q < 64 * 0) × P q)
+no_word_of n P q = ((λ h. absurd (no_bits n q h)), (λ h. absurd (let l = h.0 in omega (arith, l))))
+
 pub no_word_yet : (P : ℕ → Type 0) (q : ℕ) → HasBit EMPTY q ↔ ((q < 64 * 0) × P q)
-no_word_yet P q = ((λ h. absurd (empty_bit q h)), (λ h. absurd (let l = h.0 in omega (arith, l))))
+no_word_yet P q = no_word_of WORDS P q
 
 -- rows whose words are equal have the same bits, and equal bits make equal words
 pub agree_more : (a b : List ℕ) (word : ℕ) → slice_index a word ≡ slice_index b word
@@ -276,6 +277,12 @@ word_of : (row : List ℕ) (word q : ℕ) → q / 64 ≡ word
     → bit_at (slice_index row word) (q % 64) ≡ bit_at (slice_index row (q / 64)) (q % 64)
 word_of row word q e = ap (λ (w : ℕ). bit_at (slice_index row w) (q % 64)) (sym e)
 
+-- the bits of one word
+pub same_bits : (row : List ℕ) (word q : ℕ) → q / 64 ≡ word
+    → (bit_at (slice_index row word) (q % 64) ≡ 1) ↔ HasBit row q
+same_bits row word q e =
+    let u = word_of row word q e in ((λ h. one_bit row q (sym u ∙ h)), (λ h. u ∙ bit_one row q h))
+
 -- the bits of two words that are set in both
 pub both_bits : (a b : List ℕ) (word q : ℕ) → q / 64 ≡ word
     → (bit_at (bit_and (slice_index a word) (slice_index b word)) (q % 64) ≡ 1) ↔ (HasBit a q × HasBit b q)
@@ -287,6 +294,32 @@ both_bits a b word q e =
     let v = word_of b word q e in (
       (λ h. (one_bit a q (omega (arith, x, p, r, u, h)), one_bit b q (omega (arith, x, p, r, v, h)))),
       (λ h. let i = bit_one a q h.0 in let j = bit_one b q h.1 in omega (arith, x, u, v, i, j)),
+    )
+
+-- a word shows the bits that are set in one row and not in another, or in both
+pub shows_without : (a b : List ℕ) (word v : ℕ)
+    → ((i : ℕ) → i < 64
+    → (bit_at v i ≡ 1) ↔ ((bit_at (slice_index a word) i ≡ 1) × ¬ (bit_at (slice_index b word) i ≡ 1)))
+    → Shows (λ q. HasBit a q × ¬ HasBit b q) word v
+shows_without a b word v minus i l =
+    let p = 64 * word + i in
+    let m = minus i l in (
+      (λ h. let r = m.0 h in (bit_in a word i p l refl r.0, λ k. r.1 (bit_of b word i p l refl k))),
+      (λ h. m.1 (bit_of a word i p l refl h.0, λ k. h.1 (bit_in b word i p l refl k))),
+    )
+
+pub shows_both : (a b : List ℕ) (word : ℕ)
+    → Shows (λ q. HasBit a q × HasBit b q) word (bit_and (slice_index a word) (slice_index b word))
+shows_both a b word i l =
+    let p = 64 * word + i in
+    let x = bit_at_and (slice_index a word) (slice_index b word) i in
+    let u = bit_at-lt (slice_index a word) i in
+    let v = bit_at-lt (slice_index b word) i in (
+      (λ h. (bit_in a word i p l refl (omega (arith, x, u, v, h)), bit_in b word i p l refl (omega (arith, x, u, v, h)))),
+      (λ h.
+          let m = bit_of a word i p l refl h.0 in
+          let n = bit_of b word i p l refl h.1 in
+          omega (arith, x, m, n)),
     )
 
 -- in the first words of `kept` the bits are those of row a that are not set in row b

@@ -12,7 +12,7 @@ use Rattle.ov_ids.specs.Members.{Has, Ascends}
 use Rattle.ov_ids.specs.Sets.{has, count_below}
 use Rattle.ov_ids.proofs.Members.{has_tested, has_place, place_of, ordered_at}
 
-never_falls : (xs : List ℕ) → Ascends xs → (i j : ℕ) → i ≤ j → j < length xs → get_or xs i 0 ≤ get_or xs j 0
+pub never_falls : (xs : List ℕ) → Ascends xs → (i j : ℕ) → i ≤ j → j < length xs → get_or xs i 0 ≤ get_or xs j 0
 never_falls xs up i j l m = elim (cases_eq i j) [
   | inl e ↦ let f : get_or xs i 0 ≡ get_or xs j 0 = ap (λ (k : ℕ). get_or xs k 0) e in omega (arith, f)
   | inr ne ↦ let r : get_or xs i 0 < get_or xs j 0 = ordered_at (λ x y. x < y) xs i j 0 up (omega arith) m in

@@ -1,18 +1,19 @@
 -- Rows with the bits of links.
 use Rattle.std.proofs.Common.{◌≡◌, ◌≢◌, ◌∙◌, ◌↔◌, ◌⊎◌, ℕ, ◌+◌, ◌<◌, ◌≤◌, List, [], ◌∷◌, ◌++◌, length, replicate, set}
-use Rattle.std.proofs.Common.{slice_index, inl, inr, refl, sym, ap, ap₂, subst, arith}
+use Rattle.std.proofs.Common.{slice_index, inl, inr, refl, sym, ap, subst, arith}
 use Rattle.std.proofs.lemmas.Bool.{cases_order, cases_eq, cases_lt}
 use Rattle.std.proofs.lemmas.List.{get_or-set_same, get_or-set_other, get_or-replicate, length-replicate, get_or_past}
 use Rattle.ov_ids.specs.Members.{Has, Ascends}
-use Rattle.ov_ids.proofs.Members.{has_append_left, has_append_right, has_append_cases, place_of, ordered_at}
+use Rattle.ov_ids.proofs.Members.{place_of, ordered_at}
 use Rattle.ov_ids.proofs.Members.{same_ordered}
 use Rattle.ov_graph.specs.Links.{LinkGraph, IsGraph, Precedes, Linked, most_nodes}
 use Rattle.ov_graph.specs.Row.{HasBit}
 use Rattle.ov_graph.specs.Code.Kept.{row_at, links_read, graph_kept, IsKept, IsMarked}
 use Rattle.ov_graph.proofs.BitRows.Bits.{bit_moved, no_row}
-use Rattle.ov_graph.proofs.BitRows.Read.{has_read, in_read, ordered_read, one_place, row_below}
+use Rattle.ov_graph.proofs.BitRows.Read.{has_read, in_read, ordered_read, row_below}
 use Rattle.ov_graph.proofs.EvenTest.Walks.{linked_sym}
 use Rattle.ov_graph.proofs.GraphValues.OneGraph.{not_self}
+use Rattle.ov_graph.proofs.GraphValues.OneMoreLink.{more_joined}
 
 abbrev graph_of : List ℕ → List (ℕ × ℕ) → LinkGraph
 graph_of nodes links = record { nodes = nodes; links = links }
@@ -110,61 +111,11 @@ pub more_marked : (nodes : List ℕ) (links : List (ℕ × ℕ)) (rows rows1 row
     ((r s : ℕ) → HasBit (row_at rows1 r) s ↔ (((r ≡ p) × (s ≡ q)) ⊎ HasBit (row_at rows r) s))
     → ((r s : ℕ) → HasBit (row_at rows2 r) s ↔ (((r ≡ q) × (s ≡ p)) ⊎ HasBit (row_at rows1 r) s)) →
     IsMarked nodes links rows → IsMarked nodes (links ++ (a, b) ∷ []) rows2
-unfolding Linked
-more_marked nodes links rows rows1 rows2 p q a b up pl ql e f same first second marked =
-    let new : (r s : ℕ) → r ≡ p → s ≡ q → Has (links ++ (a, b) ∷ []) (slice_index nodes r, slice_index nodes s) =
-    λ r s u v.
-    has_append_right links ((a, b) ∷ []) (slice_index nodes r, slice_index nodes s)
-    (inl (ap₂ (λ (x y : ℕ). (x, y)) (sym e ∙ ap (λ (i : ℕ). slice_index nodes i) (sym u))
-    (sym f ∙ ap (λ (i : ℕ). slice_index nodes i) (sym v)))) in
-    let old : (l : ℕ × ℕ) → Has links l → Has (links ++ (a, b) ∷ []) l = λ l h.
-    has_append_left links ((a, b) ∷ []) l h in
-    let ends : (r s : ℕ) → r < length nodes → s < length nodes
-    → Has {X = ℕ × ℕ} ((a, b) ∷ []) (slice_index nodes r, slice_index nodes s)
-    → (r ≡ p) × (s ≡ q) = λ r s rl sl h. elim h [
-      | inl t ↦ (
-        one_place nodes r p up rl pl (sym (ap (λ (l : ℕ × ℕ). l.0) t) ∙ sym e),
-        one_place nodes s q up sl ql (sym (ap (λ (l : ℕ × ℕ). l.1) t) ∙ sym f),
-      )
-      | inr w ↦ absurd w
-    ] in
-    record {
-      each = same ∙ marked.each;
-      bits = λ r s. (
-        (λ h. elim ((second r s).0 h) [
-          | inl t ↦ (
-            subst (λ (i : ℕ). i < length nodes) (sym t.0) ql,
-            subst (λ (i : ℕ). i < length nodes) (sym t.1) pl,
-            inr (new s r t.1 t.0),
-          )
-          | inr k ↦ elim ((first r s).0 k) [
-            | inl t ↦ (
-              subst (λ (i : ℕ). i < length nodes) (sym t.0) pl,
-              subst (λ (i : ℕ). i < length nodes) (sym t.1) ql,
-              inl (new r s t.0 t.1),
-            )
-            | inr m ↦ let b = (marked.bits r s).0 m in (
-              b.0,
-              b.1,
-              elim b.2 [
-                | inl g ↦ inl (old (slice_index nodes r, slice_index nodes s) g)
-                | inr g ↦ inr (old (slice_index nodes s, slice_index nodes r) g)
-              ],
-            )
-          ]
-        ]),
-        (λ h. elim h.2 [
-          | inl g ↦ elim (has_append_cases links ((a, b) ∷ []) (slice_index nodes r, slice_index nodes s) g) [
-            | inl k ↦ (second r s).1 (inr ((first r s).1 (inr ((marked.bits r s).1 (h.0, h.1, inl k)))))
-            | inr k ↦ (second r s).1 (inr ((first r s).1 (inl (ends r s h.0 h.1 k))))
-          ]
-          | inr g ↦ elim (has_append_cases links ((a, b) ∷ []) (slice_index nodes s, slice_index nodes r) g) [
-            | inl k ↦ (second r s).1 (inr ((first r s).1 (inr ((marked.bits r s).1 (h.0, h.1, inr k)))))
-            | inr k ↦ let t = ends s r h.1 h.0 k in (second r s).1 (inl (t.1, t.0))
-          ]
-        ]),
-      );
-    }
+more_marked nodes links rows rows1 rows2 p q a b up pl ql e f same first second marked = record {
+  each = same ∙ marked.each;
+  bits = more_joined nodes links (λ r s. HasBit (row_at rows r) s) (λ r s. HasBit (row_at rows1 r) s)
+      (λ r s. HasBit (row_at rows2 r) s) p q a b up pl ql e f first second marked.bits;
+}
 
 -- the bits of rows after one row is replaced
 pub set_row : (rows : List (List ℕ)) (p : ℕ) (row : List ℕ) → p < length rows

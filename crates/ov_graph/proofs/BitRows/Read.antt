@@ -204,7 +204,7 @@ all_append : {X : Type 0} (P : X → Type 0) (xs ys : List X) → AllByRecursion
 all_append P [] ys a b = b
 all_append P (x ∷ xs) ys a b = (a.0, all_append P xs ys a.1 b)
 
-ordered_append : {X : Type 0} (R : X → X → Type 0) (xs ys : List X) → Ordered R xs → Ordered R ys
+pub ordered_append : {X : Type 0} (R : X → X → Type 0) (xs ys : List X) → Ordered R xs → Ordered R ys
     → ((x y : X) → Has xs x → Has ys y → R x y) → Ordered R (xs ++ ys)
 ordered_append R [] ys f g across = g
 ordered_append R (x ∷ xs) ys f g across = (

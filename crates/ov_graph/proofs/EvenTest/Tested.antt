@@ -13,8 +13,8 @@ use Rattle.ov_ids.specs.FaultOrder.{HoldsThen, Passed, IsRefusedBy}
 use Rattle.ov_ids.proofs.Members.{has_from_any, any_from_has, has_tested, all_member, all_from_members}
 use Rattle.ov_ids.proofs.Rising.{ascends_tested}
 use Rattle.ov_ids.proofs.Stepping.{step_unless, step_none, step_passes}
-use Rattle.ov_graph.specs.Links.{LinkGraph, IsGraph, IsWithinLimit, IsLink, Precedes, Linked, most_nodes}
-use Rattle.ov_graph.specs.Faults.{GraphJudged, NodesJudged, LinksJudged, LinkJoins, LinkComesAfter}
+use Rattle.ov_graph.specs.Links.{LinkGraph, IsGraph, IsLink, Precedes, Linked}
+use Rattle.ov_graph.specs.Faults.{JudgedWithin, NodesJudged, LinksJudged, LinkJoins, LinkComesAfter}
 use Rattle.ov_graph.specs.Code.Tests.{precedes, nodes_fault, order_fault, links_fault, fault_of, are_joined}
 use Rattle.ov_graph.specs.declared.fault.GraphFault.{GraphFault}
 use Rattle.ov_graph.specs.declared.fault.GraphFault.TheVariants.{TooManyNodes, UnorderedNode, BadLink, UnorderedLink}
@@ -115,13 +115,13 @@ nodes_judged at (Some b) (node ∷ xs) After x h =
     (nodes_judged (suc at) (Some node) xs After x h)
 
 -- the fault that the tests find is the first one
-pub judged : (nodes : List ℕ) (ls : List (ℕ × ℕ)) → GraphJudged nodes ls (fault_of nodes ls)
-judged nodes ls =
-    step_unless (length nodes ≤ most_nodes) (nat_lt most_nodes (length nodes)) (TooManyNodes (length nodes) most_nodes)
+pub judged : (most : ℕ) (nodes : List ℕ) (ls : List (ℕ × ℕ)) → JudgedWithin most nodes ls (fault_of most nodes ls)
+judged most nodes ls =
+    step_unless (length nodes ≤ most) (nat_lt most (length nodes)) (TooManyNodes (length nodes) most)
     (NodesJudged 0 None nodes (LinksJudged nodes 0 None ls))
     (option_or (nodes_fault 0 None nodes) (links_fault nodes 0 None ls))
-    (λ t l. let m = ltb-true most_nodes (length nodes) t in omega (arith, l, m))
-    (λ f. ltb-false most_nodes (length nodes) f)
+    (λ t l. let m = ltb-true most (length nodes) t in omega (arith, l, m))
+    (λ f. ltb-false most (length nodes) f)
     (nodes_judged 0 None nodes (LinksJudged nodes 0 None ls) (links_fault nodes 0 None ls)
     (links_judged nodes 0 None ls))
 
@@ -196,10 +196,10 @@ ascends_unless_fault nodes h =
     (ascends_tested nodes (ascends_after None nodes) refl).0 (nodes_sound 0 None nodes Passed k).0
 
 -- nodes and links without a fault are a graph
-pub sound : (nodes : List ℕ) (ls : List (ℕ × ℕ)) → GraphJudged nodes ls None
-    → IsGraph (record { nodes = nodes; links = ls }) × (length nodes ≤ most_nodes)
-sound nodes ls j =
-    let p = step_none (length nodes ≤ most_nodes) (TooManyNodes (length nodes) most_nodes)
+pub sound : (most : ℕ) (nodes : List ℕ) (ls : List (ℕ × ℕ)) → JudgedWithin most nodes ls None
+    → IsGraph (record { nodes = nodes; links = ls }) × (length nodes ≤ most)
+sound most nodes ls j =
+    let p = step_none (length nodes ≤ most) (TooManyNodes (length nodes) most)
     (NodesJudged 0 None nodes (LinksJudged nodes 0 None ls)) j in
     let q = nodes_sound 0 None nodes (LinksJudged nodes 0 None ls) p.1 in
     let r = links_sound nodes 0 None ls q.1 in
@@ -248,35 +248,38 @@ no_links_fault nodes at before (l ∷ ls) x f up each j =
     (order_passes at before l After x f.0 (link_passes nodes at l (LinkComesAfter at before l After) x each.0 j))
 
 -- a graph's nodes and links have no fault
-pub no_fault : (g : LinkGraph) (x : Option GraphFault) → IsGraph g → IsWithinLimit g → GraphJudged g.nodes g.links x
-    → x ≡ None
-no_fault g x graph within j =
+pub no_fault : (most : ℕ) (g : LinkGraph) (x : Option GraphFault) → IsGraph g → length g.nodes ≤ most
+    → JudgedWithin most g.nodes g.links x → x ≡ None
+no_fault most g x graph within j =
     no_links_fault g.nodes 0 None g.links x (all_from_members (ComesAfter None) g.links (λ l h. tt)) graph.links_ascend
     (all_from_members (IsLink g.nodes) g.links graph.joins)
     (nodes_pass 0 None g.nodes (LinksJudged g.nodes 0 None g.links) x
     ((ascends_tested g.nodes (ascends_after None g.nodes) refl).1 graph.nodes_ascend)
-    (step_passes (length g.nodes ≤ most_nodes) (TooManyNodes (length g.nodes) most_nodes)
+    (step_passes (length g.nodes ≤ most) (TooManyNodes (length g.nodes) most)
     (NodesJudged 0 None g.nodes (LinksJudged g.nodes 0 None g.links)) x within j))
 
-pub no_fault_found : (g : LinkGraph) → IsGraph g → IsWithinLimit g → fault_of g.nodes g.links ≡ None
-no_fault_found g graph within = no_fault g (fault_of g.nodes g.links) graph within (judged g.nodes g.links)
+pub no_fault_found : (most : ℕ) (g : LinkGraph) → IsGraph g → length g.nodes ≤ most
+    → fault_of most g.nodes g.links ≡ None
+no_fault_found most g graph within =
+    no_fault most g (fault_of most g.nodes g.links) graph within (judged most g.nodes g.links)
 
-pub passed : (nodes : List ℕ) (ls : List (ℕ × ℕ)) → fault_of nodes ls ≡ None → GraphJudged nodes ls None
-passed nodes ls h = subst (GraphJudged nodes ls) h (judged nodes ls)
+pub passed : (most : ℕ) (nodes : List ℕ) (ls : List (ℕ × ℕ)) → fault_of most nodes ls ≡ None
+    → JudgedWithin most nodes ls None
+passed most nodes ls h = subst (JudgedWithin most nodes ls) h (judged most nodes ls)
 
 -- the fault that is found is the first one
-pub refused : (nodes : List ℕ) (ls : List (ℕ × ℕ)) (e : GraphFault) → fault_of nodes ls ≡ Some e
-    → IsRefusedBy OutOfMemory (GraphJudged nodes ls) e
-refused nodes ls e h = inl (subst (GraphJudged nodes ls) h (judged nodes ls))
+pub refused : (most : ℕ) (nodes : List ℕ) (ls : List (ℕ × ℕ)) (e : GraphFault) → fault_of most nodes ls ≡ Some e
+    → IsRefusedBy OutOfMemory (JudgedWithin most nodes ls) e
+refused most nodes ls e h = inl (subst (JudgedWithin most nodes ls) h (judged most nodes ls))
 
 -- where nodes and links have no fault, out of memory is the refusal
-pub out_of_memory : (nodes : List ℕ) (ls : List (ℕ × ℕ)) → fault_of nodes ls ≡ None
-    → IsRefusedBy OutOfMemory (GraphJudged nodes ls) OutOfMemory
-out_of_memory nodes ls h = inr (refl, passed nodes ls h)
+pub out_of_memory : (most : ℕ) (nodes : List ℕ) (ls : List (ℕ × ℕ)) → fault_of most nodes ls ≡ None
+    → IsRefusedBy OutOfMemory (JudgedWithin most nodes ls) OutOfMemory
+out_of_memory most nodes ls h = inr (refl, passed most nodes ls h)
 
-pub graph_of : (nodes : List ℕ) (ls : List (ℕ × ℕ)) → fault_of nodes ls ≡ None
-    → IsGraph (record { nodes = nodes; links = ls }) × (length nodes ≤ most_nodes)
-graph_of nodes ls h = sound nodes ls (passed nodes ls h)
+pub graph_of : (most : ℕ) (nodes : List ℕ) (ls : List (ℕ × ℕ)) → fault_of most nodes ls ≡ None
+    → IsGraph (record { nodes = nodes; links = ls }) × (length nodes ≤ most)
+graph_of most nodes ls h = sound most nodes ls (passed most nodes ls h)
 
 has_pair_or_not : (ls : List (ℕ × ℕ)) (a b : ℕ) → Has ls (a, b) ⊎ (¬ Has ls (a, b))
 has_pair_or_not [] a b = inr (λ h. h)
@@ -324,24 +327,24 @@ nodes_judged_once at (Some b) (n ∷ xs) After x y one p q =
     (nodes_judged_once (suc at) (Some n) xs After x y one) p q
 
 -- nodes and links have one first fault
-pub judged_once : (nodes : List ℕ) (ls : List (ℕ × ℕ)) (x y : Option GraphFault) → GraphJudged nodes ls x
-    → GraphJudged nodes ls y → x ≡ y
-judged_once nodes ls x y p q =
-    step_once (length nodes ≤ most_nodes) (TooManyNodes (length nodes) most_nodes)
+pub judged_once : (most : ℕ) (nodes : List ℕ) (ls : List (ℕ × ℕ)) (x y : Option GraphFault)
+    → JudgedWithin most nodes ls x → JudgedWithin most nodes ls y → x ≡ y
+judged_once most nodes ls x y p q =
+    step_once (length nodes ≤ most) (TooManyNodes (length nodes) most)
     (NodesJudged 0 None nodes (LinksJudged nodes 0 None ls)) x y
     (nodes_judged_once 0 None nodes (LinksJudged nodes 0 None ls) x y (links_judged_once nodes 0 None ls x y)) p q
 
 -- it is the computed one
-pub computed : (nodes : List ℕ) (ls : List (ℕ × ℕ)) (x : Option GraphFault) → GraphJudged nodes ls x
-    → fault_of nodes ls ≡ x
-computed nodes ls x j = judged_once nodes ls (fault_of nodes ls) x (judged nodes ls) j
+pub computed : (most : ℕ) (nodes : List ℕ) (ls : List (ℕ × ℕ)) (x : Option GraphFault) → JudgedWithin most nodes ls x
+    → fault_of most nodes ls ≡ x
+computed most nodes ls x j = judged_once most nodes ls (fault_of most nodes ls) x (judged most nodes ls) j
 
 -- a refusal other than out of memory is the first fault
-pub judged_refusal : (nodes : List ℕ) (ls : List (ℕ × ℕ)) (e : GraphFault) → e ≢ OutOfMemory
-    → IsRefusedBy OutOfMemory (GraphJudged nodes ls) e → GraphJudged nodes ls (Some e)
-judged_refusal nodes ls e ne j = elim j [ inl k ↦ k | inr m ↦ absurd (ne m.0) ]
+pub judged_refusal : (most : ℕ) (nodes : List ℕ) (ls : List (ℕ × ℕ)) (e : GraphFault) → e ≢ OutOfMemory
+    → IsRefusedBy OutOfMemory (JudgedWithin most nodes ls) e → JudgedWithin most nodes ls (Some e)
+judged_refusal most nodes ls e ne j = elim j [ inl k ↦ k | inr m ↦ absurd (ne m.0) ]
 
 -- a refusal other than out of memory is the computed fault
-pub computed_refusal : (nodes : List ℕ) (ls : List (ℕ × ℕ)) (e : GraphFault) → e ≢ OutOfMemory
-    → IsRefusedBy OutOfMemory (GraphJudged nodes ls) e → fault_of nodes ls ≡ Some e
-computed_refusal nodes ls e ne j = computed nodes ls (Some e) (judged_refusal nodes ls e ne j)
+pub computed_refusal : (most : ℕ) (nodes : List ℕ) (ls : List (ℕ × ℕ)) (e : GraphFault) → e ≢ OutOfMemory
+    → IsRefusedBy OutOfMemory (JudgedWithin most nodes ls) e → fault_of most nodes ls ≡ Some e
+computed_refusal most nodes ls e ne j = computed most nodes ls (Some e) (judged_refusal most nodes ls e ne j)

@@ -4,7 +4,6 @@ use Rattle.std.specs.Prelude.{Option, Some, None}
 use Rattle.std.specs.List.{list_any}
 use Rattle.std.specs.Option.{option_map, option_or}
 use Rattle.ov_ids.specs.Sets.{has}
-use Rattle.ov_graph.specs.Links.{most_nodes}
 use Rattle.ov_graph.specs.declared.fault.GraphFault.{GraphFault}
 use Rattle.ov_graph.specs.declared.fault.GraphFault.TheVariants.{TooManyNodes, UnorderedNode, BadLink, UnorderedLink}
 use Rattle.ov_graph.specs.declared.fault.LinkFlaw.{LinkFlaw}
@@ -47,8 +46,8 @@ links_fault nodes at before (l ∷ rest) =
     option_or (option_map (λ flaw. BadLink at l flaw) (link_flaw nodes l))
     (option_or (order_fault at before l) (links_fault nodes (suc at) (Some l) rest))
 
--- the first fault of nodes and links: the one that `GraphJudged` names
-abbrev pub fault_of : List ℕ → List (ℕ × ℕ) → Option GraphFault
-fault_of nodes links =
-    if nat_lt most_nodes (length nodes) then Some (TooManyNodes (length nodes) most_nodes)
+-- the first fault of nodes and links: the one that `JudgedWithin` names
+abbrev pub fault_of : ℕ → List ℕ → List (ℕ × ℕ) → Option GraphFault
+fault_of most nodes links =
+    if nat_lt most (length nodes) then Some (TooManyNodes (length nodes) most)
     else option_or (nodes_fault 0 None nodes) (links_fault nodes 0 None links)

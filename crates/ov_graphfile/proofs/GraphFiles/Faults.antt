@@ -4,8 +4,8 @@ use Rattle.std.specs.Prelude.{⊤}
 use Rattle.std.proofs.Common.{Option, Some, None, refl, ap, sym, subst, arith, inl, inr}
 use Rattle.std.proofs.lemmas.Option.{slice_get-get_or}
 use Rattle.ov_ids.specs.FaultOrder.{HoldsThen, IsRefusedBy}
-use Rattle.ov_graph.specs.Faults.{GraphJudged, NodesJudged, LinksJudged, LinkJoins, LinkComesAfter}
-use Rattle.ov_graph.specs.Links.{Precedes, most_nodes}
+use Rattle.ov_graph.specs.Faults.{JudgedWithin, NodesJudged, LinksJudged, LinkJoins, LinkComesAfter}
+use Rattle.ov_graph.specs.Links.{Precedes}
 use Rattle.ov_graph.specs.declared.fault.GraphFault.{GraphFault}
 use Rattle.ov_graph.specs.declared.fault.GraphFault.TheVariants.{TooManyNodes, UnorderedNode, BadLink, UnorderedLink}
 use Rattle.ov_graph.specs.declared.fault.GraphFault.TheVariants.{OutOfMemory}
@@ -76,10 +76,10 @@ links_placed n m at nodes before (l ∷ links) x room judged =
     (links_placed n m (suc at) nodes (Some l) links x (omega (arith, room)))) judged
 
 -- the first fault of nodes and links
-placed : (nodes : List ℕ) (links : List (ℕ × ℕ)) (x : Option GraphFault) → GraphJudged nodes links x
+placed : (most : ℕ) (nodes : List ℕ) (links : List (ℕ × ℕ)) (x : Option GraphFault) → JudgedWithin most nodes links x
     → IsPlaced (length nodes) (length links) x
-placed nodes links x judged =
-    step (length nodes) (length links) (length nodes ≤ most_nodes) (TooManyNodes (length nodes) most_nodes)
+placed most nodes links x judged =
+    step (length nodes) (length links) (length nodes ≤ most) (TooManyNodes (length nodes) most)
     (NodesJudged 0 None nodes (LinksJudged nodes 0 None links)) x (λ many. omega (arith, many))
     (nodes_placed (length nodes) (length links) 0 None nodes (LinksJudged nodes 0 None links) x (omega arith)
     (links_placed (length nodes) (length links) 0 nodes None links x (omega arith))) judged
@@ -119,11 +119,12 @@ line_there bytes (UnorderedLink at l before) within none =
 line_there bytes OutOfMemory within none = within
 
 -- a fault without a line is out of memory
-pub no_line : (bytes : List ℕ) (fault : GraphFault)
-    → IsRefusedBy OutOfMemory (GraphJudged (nodes_said (graph_lines bytes)) (links_said (graph_lines bytes))) fault
+pub no_line : (most : ℕ) (bytes : List ℕ) (fault : GraphFault)
+    → IsRefusedBy OutOfMemory (JudgedWithin most (nodes_said (graph_lines bytes)) (links_said (graph_lines bytes)))
+    fault
     → line_at_fault bytes fault ≡ None
     → fault ≡ OutOfMemory
-no_line bytes fault (inl judged) none =
+no_line most bytes fault (inl judged) none =
     absurd (line_there bytes fault
-    (placed (nodes_said (graph_lines bytes)) (links_said (graph_lines bytes)) (Some fault) judged) none)
-no_line bytes fault (inr memory) none = memory.0
+    (placed most (nodes_said (graph_lines bytes)) (links_said (graph_lines bytes)) (Some fault) judged) none)
+no_line most bytes fault (inr memory) none = memory.0

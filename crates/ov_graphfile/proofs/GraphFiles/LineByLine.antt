@@ -7,7 +7,7 @@ use Rattle.std.proofs.lemmas.List.{length-map, length-take, map-append, take-app
 use Rattle.ov_lines.specs.Lines.{first_line, is_skipped, kept_from, kept_lines, words_of}
 use Rattle.ov_lines.proofs.Lines.Kept.{kept, skipped}
 use Rattle.ov_lines.proofs.Lines.Lined.{lines_first}
-use Rattle.ov_graph.specs.Links.{most_nodes}
+use Rattle.ov_graph.specs.declared.size_limit.SizeLimit.{SizeLimit}
 use Rattle.ov_graphfile.specs.GraphFiles.{graph_line, link_said, node_said, IsGraphFileFault}
 use Rattle.ov_graphfile.specs.Code.Told.{name_by, names_in}
 use Rattle.ov_graphfile.specs.Code.UnreadAt.{IsUnreadAt}
@@ -77,15 +77,16 @@ line_taken bytes nodes links left line later n m nodes_then links_then g some fi
           gains joins e refl (reads e)
 
 -- the next line ends the reading
-pub line_unread : (bytes nodes : List ℕ) (links : List (ℕ × ℕ)) (left line later : List ℕ) (n : ℕ) (f : GraphFileFault)
+pub line_unread : (limit : SizeLimit) (bytes nodes : List ℕ) (links : List (ℕ × ℕ)) (left line later : List ℕ) (n : ℕ)
+    (f : GraphFileFault)
     → Gathers bytes nodes links (kept_from n (lines left)) → 0 < length left → (line, later) ≡ first_line left
-    → IsUnreadAt n line f → IsGraphFileFault bytes f
-line_unread bytes nodes links left line later n (fault.Line u) g some first is =
+    → IsUnreadAt n line f → IsGraphFileFault limit bytes f
+line_unread limit bytes nodes links left line later n (fault.Line u) g some first is =
     unread bytes nodes links (kept_from n (lines left)) (kept_from (n + 1) (lines later)) n line g
     (kept n (n + 1) left line later some first refl is.1) is.2
     ∙ ap Some (sym is.0)
-line_unread bytes nodes links left line later n (fault.Graph graph_fault at') g some first is = absurd is
-line_unread bytes nodes links left line later n fault.OutOfMemory g some first is = tt
+line_unread limit bytes nodes links left line later n (fault.Graph graph_fault at') g some first is = absurd is
+line_unread limit bytes nodes links left line later n fault.OutOfMemory g some first is = tt
 
 -- ---- names
 
@@ -111,28 +112,29 @@ none_kept f most told names x are full =
     let long : most ≤ length names = omega (arith, same, length-take most names, full) in
     are ∙ sym (take-append-le most names (f x ∷ []) long)
 
--- Some names, behind which come those of the lines that are left, are the names of all lines. Of them as many are kept
--- as a graph may have nodes. The line `before` precedes those that are left
-pub record AreTold (bytes : List ℕ) (told : List (Option (List ℕ))) (before left : List ℕ) : Type 0 where
+-- Some names, behind which come those of the lines that are left, are the names of all lines. Of them `most` are kept.
+-- The line `before` precedes those that are left
+pub record AreTold (most : ℕ) (bytes : List ℕ) (told : List (Option (List ℕ))) (before left : List ℕ) : Type 0 where
   pub names : List (Option (List ℕ))
-  pub kept : told ≡ take most_nodes names
+  pub kept : told ≡ take most names
   pub whole : names ++ names_in before (lines left) ≡ names_in [] (lines bytes)
 
 -- no line was read
-pub none_told : (bytes : List ℕ) (told : List (Option (List ℕ))) → told ≡ [] → AreTold bytes told [] bytes
-none_told bytes told none = record {
+pub none_told : (most : ℕ) (bytes : List ℕ) (told : List (Option (List ℕ))) → told ≡ []
+    → AreTold most bytes told [] bytes
+none_told most bytes told none = record {
   names = [];
-  kept = none ∙ sym (take_all most_nodes [] (omega arith));
+  kept = none ∙ sym (take_all most [] (omega arith));
   whole = refl;
 }
 
 -- one line more
-pub line_told : (bytes : List ℕ) (told then : List (Option (List ℕ))) (before left line later : List ℕ)
-    → AreTold bytes told before left → 0 < length left → (line, later) ≡ first_line left
-    → ((names : List (Option (List ℕ))) → told ≡ take most_nodes names
-    → then ≡ take most_nodes (names ++ map (name_by before) (node_said (graph_line line))))
-    → AreTold bytes then line later
-line_told bytes told then before left line later t some first gains =
+pub line_told : (most : ℕ) (bytes : List ℕ) (told then : List (Option (List ℕ))) (before left line later : List ℕ)
+    → AreTold most bytes told before left → 0 < length left → (line, later) ≡ first_line left
+    → ((names : List (Option (List ℕ))) → told ≡ take most names
+    → then ≡ take most (names ++ map (name_by before) (node_said (graph_line line))))
+    → AreTold most bytes then line later
+line_told most bytes told then before left line later t some first gains =
     let own : List (Option (List ℕ)) = map (name_by before) (node_said (graph_line line)) in
     record {
       names = t.names ++ own;

@@ -1,5 +1,5 @@
 -- What a part of a text means, and the places that are marked for the parts so far.
-use Rattle.std.specs.Prelude.{◌≡◌, ℕ, ◌<◌, ◌≤◌, ◌↔◌, List, length, slice_index_or, Some, None}
+use Rattle.std.specs.Prelude.{◌≡◌, ℕ, ◌<◌, ◌↔◌, List, length, slice_index_or, Some, None}
 use Rattle.ov_graph.specs.Paths.{node_at}
 use Rattle.ov_graph.specs.Row.{HasBit}
 use Rattle.ov_graphfile.specs.NamesState.{NamesState}
@@ -17,13 +17,6 @@ IsOwner names part Several = IsShared names part
 abbrev pub IsNumeralAt : NamesState → ℕ → Type 0
 IsNumeralAt names p =
     (n : ℕ) × (name : List ℕ) × (slice_index_or names.told p None ≡ Some name) × SpellsId name n
-
--- p is the first place from `from` on with this name
-pub record IsFirstNamed (names : NamesState) (part : List ℕ) (from p : ℕ) : Type 0 where
-  pub reached : from ≤ p
-  pub below : p < length names.graph.nodes
-  pub here : slice_index_or names.told p None ≡ Some part
-  pub first : (q : ℕ) → from ≤ q → q < p → ¬ (slice_index_or names.told q None ≡ Some part)
 
 -- the row has the places of the nodes that the first `done` parts mean, each of which means a node of its own
 pub record AreMarked (names : NamesState) (parts : List (List ℕ)) (row : List ℕ) (done : ℕ) : Type 0 where

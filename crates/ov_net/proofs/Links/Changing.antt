@@ -1,11 +1,12 @@
 -- What one change does to a graph.
-use Rattle.std.proofs.Common.{◌≡◌, ◌≢◌, ◌↔◌, ◌⊎◌, ℕ, suc, ◌+◌, ◌<◌, List, ◌∷◌, length, drop}
-use Rattle.std.proofs.Common.{Bool, IsTrue, get_or, Option, Some, inl, inr, refl, sym, ap, subst, ◌∙◌, arith}
+use Rattle.std.proofs.Common.{◌≡◌, ◌≢◌, ◌↔◌, ◌⊎◌, ℕ, suc, ◌+◌, ◌<◌, ◌≤◌, List, ◌∷◌, length, drop}
+use Rattle.std.proofs.Common.{Bool, IsTrue, get_or, Option, None, Some, inl, inr, refl, sym, ap, subst, ◌∙◌, arith}
 use Rattle.std.proofs.Math.Seq.{drop-cons}
 use Rattle.std.specs.FinMap as map
 use Rattle.std.specs.Ordering.{nat_cmp}
 use Rattle.ov_ids.specs.Members.{Has}
-use Rattle.ov_graph.specs.Links.{LinkGraph, IsGraph, Linked}
+use Rattle.ov_ids.proofs.Sets.{length-adding, length-without}
+use Rattle.ov_graph.specs.Links.{LinkGraph, IsGraph, IsSmall, Linked, most_nodes}
 use Rattle.ov_graph.specs.Changes.{ArePair, GainsNode, LosesNode, LosesLink}
 use Rattle.ov_graph.proofs.EvenTest.Filtered.{linked_node}
 use Rattle.ov_graph.proofs.EvenTest.Walks.{linked_sym}
@@ -94,6 +95,25 @@ unlinked_rests g a b none = record {
       | inl q ↦ none (subst (λ u. Linked g u b) q.0 (subst (λ v. Linked g x v) q.1 l))
       | inr q ↦ none (linked_sym g b a (subst (λ u. Linked g u a) q.0 (subst (λ v. Linked g x v) q.1 l)))
     ]
+
+-- a small graph stays small
+pub small_kept : (members : map.FinMap nat_cmp Member) (c : Change) (g h : LinkGraph) → IsChanged members c g h
+    → IsSmall g → IsSmall h
+small_kept members (Born a) g h e small = subst IsSmall (sym e) small
+small_kept members (Up a b) g h changed small =
+    subst (λ (ns : List ℕ). length ns ≤ most_nodes) (sym changed.nodes) small
+small_kept members (Down a b) g h changed small =
+    subst (λ (ns : List ℕ). length ns ≤ most_nodes) (sym changed.nodes) small
+small_kept members (Gone a) g h changed small =
+    let less = length-without a g.nodes in
+    subst (λ (ns : List ℕ). length ns ≤ most_nodes) (sym changed.nodes) (omega (arith, less, small))
+
+pub small_gained : (newborn : Option ℕ) (g h : LinkGraph) → MayGain newborn g → Gains newborn g h → IsSmall h
+small_gained None g h may gains = subst IsSmall (sym gains) may
+small_gained (Some a) g h may gains =
+    let more = length-adding a g.nodes in
+    let room = may.1 in
+    subst (λ (ns : List ℕ). length ns ≤ most_nodes) (sym gains.nodes) (omega (arith, more, room))
 
 -- each live node stays in the graph
 pub live_kept : (members : map.FinMap nat_cmp Member) (c : Change) (g h : LinkGraph) → IsChanged members c g h

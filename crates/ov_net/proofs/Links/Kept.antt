@@ -447,7 +447,7 @@ by_journal c g tells is = links_of c g tells is.graph is.nodes (λ a b. (
 ))
 
 -- ids that are keys of a map are no more than the map has
-few_keys : (xs : List ℕ) (m : map.FinMap nat_cmp Member) → Ascends xs → ((a : ℕ) → Has xs a → map.get m a ≢ None)
+pub few_keys : (xs : List ℕ) (m : map.FinMap nat_cmp Member) → Ascends xs → ((a : ℕ) → Has xs a → map.get m a ≢ None)
     → length xs ≤ map.len m
 few_keys [] m up all = omega arith
 few_keys (x ∷ xs) m up all =

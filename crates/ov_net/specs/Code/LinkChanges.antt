@@ -3,7 +3,7 @@ use Rattle.std.specs.Prelude.{◌≡◌, ◌≢◌, ◌↔◌, ◌⊎◌, ℕ, �
 use Rattle.std.specs.Ordering.{nat_cmp}
 use Rattle.std.specs.FinMap as map
 use Rattle.ov_ids.specs.Members.{Has}
-use Rattle.ov_graph.specs.Links.{LinkGraph, IsGraph, Linked, most_nodes}
+use Rattle.ov_graph.specs.Links.{LinkGraph, IsGraph, IsSmall, Linked, most_nodes}
 use Rattle.ov_graph.specs.Changes.{ArePair, GainsNode, LosesNode, LosesLink}
 use Rattle.ov_peer.specs.PeerState.{PeerState}
 use Rattle.ov_net.specs.declared.event.Event.{Event}
@@ -35,9 +35,9 @@ newborn_of (Broadcast a payload) = None
 newborn_of (Timer a id) = None
 newborn_of Snapshot = None
 
--- the newborn node, if there is one, is not in the graph, which has room for one node more
+-- the graph is small. The newborn node, if there is one, is not in it, and there is room for one node more
 abbrev pub MayGain : Option ℕ → LinkGraph → Type 0
-MayGain None g = Unit {0}
+MayGain None g = IsSmall g
 MayGain (Some a) g = (¬ Has g.nodes a) × (length g.nodes < most_nodes)
 
 -- h is the graph g with the newborn node, if there is one

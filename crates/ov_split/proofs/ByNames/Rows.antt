@@ -1,17 +1,19 @@
 -- A net that is kept by rows of bits.
 use Rattle.std.proofs.Common.{◌≡◌, ◌∙◌, ◌↔◌, ℕ, ◌+◌, ◌<◌, inl, inr, List, [], ◌∷◌, Option, Some, None}
-use Rattle.std.proofs.Common.{map, length, refl, ◌≢◌, IfSome, ap, subst, arith}
+use Rattle.std.proofs.Common.{map, length, refl, ◌≢◌, IfSome, IfNone, ap, subst, arith}
 use Rattle.ov_ids.specs.Members.{Has}
 use Rattle.ov_ids.proofs.Members.{has_place, same_ascending}
 use Rattle.ov_graph.specs.Links.{LinkGraph, IsGraph, Linked}
 use Rattle.ov_graph.specs.Joined.{IsNodeSet}
 use Rattle.ov_graph.specs.Paths.{node_at}
+use Rattle.ov_graph.specs.Neighbours.{AreLinkedAt, IsFirst, HoldsNoMore, IsOutside, IsWithin}
 use Rattle.ov_graph.specs.Row.{HasBit}
 use Rattle.ov_graph.specs.Row.{picked}
-use Rattle.ov_graph.proofs.BitRows.Bits.{bit_moved}
+use Rattle.ov_graph.proofs.BitRows.Bits.{bit_moved, first_by}
 use Rattle.ov_graph.proofs.BitRows.Read.{has_picked, picked_at, ascends_picked, none_picked}
 use Rattle.ov_split.specs.SplitNetState.{IsSplitNet}
 use Rattle.ov_split.specs.Places.{place_in, net_by_place, node_if}
+use Rattle.ov_split.specs.Placed.{LinksOutside, LinksWithin}
 use Rattle.ov_split.specs.Code.Rows.{net_kept, IsNetKept}
 use Rattle.ov_split.proofs.ByNames.Mapped.{has_map, map_has}
 use Rattle.ov_split.proofs.ByNames.ByPlace.{place_below, place_of_node, from_places, linked_by_place}
@@ -56,6 +58,17 @@ bits_placed g row graph below p =
           (picked_at row g.nodes p up l).0 (from_places g graph (picked row 0 g.nodes) set p h)),
     )
 
+-- what is first, or no more, stays so under another name
+pub first_renamed : (r : Option ℕ) (P Q : ℕ → Type 0) (from : ℕ) → ((q : ℕ) → P q ↔ Q q) → IfSome r (IsFirst P from)
+    → IfSome r (IsFirst Q from)
+first_renamed None P Q from same h = tt
+first_renamed (Some p) P Q from same h = first_by P Q from p same h
+
+pub none_renamed : (r : Option ℕ) (P Q : ℕ → Type 0) (from : ℕ) → ((q : ℕ) → P q ↔ Q q)
+    → IfNone r (HoldsNoMore P from) → IfNone r (HoldsNoMore Q from)
+none_renamed None P Q from same h = λ q l m. h q l ((same q).1 m)
+none_renamed (Some p) P Q from same h = tt
+
 module _ (g : LinkGraph) (avoided : List ℕ) (source : ℕ) (targets : List ℕ)
     (kept : IsNetKept g avoided source targets) where
   pub source_placed : (net_by_place (net_kept g avoided source targets)).source ≡ source
@@ -70,16 +83,23 @@ module _ (g : LinkGraph) (avoided : List ℕ) (source : ℕ) (targets : List ℕ
   unfolding net_by_place
   avoided_placed = bits_placed g avoided kept.graph kept.avoided_below
 
-  -- the bits of the row of the node at a place
-  pub links_placed : (row : List ℕ) (p : ℕ) → p < length g.nodes
-      → ((q : ℕ) → HasBit row q ↔ ((q < length g.nodes) × Linked g (node_at g p) (node_at g q))) → (q : ℕ)
-      → HasBit row q ↔ Linked (net_by_place (net_kept g avoided source targets)).graph p q
+  -- the places of the neighbours of the node at a place
+  linked_placed : (p : ℕ) → p < length g.nodes → (q : ℕ)
+      → AreLinkedAt g p q ↔ Linked (net_by_place (net_kept g avoided source targets)).graph p q
   unfolding net_by_place
-  links_placed row p l bits q =
-      let by = linked_by_place g kept.graph p q in (
-        (λ b. let k = (bits q).0 b in by.1 (l, k.0, k.1)),
-        (λ h. let k = by.0 h in (bits q).1 (k.1, k.2)),
-      )
+  linked_placed p l q =
+      let by = linked_by_place g kept.graph p q in
+      ((λ b. by.1 (l, b.0, b.1)), (λ h. let k = by.0 h in (k.1, k.2)))
+
+  pub outside_placed : (set : List ℕ) (p : ℕ) → p < length g.nodes → (q : ℕ)
+      → IsOutside g p set q ↔ LinksOutside (net_by_place (net_kept g avoided source targets)) p set q
+  outside_placed set p l q =
+      let m = linked_placed p l q in ((λ h. (m.0 h.0, h.1)), (λ h. (m.1 h.0, h.1)))
+
+  pub within_placed : (set : List ℕ) (p : ℕ) → p < length g.nodes → (q : ℕ)
+      → IsWithin g p set q ↔ LinksWithin (net_by_place (net_kept g avoided source targets)) p set q
+  within_placed set p l q =
+      let m = linked_placed p l q in ((λ h. (m.0 h.0, h.1)), (λ h. (m.1 h.0, h.1)))
 
 -- the node at the one place whose bit is set
 pub one_picked : (g : LinkGraph) (row : List ℕ) (place : Option ℕ) → IsGraph g

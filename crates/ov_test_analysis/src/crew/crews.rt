@@ -76,6 +76,31 @@ static LINKED: Row = Row {
     side: &[],
 };
 
+/// More nodes than a graph of rows of bits has. The others have three paths to three of those before them, and are not
+/// linked to each other: so the fan of node 5 is the first piece that does not have four.
+pub(crate) static HUBS: Row = Row {
+    family: Family::Hubs,
+    nodes: 1_100,
+    members: 1_100,
+    k: 3,
+    cut: &[1, 2, 3],
+    near: 5,
+    far: 4,
+    side: &[5],
+};
+
+/// Five of these nodes are the group. The answer is the same.
+pub(crate) static FEW_OF_HUBS: Row = Row {
+    family: Family::Hubs,
+    nodes: 1_100,
+    members: 5,
+    k: 3,
+    cut: &[1, 2, 3],
+    near: 5,
+    far: 4,
+    side: &[5],
+};
+
 /// The ids have these numbers.
 fn are(ids: &[NodeId], numbers: &[u32]) -> bool {
     for (id, number) in ids.iter().zip(numbers) {
@@ -196,7 +221,7 @@ fn find_both_ways<R: Threads + Sync>(
 #[test]
 fn the_same_for_1_2_5_and_64_workers(rt: HostRuntime) -> Result<(), Fail> {
     for count in [1, 2, 5, 64] {
-        for row in [&PETERSEN, &RING, &TWO_SIDES] {
+        for row in [&PETERSEN, &RING, &TWO_SIDES, &HUBS] {
             assert!(rt; find_both_ways(&rt, rt.alloc(), row, count)?);
         }
     }
@@ -215,19 +240,24 @@ fn two_workers_meet(rt: HostRuntime) -> Result<(), Fail> {
 /// Of an analysis that hires sparingly, the levels that pay get two workers, which meet.
 #[test]
 fn a_level_that_pays_gets_two_workers(rt: HostRuntime) -> Result<(), Fail> {
-    let meeting = Meeting::new();
-    let mut opening = Opening { meeting: &meeting };
-    let is_found = find_watched(&rt, rt.alloc(), &TWO_SIDES, 2, &meeting, &mut opening)?;
-    assert!(rt; is_found && meeting.saw_both());
+    for row in [&TWO_SIDES, &HUBS] {
+        let meeting = Meeting::new();
+        let mut opening = Opening { meeting: &meeting };
+        let is_found = find_watched(&rt, rt.alloc(), row, 2, &meeting, &mut opening)?;
+        assert!(rt; is_found && meeting.saw_both());
+    }
     Ok(())
 }
 
-/// Of an analysis that hires sparingly, no level of the Petersen graph pays a second worker.
+/// Of an analysis that hires sparingly, no level of the Petersen graph pays a second worker, nor one of few members of
+/// a large graph.
 #[test]
 fn a_level_that_does_not_pay_gets_one_worker(rt: HostRuntime) -> Result<(), Fail> {
-    let gate = Holding::new();
-    let is_found = find_watched(&rt, rt.alloc(), &PETERSEN, 4, &gate, &mut Unwatched)?;
-    assert!(rt; is_found && gate.saw_one() && !gate.saw_another());
+    for row in [&PETERSEN, &FEW_OF_HUBS] {
+        let gate = Holding::new();
+        let is_found = find_watched(&rt, rt.alloc(), row, 4, &gate, &mut Unwatched)?;
+        assert!(rt; is_found && gate.saw_one() && !gate.saw_another());
+    }
     Ok(())
 }
 

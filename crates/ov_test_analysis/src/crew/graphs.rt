@@ -18,6 +18,8 @@ pub(crate) enum Family {
     /// Each of the nodes 1 to 32 to each other one. Of the 16 arms, which are the nodes 33 to 48, the first one to the
     /// nodes 1 to 32, and each later one to two of them fewer. Each arm to the nodes from 49 on.
     Falling,
+    /// Each of the nodes 1 to 3 to each other one.
+    Hubs,
 }
 
 impl Family {
@@ -30,6 +32,7 @@ impl Family {
             Family::TwoSides => apart % 2 == 1,
             Family::All => true,
             Family::Falling => are_falling(low, high),
+            Family::Hubs => low <= 3,
         }
     }
 }
@@ -49,7 +52,7 @@ fn are_falling(low: u32, high: u32) -> bool {
     low > 32 && low <= 48
 }
 
-/// The graph of the nodes 1 to `last`.
+/// The graph of the nodes 1 to `last`, which may be more than 1,024.
 pub(crate) fn of_size(alloc: Global, family: Family, last: u32) -> Result<Graph, GraphFault> {
     let mut nodes = Vec::new(alloc);
     let mut links = Vec::new(alloc);
@@ -57,7 +60,7 @@ pub(crate) fn of_size(alloc: Global, family: Family, last: u32) -> Result<Graph,
         nodes.push(NodeId(low))?;
         push_links(family, low, last, &mut links)?;
     }
-    Graph::new(alloc, &nodes, &links)
+    Graph::large(alloc, &nodes, &links)
 }
 
 /// Adds the links of a node to higher ones, ascending.

@@ -1,4 +1,5 @@
 //! Of each line that can't be read something is said.
+use ov_graph::SizeLimit;
 use ov_graphfile::{GraphFileFault, read_graph};
 use ov_reasons::{graph_reasons, scenario_reasons};
 use std::alloc::{AllocError, Global};
@@ -104,7 +105,7 @@ fn has_words_of_fault(alloc: Global, file: &[u8], fault: &GraphFileFault) -> boo
 
 /// Whether something is said of each line of a graph file that is at fault.
 fn has_words_of_graph(alloc: Global, file: &[u8]) -> bool {
-    let read = read_graph(alloc, file);
+    let read = read_graph(alloc, SizeLimit::Usual, file);
     match &read {
         Ok(_) => false,
         Err(fault) => has_words_of_fault(alloc, file, fault),

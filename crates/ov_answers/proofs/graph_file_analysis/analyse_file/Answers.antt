@@ -9,7 +9,7 @@ returns g c =
     let read = c.in_ok-bytes in
     record {
       analysis = record {
-        analysis = analysis_of_reader g.W.Write.contents c.args.sink.now c.analyse_bytes.new.sink
+        analysis = analysis_of_reader c.args.limit g.W.Write.contents c.args.sink.now c.analyse_bytes.new.sink
             (option_map (λ ids. ids.now) c.args.group) c.args.certificate (g.R.Read.remaining c.args.source.now.reader)
             read.bytes.items c.deref.result.now c.analyse_bytes.result read.ensures.bytes c.deref.ensures.value
             c.analyse_bytes.ensures.analysis;

@@ -1,32 +1,25 @@
--- One node is taken away, and then the others.
-use Rattle.std.proofs.Common.{◌∙◌, ◌∷◌, ◌+◌, drop, ap, sym, subst, List, ℕ}
-use Rattle.std.proofs.lemmas.List.{drop_more, drop_all}
+-- The graph of the nodes and the links that are left.
+use Rattle.std.proofs.Common.{◌≡◌, ◌∙◌, ℕ, List, ap, ap₂}
 use Rattle.ov_graph.specs.Links.{LinkGraph}
-use Rattle.ov_answers.specs.Fewer.{LosesNodes}
-use Rattle.ov_answers.proofs.Fewer.{loses_more, loses_nobody}
+use Rattle.ov_answers.specs.Code.Left.{ids_left, links_left}
+use Rattle.ov_answers.proofs.Left.{loses}
 use Rattle.ov_answers.proofs.graph_without_nodes.graph_without.Goals as goal
 
-pub loop-id-init : goal.loop-id-init
-loop-id-init c = (
-  c.nodes.ensures.graph,
-  (λ h loses. subst (λ (g : LinkGraph). LosesNodes g c.args.gone.now h)
-      c.in_ok-left.ensures loses),
-)
+abbrev the_graph : List ℕ → List (ℕ × ℕ) → LinkGraph
+the_graph nodes links = record { nodes = nodes; links = links }
 
-pub loop-id-preserved : goal.loop-id-preserved
-loop-id-preserved c =
-    let gone = c.args.gone.now in
-    let i = c.loop-id.id-index in
-    let id = c.id-item.result in
-    let later = drop (i + 1) gone in
-    let here = drop_more gone i id c.loop-id-test.true ∙ ap (λ (x : ℕ). x ∷ later) (sym c.id-item.is) in (
-      c.remove_node.ensures.graph,
-      (λ h loses. c.loop-id.invariant.1 h
-          (subst (λ (s : List ℕ). LosesNodes c.loop-id.left s h) (sym here)
-          (loses_more c.loop-id.left c.remove_node.new.self h id later c.remove_node.ensures.node loses))),
-    )
-
-pub returns : goal.returns
-returns c = c.loop-id.invariant.1 c.loop-id.left (subst (λ (s : List ℕ). LosesNodes c.loop-id.left s c.loop-id.left)
-    (sym (drop_all c.loop-id.id-index c.args.gone.now c.loop-id-test.false))
-    (loses_nobody c.loop-id.left c.loop-id.invariant.0))
+pub returns-in-Ok : goal.returns-in-Ok
+returns-in-Ok c =
+    let g = c.args.graph.now in
+    let ordered = c.in_ok-gone.gone.items in
+    let nodes = c.in_ok-nodes.nodes.items in
+    let links = c.in_ok-links.links.items in
+    let nodes_are : nodes ≡ ids_left ordered g.nodes =
+    c.in_ok-nodes.ensures ∙ ap₂ (λ (s xs : List ℕ). ids_left s xs) c.deref.ensures.value c.nodes.ensures.nodes in
+    let links_are : links ≡ links_left ordered g.links =
+    c.in_ok-links.ensures ∙ ap (λ (s : List ℕ). links_left s g.links) c.deref-2.ensures.value in
+    let made : c.in-Ok.left ≡ record { nodes = nodes; links = links } =
+    c.in-Ok.ensures.graph
+    ∙ ap₂ (λ (ns : List ℕ) (ls : List (ℕ × ℕ)). the_graph ns ls) c.deref-3.ensures.value c.deref-4.ensures.value in
+    loses g c.in-Ok.left c.args.gone.now ordered nodes links c.in_ok-gone.ensures.same nodes_are links_are made
+    c.in-Ok.ensures.is_graph

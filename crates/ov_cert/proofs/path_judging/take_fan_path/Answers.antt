@@ -7,7 +7,7 @@ use Rattle.ov_cert.proofs.PathRules.FlawTests.{fan_by_ends, wrong_end, after_end
 use Rattle.ov_cert.proofs.path_judging.take_fan_path.Goals as goal
 
 pub returns-then-not-is_earlier-clause-flaw : goal.returns-then-not-is_earlier-clause-flaw
-returns-then-not-is_earlier-clause-flaw c =
+returns-then-not-is_earlier-clause-flaw g c =
     wrong_end _ _ c.in-Some.ends.first c.in-Some.ends.last _ (not_false _ (sym c.ne.ensures ∙ c.if-ne.false))
     (sym c.is_earlier.ensures ∙ c.if-not-is_earlier.true)
     ∙ sym (fan_by_ends c.args.graph.now c.args.group.now c.args.used.now.members c.args.j c.in-Some.ends.first
@@ -15,7 +15,7 @@ returns-then-not-is_earlier-clause-flaw c =
     c.in-Some.ensures.1)
 
 pub returns-in-Some-unlinked_step-clause-flaw : goal.returns-in-Some-unlinked_step-clause-flaw
-returns-in-Some-unlinked_step-clause-flaw c =
+returns-in-Some-unlinked_step-clause-flaw g c =
     after_ends _ _ c.in-Some.ends.first c.in-Some.ends.last _ _ (not_false _ (sym c.ne.ensures ∙ c.if-ne.false))
     (sym c.is_earlier.ensures ∙ c.if-not-is_earlier.false)
     (wrong_step (chain_flaw c.args.graph.now c.args.path.now)
@@ -26,7 +26,7 @@ returns-in-Some-unlinked_step-clause-flaw c =
     c.in-Some.ensures.1)
 
 pub returns-in-Some-enter_all-clause-flaw : goal.returns-in-Some-enter_all-clause-flaw
-returns-in-Some-enter_all-clause-flaw c =
+returns-in-Some-enter_all-clause-flaw g c =
     after_ends _ _ c.in-Some.ends.first c.in-Some.ends.last _ _ (not_false _ (sym c.ne.ensures ∙ c.if-ne.false))
     (sym c.is_earlier.ensures ∙ c.if-not-is_earlier.false)
     (wrong_id (chain_flaw c.args.graph.now c.args.path.now)
@@ -39,7 +39,7 @@ returns-in-Some-enter_all-clause-flaw c =
     c.in-Some.ensures.1)
 
 pub returns-in-None-clause-flaw : goal.returns-in-None-clause-flaw
-returns-in-None-clause-flaw c =
+returns-in-None-clause-flaw g c =
     after_ends _ _ c.in-Some.ends.first c.in-Some.ends.last _ _ (not_false _ (sym c.ne.ensures ∙ c.if-ne.false))
     (sym c.is_earlier.ensures ∙ c.if-not-is_earlier.false)
     (no_flaw (chain_flaw c.args.graph.now c.args.path.now)

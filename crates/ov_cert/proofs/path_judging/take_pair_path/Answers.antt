@@ -8,7 +8,7 @@ use Rattle.ov_cert.proofs.PathRules.FlawTests.{pair_by_ends, wrong_end, after_en
 use Rattle.ov_cert.proofs.path_judging.take_pair_path.Goals as goal
 
 pub returns-then-ne-2-clause-flaw : goal.returns-then-ne-2-clause-flaw
-returns-then-ne-2-clause-flaw c =
+returns-then-ne-2-clause-flaw g c =
     wrong_end _ _ c.in-Some.ends.first c.in-Some.ends.last _ (not_false _ (sym c.ne.ensures ∙ c.if-ne.false))
     (not_true _ (sym c.ne-2.ensures ∙ c.if-ne-2.true))
     ∙ sym (pair_by_ends c.args.graph.now c.args.used.now.members c.args.i c.args.j c.in-Some.ends.first
@@ -16,7 +16,7 @@ returns-then-ne-2-clause-flaw c =
     (c.in-Some.ensures.0 ∙ ap (λ t. c.in-Some.ends.first ∷ t) c.in-Some.ensures.1))
 
 pub returns-in-Some-unlinked_step-clause-flaw : goal.returns-in-Some-unlinked_step-clause-flaw
-returns-in-Some-unlinked_step-clause-flaw c =
+returns-in-Some-unlinked_step-clause-flaw g c =
     after_ends _ _ c.in-Some.ends.first c.in-Some.ends.last _ _ (not_false _ (sym c.ne.ensures ∙ c.if-ne.false))
     (not_false _ (sym c.ne-2.ensures ∙ c.if-ne-2.false))
     (wrong_step (chain_flaw c.args.graph.now c.args.path.now)
@@ -27,7 +27,7 @@ returns-in-Some-unlinked_step-clause-flaw c =
     (c.in-Some.ensures.0 ∙ ap (λ t. c.in-Some.ends.first ∷ t) c.in-Some.ensures.1))
 
 pub returns-in-Some-enter_all-clause-flaw : goal.returns-in-Some-enter_all-clause-flaw
-returns-in-Some-enter_all-clause-flaw c =
+returns-in-Some-enter_all-clause-flaw g c =
     after_ends _ _ c.in-Some.ends.first c.in-Some.ends.last _ _ (not_false _ (sym c.ne.ensures ∙ c.if-ne.false))
     (not_false _ (sym c.ne-2.ensures ∙ c.if-ne-2.false))
     (wrong_id (chain_flaw c.args.graph.now c.args.path.now)
@@ -40,7 +40,7 @@ returns-in-Some-enter_all-clause-flaw c =
     (c.in-Some.ensures.0 ∙ ap (λ t. c.in-Some.ends.first ∷ t) c.in-Some.ensures.1))
 
 pub returns-in-None-clause-flaw : goal.returns-in-None-clause-flaw
-returns-in-None-clause-flaw c =
+returns-in-None-clause-flaw g c =
     after_ends _ _ c.in-Some.ends.first c.in-Some.ends.last _ _ (not_false _ (sym c.ne.ensures ∙ c.if-ne.false))
     (not_false _ (sym c.ne-2.ensures ∙ c.if-ne-2.false))
     (no_flaw (chain_flaw c.args.graph.now c.args.path.now)
@@ -52,7 +52,7 @@ returns-in-None-clause-flaw c =
     (c.in-Some.ensures.0 ∙ ap (λ t. c.in-Some.ends.first ∷ t) c.in-Some.ensures.1))
 
 pub returns-in-None-clause-used : goal.returns-in-None-clause-used
-returns-in-None-clause-used c = λ t.
+returns-in-None-clause-used g c = λ t.
     c.in-None.ensures.entered refl ∙ ap (entered c.args.used.now.members)
     (sym (inner_of c.in-Some.ends.first c.in-Some.ends.last c.in-Some.ends.inside.now c.args.path.now
     (c.in-Some.ensures.0 ∙ ap (λ t. c.in-Some.ends.first ∷ t) c.in-Some.ensures.1)))

@@ -14,7 +14,7 @@ returns-clause-answer g c =
     let same : c.deref-2.result.now ≡ bytes = cc in
     let old = c.args.sink.now in
     let new = c.analyse_told-answer.new.sink in
-    let analysis = subst (λ b. IsAnalysisOf (Some b) g.W.Write.contents old asked.ids asked.certificate new
+    let analysis = subst (λ b. IsAnalysisOf asked.limit (Some b) g.W.Write.contents old asked.ids asked.certificate new
     c.analyse_told-answer.result) same c.analyse_told-answer.ensures.analysis in
     let was : WasAnalysed bytes asked g.W.Write.contents old new c.status_of_analysis.result = inr (
       ap (option_map (λ text. text.items)) none.0,

@@ -5,7 +5,7 @@ use Rattle.ov_components.proofs.bits_of_nodes_outside_cut.row_of_survivors.Goals
 use Rattle.ov_components.proofs.bits_of_nodes_outside_cut.row_of_survivors.Goals.{in-Some, in_default}
 
 pub loop-id-preserved : goal.loop-id-preserved
-loop-id-preserved c =
+loop-id-preserved v c =
     let g = c.args.graph.now in
     let cut = c.args.cut.now in
     let i = c.loop-id.id-index in

@@ -6,5 +6,5 @@ use Rattle.ov_graph.specs.Row.{HasBit}
 use Rattle.ov_components.proofs.bits_of_nodes_outside_cut.row_of_survivors.Given as goal
 
 abbrev pub invariant-loop-id : goal.invariant-loop-id
-invariant-loop-id l = (p : ℕ)
+invariant-loop-id g l = (p : ℕ)
     → HasBit l.left p ↔ ((p < length l.graph.nodes) × ¬ Has (take l.id-index l.cut) (node_at l.graph p))

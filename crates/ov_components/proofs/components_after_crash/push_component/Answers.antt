@@ -1,5 +1,6 @@
 -- One id more, and the last one.
-use Rattle.std.proofs.Common.{◌≡◌, ◌∙◌, ℕ, ◌+◌, List, [], ◌∷◌, ◌++◌, get_or, drop, ap, ap₂, sym, subst, arith}
+use Rattle.std.proofs.Common.{◌≡◌, ◌∙◌, ◌≤◌, ◌*◌, ℕ, ◌+◌, length, List, [], ◌∷◌, ◌++◌, get_or, drop, ap, ap₂, sym}
+use Rattle.std.proofs.Common.{subst, arith}
 use Rattle.std.proofs.Common.{append_assoc, append-nil}
 use Rattle.ov_graph.specs.Row.{picked}
 use Rattle.ov_graph.proofs.BitRows.Read.{next_picked, none_picked}
@@ -7,7 +8,7 @@ use Rattle.ov_lists.specs.Building.{Building}
 use Rattle.ov_components.proofs.components_after_crash.push_component.Goals as goal
 
 pub loop-place-preserved : goal.loop-place-preserved
-loop-place-preserved c =
+loop-place-preserved v c =
     let nodes = c.args.graph.now.nodes in
     let row = c.args.row.now in
     let id = c.index-nodes-place.result in
@@ -31,12 +32,13 @@ loop-place-preserved c =
     }
 
 pub returns-clause-pushed : goal.returns-clause-pushed
-returns-clause-pushed c =
+returns-clause-pushed v c =
     let nodes = c.args.graph.now.nodes in
     let row = c.args.row.now in
     let begun = c.loop-place.lists.begun in
     let next = c.loop-place.next in
-    let enough = c.words-words.ensures.words.enough in
+    let enough = subst (λ (xs : List ℕ). length xs ≤ 64 * c.words_for-words.result) c.nodes-nodes.ensures.nodes
+    c.words_for-words.ensures.words.enough in
     let none : picked row next (drop next nodes) ≡ [] = none_picked row next (drop next nodes)
     (λ q l h. let m = c.requires.within q h in c.in_default.ensures.none q l (omega (arith, m, enough)) h) in
     let all : begun ≡ picked row 0 nodes =

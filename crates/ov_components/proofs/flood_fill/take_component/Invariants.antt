@@ -6,10 +6,10 @@ use Rattle.ov_components.proofs.Grown.{AreRows, IsGrown}
 use Rattle.ov_components.proofs.flood_fill.take_component.Given as goal
 
 abbrev pub invariant-loop-place : goal.invariant-loop-place
-invariant-loop-place l = record {
+invariant-loop-place g l = record {
   rows : AreRows l.graph l.fn.left l.start l.left l.unseen;
   grown : (s : List ℕ) → IsWhole l.graph s l.fn.left → IsGrown l.graph s l.fn.left l.start l.left l.unseen;
 }
 
 abbrev pub decreases-loop-place : goal.decreases-loop-place
-decreases-loop-place l = length (picked l.left 0 l.graph.nodes)
+decreases-loop-place g l = length (picked l.left 0 l.graph.nodes)

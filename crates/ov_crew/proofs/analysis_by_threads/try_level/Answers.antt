@@ -8,8 +8,8 @@ use Rattle.ov_crew.proofs.analysis_by_threads.try_level.Goals.{In_ok-hauls}
 use Rattle.ov_crew.proofs.analysis_by_threads.try_level.Goals as goal
 
 -- all workers have worked at the board
-worked : (g : _) (c : In_ok-hauls g) → HaveAllWorked c.args.keeping c.args.graph.now c.args.group.now c.args.numbers.first
-    c.in_ok-board.board c.in_ok-hauls.seats.items c.in_ok-hauls.hauls.items
+worked : (g : _) (c : In_ok-hauls g) → HaveAllWorked c.args.keeping c.args.graph.now c.args.group.now
+    c.args.numbers.first c.in_ok-board.board c.in_ok-hauls.seats.items c.in_ok-hauls.hauls.items
 worked g c = all_worked c.args.keeping c.args.graph.now c.args.group.now c.args.numbers.first c.in_ok-board.board
     c.in_ok-hauls.seats.items c.in_ok-hauls.hauls.items c.in_ok-hauls.ensures.count
     (subst (λ (os : List Outcome). All (HasWorked c.args.keeping c.args.graph.now c.args.group.now c.args.numbers.first
@@ -39,8 +39,9 @@ pub returns-clause-right : goal.returns-clause-right
 returns-clause-right g c = crew_right c.args.keeping c.args.graph.now c.args.group.now c.args.numbers.first
     c.in_ok-hauls.seats.items c.in_ok-hauls.hauls.items (all_worked c.args.keeping c.args.graph.now c.args.group.now
     c.args.numbers.first c.in_ok-board.board c.in_ok-hauls.seats.items c.in_ok-hauls.hauls.items
-    c.in_ok-hauls.ensures.count (subst (λ (os : List Outcome). All (HasWorked c.args.keeping c.args.graph.now c.args.group.now
-    c.args.numbers.first c.in_ok-board.board) os) c.in_ok-hauls.ensures.same c.in_ok-done.ensures.each)).hauls
+    c.in_ok-hauls.ensures.count (subst (λ (os : List Outcome). All (HasWorked c.args.keeping c.args.graph.now
+    c.args.group.now c.args.numbers.first c.in_ok-board.board) os) c.in_ok-hauls.ensures.same
+    c.in_ok-done.ensures.each)).hauls
 
 pub returns-clause-tried : goal.returns-clause-tried
 returns-clause-tried g c level numbers =

@@ -1,6 +1,7 @@
 -- One entry more.
 use Rattle.std.proofs.Common.{◌∙◌, ◌∷◌, [], List, suc, take, drop, ap, sym, subst}
 use Rattle.std.proofs.lemmas.Result.{err_from_is_err_and}
+use Rattle.ov_graph.specs.Links.{most_of}
 use Rattle.ov_dump.specs.Code.Taking.{Gains}
 use Rattle.ov_dump.specs.Faults.{Naming, entry_namings}
 use Rattle.ov_dump.proofs.Places.{parted_at, taken_next}
@@ -8,7 +9,7 @@ use Rattle.ov_dump.proofs.Takings.{entries_append, gains_more, gains_none, runs_
 use Rattle.ov_dump.proofs.node_names_by_choice.take_entries.Goals as goal
 
 pub loop-entry-init : goal.loop-entry-init
-loop-entry-init c = gains_none c.args.names.now c.requires.few
+loop-entry-init c = gains_none (most_of c.args.limit) c.args.names.now c.requires.few
 
 pub loop-entry-preserved : goal.loop-entry-preserved
 loop-entry-preserved c =
@@ -16,9 +17,10 @@ loop-entry-preserved c =
     let i = c.loop-entry.entry-index in
     let e = c.entry-item.result in
     let next = taken_next all i e c.loop-entry-test.true c.entry-item.is in
-    subst (λ (ms : List Naming). Gains c.args.names.now ms c.take_name.new.names)
+    subst (λ (ms : List Naming). Gains (most_of c.args.limit) c.args.names.now ms c.take_name.new.names)
     (sym (entries_append (take i all) (e ∷ [])) ∙ ap (λ es. entry_namings (es)) (sym next))
-    (gains_more c.args.names.now c.loop-entry.names c.take_name.new.names (entry_namings (take i all))
+    (gains_more (most_of c.args.limit) c.args.names.now c.loop-entry.names c.take_name.new.names (entry_namings
+    (take i all))
     ((e.at, e.name) ∷ [])
     c.loop-entry.invariant c.in_ok-take_name.ensures.gains)
 
@@ -29,7 +31,8 @@ returns-in_err-take_name-clause-fault c =
     let e = c.entry-item.result in
     let split = parted_at all i e c.loop-entry-test.true c.entry-item.is in
     let p = err_from_is_err_and c.from_residual.result c.from_residual.ensures.1 in
-    rw (p.1, p.2) (runs_after c.args.names.now c.loop-entry.names (entry_namings (all)) (entry_namings (take i all))
+    rw (p.1, p.2) (runs_after (most_of c.args.limit) c.args.names.now c.loop-entry.names (entry_namings (all))
+    (entry_namings (take i all))
     ((e.at, e.name) ∷ [])
     (entry_namings (drop (suc i) all)) c.in_err-take_name.field-0.0 c.loop-entry.invariant
     (ap (λ es. entry_namings (es)) split ∙ entries_append (take i all) (e ∷ drop (suc i) all))

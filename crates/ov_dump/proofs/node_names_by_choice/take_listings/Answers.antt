@@ -2,6 +2,7 @@
 use Rattle.std.proofs.Common.{◌∙◌, ◌∷◌, [], List, suc, take, drop, ap, sym, subst}
 use Rattle.std.specs.List.{flat_map}
 use Rattle.std.proofs.lemmas.Result.{err_from_is_err_and}
+use Rattle.ov_graph.specs.Links.{most_of}
 use Rattle.ov_dump.specs.Code.Taking.{Gains}
 use Rattle.ov_dump.specs.Faults.{Naming, listing_namings}
 use Rattle.ov_dump.proofs.Places.{parted_at, taken_next}
@@ -9,7 +10,7 @@ use Rattle.ov_dump.proofs.Takings.{listings_append, gains_more, gains_none, runs
 use Rattle.ov_dump.proofs.node_names_by_choice.take_listings.Goals as goal
 
 pub loop-listing-init : goal.loop-listing-init
-loop-listing-init c = gains_none c.args.names.now c.requires.few
+loop-listing-init c = gains_none (most_of c.args.limit) c.args.names.now c.requires.few
 
 pub loop-listing-preserved : goal.loop-listing-preserved
 loop-listing-preserved c =
@@ -17,9 +18,10 @@ loop-listing-preserved c =
     let i = c.loop-listing.listing-index in
     let e = c.listing-item.result in
     let next = taken_next all i e c.loop-listing-test.true c.listing-item.is in
-    subst (λ (ms : List Naming). Gains c.args.names.now ms c.take_ends.new.names)
+    subst (λ (ms : List Naming). Gains (most_of c.args.limit) c.args.names.now ms c.take_ends.new.names)
     (sym (listings_append (take i all) (e ∷ [])) ∙ ap (λ es. flat_map listing_namings (es)) (sym next))
-    (gains_more c.args.names.now c.loop-listing.names c.take_ends.new.names (flat_map listing_namings (take i all))
+    (gains_more (most_of c.args.limit) c.args.names.now c.loop-listing.names c.take_ends.new.names
+    (flat_map listing_namings (take i all))
     (listing_namings e)
     c.loop-listing.invariant c.in_ok-take_ends.ensures.gains)
 
@@ -30,7 +32,8 @@ returns-in_err-take_ends-clause-fault c =
     let e = c.listing-item.result in
     let split = parted_at all i e c.loop-listing-test.true c.listing-item.is in
     let p = err_from_is_err_and c.from_residual.result c.from_residual.ensures.1 in
-    rw (p.1, p.2) (runs_after c.args.names.now c.loop-listing.names (flat_map listing_namings (all))
+    rw (p.1, p.2) (runs_after (most_of c.args.limit) c.args.names.now c.loop-listing.names (flat_map listing_namings
+    (all))
     (flat_map listing_namings (take i all)) (listing_namings e)
     (flat_map listing_namings (drop (suc i) all)) c.in_err-take_ends.field-0.0 c.loop-listing.invariant
     (ap (λ es. flat_map listing_namings (es)) split ∙ listings_append (take i all) (e ∷ drop (suc i) all))

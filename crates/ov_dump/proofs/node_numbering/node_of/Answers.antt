@@ -1,15 +1,24 @@
--- The place that a search found, or that there is none.
-use Rattle.std.proofs.Common.{rules}
-use Rattle.ov_dump.proofs.Numbered.{found_at, not_there}
+-- What the map has at the name.
+use Rattle.std.proofs.Common.{◌≡◌, nat_eq, rules}
+use Rattle.std.specs.Cmp.Lexicographic.{pointwise}
+use Rattle.std.specs.HashMap.{get}
+use Rattle.ov_ids.specs.Members.{Has}
+use Rattle.ov_dump.specs.Dumps.{IsNameOf}
+use Rattle.ov_dump.proofs.Numberings.{if_none, if_some}
 use Rattle.ov_dump.proofs.node_numbering.node_of.Goals as goal
 
-pub returns-in-Ok-clause-some : goal.returns-in-Ok-clause-some
-returns-in-Ok-clause-some c = (
-  c.in-Ok.place,
-  search rules,
-  found_at c.args.names.now c.in-Ok.place c.args.name.now c.in-Ok.ensures.bound c.in-Ok.ensures.ok,
-)
+pub returns-clause-some : goal.returns-clause-some
+returns-clause-some c =
+    let n = c.args.numbering.now in
+    let name = c.args.name.now in
+    let at : c.copied.result ≡ get (pointwise nat_eq) n.nodes name = search rules in
+    if_some (¬ Has n.names.items name) (λ i. IsNameOf n.names.items i name) c.copied.result
+    (get (pointwise nat_eq) n.nodes name) at (c.requires.numbering.nodes name)
 
-pub returns-in-Err-clause-none : goal.returns-in-Err-clause-none
-returns-in-Err-clause-none c =
-    not_there c.args.names.now c.in-Err.field-0 c.args.name.now c.requires.ascend c.in-Err.ensures.position
+pub returns-clause-none : goal.returns-clause-none
+returns-clause-none c =
+    let n = c.args.numbering.now in
+    let name = c.args.name.now in
+    let at : c.copied.result ≡ get (pointwise nat_eq) n.nodes name = search rules in
+    if_none (¬ Has n.names.items name) (λ i. IsNameOf n.names.items i name) c.copied.result
+    (get (pointwise nat_eq) n.nodes name) at (c.requires.numbering.nodes name)

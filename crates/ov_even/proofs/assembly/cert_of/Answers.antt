@@ -14,7 +14,8 @@ split_cert-requires-clause-apart c = none_given c.linked_cert.result
 pub split_cert-requires-clause-first : goal.split_cert-requires-clause-first
 split_cert-requires-clause-first c =
     deciding_first c.args.graph.now c.args.group.now c.args.hauls.now c.in-Some-first_cut.first.now c.linked_cert.result
-    c.nodes.ensures.graph c.requires.group (EachPiece, c.requires.suffice) c.linked_cert.ensures.none c.in_default.not-Some
+    c.nodes.ensures.graph c.requires.group (EachPiece, c.requires.suffice) c.linked_cert.ensures.none
+    c.in_default.not-Some
     (subst (λ o. IsFirstCut (all_settled c.args.hauls.now) (option_copied o)) c.in-Some-first_cut.is
     c.first_cut.ensures)
 

@@ -43,14 +43,16 @@ loop-piece-preserved-in_default g c =
       stays = c.in_ok-kept.ensures.stays ∙ c.loop-piece.invariant.stays;
       way = more_good c.args.keeping s.graph s.members c.args.level c.loop-piece.pieces.items c.loop-piece.yielded
           c.loop-piece.piece-iterator c.next.new.self c.in-Some.piece c.loop-piece.invariant.way c.in-Some.ensures.steps
-          (subst (IsKeptOf c.args.keeping s.graph s.members c.in-Some.piece) c.in_default.is (kept g (goal.at.loop-piece-preserved-in_default g c).In_ok-kept));
+          (subst (IsKeptOf c.args.keeping s.graph s.members c.in-Some.piece) c.in_default.is
+          (kept g (goal.at.loop-piece-preserved-in_default g c).In_ok-kept));
     }
 
 pub loop-piece-preserved-then-is_linked : goal.loop-piece-preserved-then-is_linked
 loop-piece-preserved-then-is_linked g c =
     let s = c.args.settler.now in
     let t = c.in-Some-kept.settled in
-    let own = subst (IsKeptOf c.args.keeping s.graph s.members c.in-Some.piece) c.in-Some-kept.is (kept g (goal.at.loop-piece-preserved-then-is_linked g c).In_ok-kept) in
+    let own = subst (IsKeptOf c.args.keeping s.graph s.members c.in-Some.piece) c.in-Some-kept.is
+    (kept g (goal.at.loop-piece-preserved-then-is_linked g c).In_ok-kept) in
     record {
       stays = c.in_ok-kept.ensures.stays ∙ c.loop-piece.invariant.stays;
       way = more_linked c.args.keeping s.graph s.members c.args.level c.loop-piece.pieces.items c.loop-piece.yielded
@@ -62,7 +64,8 @@ pub loop-piece-preserved : goal.loop-piece-preserved
 loop-piece-preserved g c =
     let s = c.args.settler.now in
     let t = c.in-Some-kept.settled in
-    let own = subst (IsKeptOf c.args.keeping s.graph s.members c.in-Some.piece) c.in-Some-kept.is (kept g (goal.at.loop-piece-preserved g c).In_ok-kept) in
+    let own = subst (IsKeptOf c.args.keeping s.graph s.members c.in-Some.piece) c.in-Some-kept.is
+    (kept g (goal.at.loop-piece-preserved g c).In_ok-kept) in
     let is = next_is c.args.keeping s.graph s.members c.args.level c.loop-piece.pieces.items c.loop-piece.yielded
     c.loop-piece.piece-iterator c.next.new.self c.in-Some.piece c.requires.low c.requires.below
     c.loop-piece.invariant.way c.in-Some.ensures.steps in
@@ -79,7 +82,8 @@ pub returns-then-stops-clause-right : goal.returns-then-stops-clause-right
 returns-then-stops-clause-right g c =
     let s = c.args.settler.now in
     let t = c.in-Some-kept.settled in
-    let own = subst (IsKeptOf c.args.keeping s.graph s.members c.in-Some.piece) c.in-Some-kept.is (kept g (goal.at.returns-then-stops-clause-right g c).In_ok-kept) in
+    let own = subst (IsKeptOf c.args.keeping s.graph s.members c.in-Some.piece) c.in-Some-kept.is
+    (kept g (goal.at.returns-then-stops-clause-right g c).In_ok-kept) in
     let is = next_is c.args.keeping s.graph s.members c.args.level c.loop-piece.pieces.items c.loop-piece.yielded
     c.loop-piece.piece-iterator c.next.new.self c.in-Some.piece c.requires.low c.requires.below
     c.loop-piece.invariant.way c.in-Some.ensures.steps in
@@ -93,7 +97,8 @@ pub returns-then-stops-clause-tried : goal.returns-then-stops-clause-tried
 returns-then-stops-clause-tried g c =
     let s = c.args.settler.now in
     let t = c.in-Some-kept.settled in
-    let own = subst (IsKeptOf c.args.keeping s.graph s.members c.in-Some.piece) c.in-Some-kept.is (kept g (goal.at.returns-then-stops-clause-tried g c).In_ok-kept) in
+    let own = subst (IsKeptOf c.args.keeping s.graph s.members c.in-Some.piece) c.in-Some-kept.is
+    (kept g (goal.at.returns-then-stops-clause-tried g c).In_ok-kept) in
     let is = next_is c.args.keeping s.graph s.members c.args.level c.loop-piece.pieces.items c.loop-piece.yielded
     c.loop-piece.piece-iterator c.next.new.self c.in-Some.piece c.requires.low c.requires.below
     c.loop-piece.invariant.way c.in-Some.ensures.steps in

@@ -69,7 +69,8 @@ returns-clause-wanted c p first =
     both_ways c.are_all_linked.result c.if-are_all_linked.false (c.are_all_linked.ensures.1 all) in
     let hauls = c.args.hauls.now in
     let low = subst (λ o. IsFirstCut (all_settled hauls) (option_copied o)) c.in-Some.is c.first_cut.ensures in
-    let decides = deciding g q hauls s c.nodes.ensures.graph c.requires.group apart (EachPiece, c.requires.suffice) low in
+    let decides =
+    deciding g q hauls s c.nodes.ensures.graph c.requires.group apart (EachPiece, c.requires.suffice) low in
     let same = one_first g q s.piece p decides.first first in
     let level : c.level.result - 1 ≡ level_of p - 1 =
     ap (λ (l : ℕ). l - 1) (c.level.ensures ∙ ap level_of same) in

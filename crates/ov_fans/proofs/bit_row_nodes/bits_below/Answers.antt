@@ -1,18 +1,20 @@
 -- Word by word, and the last one in part.
 use Rattle.std.proofs.Common.{◌∙◌, ◌≡◌, ◌↔◌, ◌*◌, ◌/◌, ◌<◌, ℕ, length-set, slice_index, arith}
+use Rattle.std.proofs.lemmas.List.{length-replicate}
 use Rattle.std.proofs.lemmas.Nat.{div-add-mod', mod_below}
 use Rattle.ov_graph.specs.Row.{HasBit}
-use Rattle.ov_graph.proofs.BitRows.Bits.{word_more, no_word_yet}
+use Rattle.ov_graph.proofs.BitRows.Bits.{word_more, no_word_of}
 use Rattle.ov_fans.proofs.RowScans.Lower.{word_bit, last_bit}
 use Rattle.ov_fans.proofs.bit_row_nodes.bits_below.Goals as goal
 
 pub loop-word-init : goal.loop-word-init
-loop-word-init c =
+loop-word-init g c =
     let t = c.told-row in
-    record { wide = omega (arith, t); bits = no_word_yet (λ q. HasBit c.args.row.now q) }
+    let r = length-replicate {A = ℕ} g.row.W 0 in
+    record { wide = omega (arith, t, r); bits = no_word_of g.row.W (λ q. HasBit c.args.row.now q) }
 
 pub loop-word-preserved : goal.loop-word-preserved
-loop-word-preserved c =
+loop-word-preserved g c =
     let row = c.args.row.now in
     let word = c.loop-word.word in
     let wide = c.loop-word.invariant.wide in
@@ -27,7 +29,7 @@ loop-word-preserved c =
     }
 
 pub returns : goal.returns
-returns c q =
+returns g c q =
     let row = c.args.row.now in
     let p = c.args.p in
     let wide = c.loop-word.invariant.wide in

@@ -4,7 +4,7 @@ use Rattle.ov_fans.proofs.PieceNets.Aimed.{fan_aimed}
 use Rattle.ov_fans.proofs.piece_net.fan_aim.Goals as goal
 
 pub returns : goal.returns
-returns c =
+returns g c =
     let q = c.args.group.now.members in
     let own = c.row.ensures in
     let at = c.place_in_graph-source.ensures in

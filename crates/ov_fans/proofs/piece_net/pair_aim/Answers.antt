@@ -9,20 +9,20 @@ use Rattle.ov_fans.proofs.PieceNets.Ranks.{members_rise}
 use Rattle.ov_fans.proofs.piece_net.pair_aim.Goals as goal
 
 pub returns : goal.returns
-returns c =
+returns g c =
     let g = c.args.group.now.graph in
     let q = c.args.group.now.members in
     let i = c.args.i in
     let j = c.args.j in
     let other = c.place_in_graph-other.result in
-    let row = c.row_at.result.now in
+    let row = c.neighbour_set.result in
     let own = c.graph.ensures in
     let need = c.requires in
     let at = c.place_in_graph.ensures in
     let off = c.place_in_graph-other.ensures in
     let there = subst (λ (h : LinkGraph). (p : ℕ)
     → HasBit row p ↔ ((p < length h.nodes) × Linked h (node_at h other) (node_at h p))) own.graph
-    c.row_at.ensures.bits in
+    c.neighbour_set.ensures.set in
     let bits = subst (λ (b : ℕ). (p : ℕ) → HasBit row p ↔ ((p < length g.nodes) × Linked g b (node_at g p))) off.there
     there in
     pair_aimed g (member_at q i) (member_at q j) c.place_in_graph.result other row own.is_graph

@@ -7,7 +7,7 @@ use Rattle.ov_fans.proofs.PieceCuts.Short.{pair_short, fan_short}
 use Rattle.ov_fans.proofs.short_paths.has_short_paths.Goals as goal
 
 pub returns-in-Pair : goal.returns-in-Pair
-returns-in-Pair c many =
+returns-in-Pair g c many =
     let g = c.args.group.now.graph in
     let q = c.args.group.now.members in
     let n = c.common_neighbours.result in
@@ -18,7 +18,7 @@ returns-in-Pair c many =
     (leb-true c.in-Pair.level n many))
 
 pub returns-in-Fan : goal.returns-in-Fan
-returns-in-Fan c many =
+returns-in-Fan g c many =
     let g = c.args.group.now.graph in
     let q = c.args.group.now.members in
     let n = c.earlier_neighbours.result in

@@ -5,5 +5,5 @@ use Rattle.ov_flow.proofs.Writing.{AreWriting}
 use Rattle.ov_flow.proofs.flat_paths.write_paths.Given as goal
 
 abbrev pub invariant-loop-end : goal.invariant-loop-end
-invariant-loop-end l =
+invariant-loop-end g l =
     AreWriting (net_by_place l.net) (table_of l.from) l.flat.items (take l.end-index l.ends) l.end-index

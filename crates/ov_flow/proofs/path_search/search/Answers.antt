@@ -9,7 +9,7 @@ use Rattle.ov_flow.proofs.Reaching.{tree_bound, all_visited, links_more, backs_m
 use Rattle.ov_flow.proofs.path_search.search.Goals as goal
 
 pub loop-at-init : goal.loop-at-init
-loop-at-init c = record {
+loop-at-init g c = record {
   grown = c.begin.ensures.grown (table_of c.args.from.now);
   clean = c.begin.ensures.clean;
   room = c.begin.ensures.room;
@@ -19,26 +19,26 @@ loop-at-init c = record {
 }
 
 pub overflow_add-at : goal.overflow_add-at
-overflow_add-at c =
+overflow_add-at g c =
     let t = c.loop-at.tree in
     let b = tree_bound (net_by_place c.args.net.now) (table_of c.args.from.now) t.order.items t.parents.items
     t.ways.items c.loop-at.invariant.grown.is_tree in
-    let l = c.requires.ready.count in
-    let few = c.requires.ready.few in
+    let l = c.requires.ready.placed.count in
+    let few = c.requires.ready.placed.few in
     let lt : c.loop-at.at < length t.order.items = omega arith in
     omega (arith, b, l, few, lt)
 
 pub loop-at-smaller : goal.loop-at-smaller
-loop-at-smaller c =
+loop-at-smaller g c =
     let t = c.loop-at.tree in
     let b = tree_bound (net_by_place c.args.net.now) (table_of c.args.from.now) t.order.items t.parents.items
     t.ways.items
     c.loop-at.invariant.grown.is_tree in
-    let l = c.requires.ready.count in
+    let l = c.requires.ready.placed.count in
     omega (arith, b, l)
 
 pub loop-at-preserved : goal.loop-at-preserved
-loop-at-preserved c =
+loop-at-preserved g c =
     let n = net_by_place c.args.net.now in
     let from = table_of c.args.from.now in
     let old = c.loop-at.tree in
@@ -61,7 +61,7 @@ loop-at-preserved c =
     }
 
 pub returns-clause-found : goal.returns-clause-found
-returns-clause-found c =
+returns-clause-found g c =
     let n = net_by_place c.args.net.now in
     let t = c.loop-at.tree in
     let i = c.loop-at.invariant in

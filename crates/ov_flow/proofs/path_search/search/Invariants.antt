@@ -9,7 +9,7 @@ use Rattle.ov_flow.specs.Code.Held.{HasTreeRoom}
 use Rattle.ov_flow.proofs.path_search.search.Given as goal
 
 abbrev pub invariant-loop-at : goal.invariant-loop-at
-invariant-loop-at l = record {
+invariant-loop-at g l = record {
   grown : IsGrown (net_by_place l.net) (table_of l.from) l.tree;
   clean : IsClean (net_by_place l.net) l.tree;
   room : HasTreeRoom (length l.net.graph.nodes) l.tree;
@@ -21,4 +21,4 @@ invariant-loop-at l = record {
 }
 
 abbrev pub decreases-loop-at : goal.decreases-loop-at
-decreases-loop-at l = length l.net.graph.nodes - l.at
+decreases-loop-at g l = length l.net.graph.nodes - l.at

@@ -8,61 +8,62 @@ use Rattle.ov_flow.proofs.Reaching.{clean_more, node_room, IsReachedBy}
 use Rattle.ov_flow.proofs.Visiting.{read_below}
 use Rattle.ov_flow.proofs.path_search.step_back.Goals as goal
 
-pub offset_bounds-from-index : goal.offset_bounds-from-index
-offset_bounds-from-index c =
+pub get-requires : goal.get-requires
+get-requires g c =
     let t = c.args.tree.now in
     let b = read_below (net_by_place c.args.net.now) (length c.args.net.now.graph.nodes) (table_of c.args.from.now)
-    t.order.items t.parents.items t.ways.items c.args.at c.index.result.now c.requires.ready c.requires.grown.is_tree
-    c.requires.at c.index.ensures in
-    let few = c.requires.ready.few in
-    omega (arith, b, few)
-
-pub bounds : goal.bounds
-bounds c =
-    let t = c.args.tree.now in
-    let b = read_below (net_by_place c.args.net.now) (length c.args.net.now.graph.nodes) (table_of c.args.from.now)
-    t.order.items t.parents.items t.ways.items c.args.at c.index.result.now c.requires.ready c.requires.grown.is_tree
+    t.order.items t.parents.items t.ways.items c.args.at c.index.result.now c.requires.ready.placed
+    c.requires.grown.is_tree
     c.requires.at c.index.ensures in
     let e = c.requires.table.long in
     omega (arith, b, e)
 
-pub reach-requires-clause-room : goal.reach-requires-clause-room
-reach-requires-clause-room c =
+pub reach-requires : goal.reach-requires
+reach-requires g c =
     let n = net_by_place c.args.net.now in
     let from = table_of c.args.from.now in
-    let is : from c.index.result.now ≡ Some c.in-Some.before = c.in-Some.is in
-    node_room n (length c.args.net.now.graph.nodes) from c.args.tree.now c.in-Some.before c.requires.ready
-    c.requires.grown c.requires.room
-    ((c.requires.ready.nodes c.in-Some.before).1 (c.requires.table.told c.index.result.now c.in-Some.before is))
+    let is : from c.index.result.now ≡ Some c.in-Some.before = sym c.get.ensures ∙ c.in-Some.is in
+    let told = c.requires.table.told c.index.result.now c.in-Some.before is in
+    let wide = c.requires.ready.room in (
+      omega arith,
+      (
+        c.requires.at,
+        (
+          omega (arith, told, wide),
+          node_room n (length c.args.net.now.graph.nodes) from c.args.tree.now c.in-Some.before c.requires.ready.placed
+              c.requires.grown c.requires.room ((c.requires.ready.placed.nodes c.in-Some.before).1 told),
+        ),
+      ),
+    )
 
 pub returns-then-has-clause-room : goal.returns-then-has-clause-room
-returns-then-has-clause-room c = c.reach.ensures.room (length c.args.net.now.graph.nodes) c.requires.room
+returns-then-has-clause-room g c = c.reach.ensures.room (length c.args.net.now.graph.nodes) c.requires.room
 
 pub returns-else-has-clause-room : goal.returns-else-has-clause-room
-returns-else-has-clause-room c = c.reach.ensures.room (length c.args.net.now.graph.nodes) c.requires.room
+returns-else-has-clause-room g c = c.reach.ensures.room (length c.args.net.now.graph.nodes) c.requires.room
 
 pub returns-then-has-clause-grown : goal.returns-then-has-clause-grown
-returns-then-has-clause-grown c =
+returns-then-has-clause-grown g c =
     let n = net_by_place c.args.net.now in
     let from = table_of c.args.from.now in
     let t = c.args.tree.now in
     let x = c.index.result.now in
     let y = c.in-Some.before in
-    let is : from x ≡ Some y = c.in-Some.is in
+    let is : from x ≡ Some y = sym c.get.ensures ∙ c.in-Some.is in
     let e = get_or_read t.order.items c.args.at x c.requires.at c.index.ensures 0 in
-    let node = (c.requires.ready.nodes y).1 (c.requires.table.told x y is) in
+    let node = (c.requires.ready.placed.nodes y).1 (c.requires.table.told x y is) in
     (c.reach.ensures.grown n from c.requires.grown node (ap from (sym e) ∙ is)).0
 
 pub returns-then-has-clause-found : goal.returns-then-has-clause-found
-returns-then-has-clause-found c =
+returns-then-has-clause-found g c =
     let n = net_by_place c.args.net.now in
     let from = table_of c.args.from.now in
     let t = c.args.tree.now in
     let x = c.index.result.now in
     let y = c.in-Some.before in
-    let is : from x ≡ Some y = c.in-Some.is in
+    let is : from x ≡ Some y = sym c.get.ensures ∙ c.in-Some.is in
     let e = get_or_read t.order.items c.args.at x c.requires.at c.index.ensures 0 in
-    let node = (c.requires.ready.nodes y).1 (c.requires.table.told x y is) in
+    let node = (c.requires.ready.placed.nodes y).1 (c.requires.table.told x y is) in
     let r : IsReachedBy n from t c.reach.new.tree y =
     c.reach.ensures.grown n from c.requires.grown node (ap from (sym e) ∙ is) in
     let s = c.requires.swept in
@@ -70,28 +71,28 @@ returns-then-has-clause-found c =
     subst (Has n.targets) (sym (r.2 (λ k. s.clean y k h))) h
 
 pub returns-else-has-clause-grown : goal.returns-else-has-clause-grown
-returns-else-has-clause-grown c =
+returns-else-has-clause-grown g c =
     let n = net_by_place c.args.net.now in
     let from = table_of c.args.from.now in
     let t = c.args.tree.now in
     let x = c.index.result.now in
     let y = c.in-Some.before in
-    let is : from x ≡ Some y = c.in-Some.is in
+    let is : from x ≡ Some y = sym c.get.ensures ∙ c.in-Some.is in
     let e = get_or_read t.order.items c.args.at x c.requires.at c.index.ensures 0 in
-    let node = (c.requires.ready.nodes y).1 (c.requires.table.told x y is) in
+    let node = (c.requires.ready.placed.nodes y).1 (c.requires.table.told x y is) in
     (c.reach.ensures.grown n from c.requires.grown node (ap from (sym e) ∙ is)).0
 
 pub returns-else-has-clause-found : goal.returns-else-has-clause-found
-returns-else-has-clause-found c =
+returns-else-has-clause-found g c =
     let n = net_by_place c.args.net.now in
     let from = table_of c.args.from.now in
     let t = c.args.tree.now in
     let u = c.reach.new.tree in
     let x = c.index.result.now in
     let y = c.in-Some.before in
-    let is : from x ≡ Some y = c.in-Some.is in
+    let is : from x ≡ Some y = sym c.get.ensures ∙ c.in-Some.is in
     let e = get_or_read t.order.items c.args.at x c.requires.at c.index.ensures 0 in
-    let node = (c.requires.ready.nodes y).1 (c.requires.table.told x y is) in
+    let node = (c.requires.ready.placed.nodes y).1 (c.requires.table.told x y is) in
     let r : IsReachedBy n from t u y = c.reach.ensures.grown n from c.requires.grown node
     (ap from (sym e) ∙ is) in
     let s = c.requires.swept in
@@ -111,7 +112,7 @@ returns-else-has-clause-found c =
     }
 
 pub returns-in_default-clause-found : goal.returns-in_default-clause-found
-returns-in_default-clause-found c =
+returns-in_default-clause-found g c =
     let n = net_by_place c.args.net.now in
     let from = table_of c.args.from.now in
     let t = c.args.tree.now in
@@ -120,5 +121,5 @@ returns-in_default-clause-found c =
     let s = c.requires.swept in
     record {
       swept = s;
-      back = λ b f. absurd (c.in_default.not-Some b (ap from e ∙ f));
+      back = λ b f. absurd (c.in_default.not-Some b (c.get.ensures ∙ ap from e ∙ f));
     }

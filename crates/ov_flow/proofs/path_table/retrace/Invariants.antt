@@ -5,7 +5,7 @@ use Rattle.ov_flow.proofs.Copying.{IsCopy}
 use Rattle.ov_flow.proofs.path_table.retrace.Given as goal
 
 abbrev pub invariant-loop-end : goal.invariant-loop-end
-invariant-loop-end l = record {
+invariant-loop-end g l = record {
   long : length l.next ≡ length l.net.graph.nodes;
   copy : IsCopy (net_by_place l.net) (table_of l.from) (table_of l.next) (take l.end-index l.ends);
 }

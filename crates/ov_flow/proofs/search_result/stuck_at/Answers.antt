@@ -8,14 +8,14 @@ use Rattle.ov_flow.proofs.Rows.{bits_of_picked}
 use Rattle.ov_flow.proofs.search_result.stuck_at.Goals as goal
 
 pub returns : goal.returns
-returns c =
+returns g c =
     let w = c.args.work.now in
     let n = c.args.net.now in
     let m = net_by_place n in
     let wide = length n.graph.nodes in
-    let ready = c.requires.ready in
+    let ready = c.requires.ready.placed in
     let enough = c.words-words.ensures.words.enough in
-    let from = table_of w.from.items in
+    let from = table_of w.from in
     let words = c.words-words.result in
     let off = c.avoided.result.now in
     let next = c.without-next.result in

@@ -6,7 +6,7 @@ use Rattle.ov_flow.proofs.Walking.{IsGoing}
 use Rattle.ov_flow.proofs.walk_augmentation.take_hops.Given as goal
 
 abbrev pub invariant-loop-hop : goal.invariant-loop-hop
-invariant-loop-hop l = record {
+invariant-loop-hop g l = record {
   long : length l.from ≡ length l.net.graph.nodes;
   tidy : l.apart ≡ true → (ends : List ℕ) → IsTidy (table_of l.fn.from) ends
       → IsTidy (table_of l.from) (l.at ∷ ends);

@@ -5,7 +5,7 @@ use Rattle.ov_flow.proofs.Walking.{branch_step, branch_all}
 use Rattle.ov_flow.proofs.walk_augmentation.walk_back.Goals as goal
 
 pub loop-at-preserved : goal.loop-at-preserved
-loop-at-preserved c =
+loop-at-preserved g c =
     let t = c.args.tree.now in
     let i = c.loop-at.invariant in
     let pos = c.loop-at-test.true in
@@ -23,7 +23,7 @@ loop-at-preserved c =
     }
 
 pub returns-clause-walk : goal.returns-clause-walk
-returns-clause-walk c =
+returns-clause-walk g c =
     let t = c.args.tree.now in
     branch_all t c.loop-at.at (length t.order.items - 1) (reverse c.loop-at.hops.items) c.reverse.new.self.items
     c.loop-at-test.false c.loop-at.invariant.branch c.reverse.ensures.items

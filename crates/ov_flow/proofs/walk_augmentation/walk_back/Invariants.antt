@@ -3,7 +3,7 @@ use Rattle.ov_flow.proofs.Walking.{IsBranchOf}
 use Rattle.ov_flow.proofs.walk_augmentation.walk_back.Given as goal
 
 abbrev pub invariant-loop-at : goal.invariant-loop-at
-invariant-loop-at l = record {
+invariant-loop-at g l = record {
   within : l.at < length l.tree.order.items;
   room : l.at + vec_len l.hops < length l.tree.order.items;
   same : vec_capacity l.hops ≡ vec_capacity l.fn.hops;
@@ -11,4 +11,4 @@ invariant-loop-at l = record {
 }
 
 abbrev pub decreases-loop-at : goal.decreases-loop-at
-decreases-loop-at l = l.at
+decreases-loop-at g l = l.at

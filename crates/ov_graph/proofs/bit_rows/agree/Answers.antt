@@ -3,7 +3,7 @@ use Rattle.ov_graph.proofs.BitRows.Bits.{agree_more, differ_here}
 use Rattle.ov_graph.proofs.bit_rows.agree.Goals as goal
 
 pub returns-then-a-word : goal.returns-then-a-word
-returns-then-a-word c =
+returns-then-a-word g c =
     let word = c.loop-word.word in
     let l = c.loop-word-test.true in (
       (λ t. absurd (true≢false (sym t))),
@@ -14,4 +14,4 @@ returns-then-a-word c =
     )
 
 pub loop-word-preserved : goal.loop-word-preserved
-loop-word-preserved c = agree_more c.args.a.now c.args.b.now c.loop-word.word c.if-a-word.false c.loop-word.invariant
+loop-word-preserved g c = agree_more c.args.a.now c.args.b.now c.loop-word.word c.if-a-word.false c.loop-word.invariant

@@ -1,7 +1,12 @@
 -- no bit is set in the words so far
-use Rattle.std.proofs.Common.{ℕ, ◌<◌, ◌≤◌, ◌*◌}
+use Rattle.std.proofs.Common.{◌+◌, ◌<◌, ◌≤◌, ◌*◌}
 use Rattle.ov_graph.specs.Row.{HasBit}
+use Rattle.ov_graph.specs.Code.Shifts.{HoldsNowhere}
 use Rattle.ov_graph.proofs.bit_rows.first_from.Given as goal
 
-abbrev pub invariant-loop-later : goal.invariant-loop-later
-invariant-loop-later l = (q : ℕ) → l.from ≤ q → q < 64 * l.later → ¬ HasBit l.row q
+abbrev pub invariant-loop-word : goal.invariant-loop-word
+invariant-loop-word g l = record {
+  start : l.start < 64;
+  reached : l.from ≤ 64 * l.word + l.start;
+  none : HoldsNowhere (HasBit l.row) l.from (64 * l.word + l.start);
+}

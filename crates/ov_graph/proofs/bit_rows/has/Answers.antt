@@ -5,7 +5,7 @@ use Rattle.ov_graph.proofs.BitRows.Bits.{bit_one, one_bit}
 use Rattle.ov_graph.proofs.bit_rows.has.Goals as goal
 
 pub returns : goal.returns
-returns c =
+returns g c =
     let row = c.args.row.now in
     let p = c.args.p in
     let e = shr_and_one (slice_index row (p / 64)) (p % 64) in

@@ -4,7 +4,7 @@ use Rattle.ov_graph.specs.Row.{HasBit}
 use Rattle.ov_graph.proofs.bit_rows.without.Given as goal
 
 abbrev pub invariant-loop-word : goal.invariant-loop-word
-invariant-loop-word l =
+invariant-loop-word g l =
     record {
       wide : length l.kept ≡ length l.a;
       bits : (q : ℕ)

@@ -13,7 +13,7 @@ overflow_add-linked c =
     let nodes = c.args.graph.now.nodes in
     let enough = c.words-words.ensures.words.enough in
     let fits = c.words-words.ensures.fits in
-    let n = c.count-linked.ensures nodes (λ q h. c.requires q ((c.both.ensures q).0 h).1) enough in
+    let n = c.count-linked.ensures nodes (λ q h. c.requires.within q ((c.both.ensures q).0 h).1) enough in
     let l = few_picked c.both.result 0 nodes in
     let a = c.neighbours.invariant.few in
     let b = c.neighbours.invariant.fits in
@@ -28,13 +28,13 @@ neighbours-preserved c =
     let fits = c.words-words.ensures.fits in
     let first = c.in-Some.ensures.some in
     let reached = first.reached in
-    let n = c.count-linked.ensures g.nodes (λ q h. c.requires q ((c.both.ensures q).0 h).1) enough in
+    let n = c.count-linked.ensures g.nodes (λ q h. c.requires.within q ((c.both.ensures q).0 h).1) enough in
     let l = few_picked c.both.result 0 g.nodes in
     let a = c.neighbours.invariant.few in
     let b = c.in-Some.ensures.fits in
     record {
       sum = pairs_more g row c.row_at.result.now c.both.result c.neighbours.from c.in-Some.place c.count-linked.result
-          c.neighbours.linked words c.row_at.ensures.graph enough c.requires first c.row_at.ensures.bits c.both.ensures
+          c.neighbours.linked words c.row_at.ensures.graph enough c.requires.within first c.row_at.ensures.bits c.both.ensures
           c.count-linked.ensures c.neighbours.invariant.sum;
       few = omega (arith, n, l, enough, fits, a, reached);
       fits = omega (arith, b);
@@ -46,7 +46,7 @@ returns-clause-sum c a of_a =
     let row = c.args.row.now in
     let from = c.neighbours.from in
     let enough = c.words-words.ensures.words.enough in
-    let none : (q : ℕ) → from ≤ q → ¬ HasBit row q = λ q l h. let m = c.requires q h in
+    let none : (q : ℕ) → from ≤ q → ¬ HasBit row q = λ q l h. let m = c.requires.within q h in
     c.in_default.ensures.none q l (omega (arith, m, enough)) h in
     goes_done (HaveCommon c.args.graph.now a) (picked row 0 nodes) (picked row from (drop from nodes))
     c.neighbours.linked (none_picked row from (drop from nodes) none) (c.neighbours.invariant.sum a of_a)

@@ -7,7 +7,7 @@ use Rattle.ov_graph.proofs.component_search.distances_within.Goals as goal
 pub members-init : goal.members-init
 members-init c = record {
   passing = passing_begun c.args.graph.now c.args.component.now.row c.args.component.now.count c.nodes.ensures.graph
-      c.requires;
+      c.requires.found;
   fits = omega arith;
 }
 
@@ -18,7 +18,7 @@ members-preserved c =
     let row = c.args.component.now.row in
     let f = c.search-found.result in
     let passing = passing_more g row c.args.component.now.count c.members.from c.in-Some.place c.members.all.total
-    c.members.all.far f c.nodes.ensures.graph c.requires c.in-Some.ensures.some c.search-found.ensures
+    c.members.all.far f c.nodes.ensures.graph c.requires.found c.in-Some.ensures.some c.search-found.ensures
     c.members.invariant.passing in
     record {
       passing = subst (λ (k : ℕ). IsPassing g row (c.in-Some.place + 1) (c.members.all.total + f.total) k)
@@ -31,7 +31,7 @@ returns-clause-total c =
     let row = c.args.component.now.row in
     let from = c.members.from in
     let enough = c.words-words.ensures.words.enough in
-    let none : (q : ℕ) → from ≤ q → ¬ HasBit row q = λ q l h. let m = ((c.requires.row_of q).0 h).0 in
+    let none : (q : ℕ) → from ≤ q → ¬ HasBit row q = λ q l h. let m = ((c.requires.found.row_of q).0 h).0 in
     c.in_default.ensures.none q l (omega (arith, m, enough)) h in
     passing_sum c.args.graph.now row from c.members.all.total c.members.all.far none c.members.invariant.passing
 
@@ -40,7 +40,7 @@ returns-clause-far c =
     let row = c.args.component.now.row in
     let from = c.members.from in
     let enough = c.words-words.ensures.words.enough in
-    let none : (q : ℕ) → from ≤ q → ¬ HasBit row q = λ q l h. let m = ((c.requires.row_of q).0 h).0 in
+    let none : (q : ℕ) → from ≤ q → ¬ HasBit row q = λ q l h. let m = ((c.requires.found.row_of q).0 h).0 in
     c.in_default.ensures.none q l (omega (arith, m, enough)) h in
     passing_far c.args.graph.now row c.args.component.now.count from c.members.all.total c.members.all.far
-    c.nodes.ensures.graph c.requires none c.members.invariant.passing
+    c.nodes.ensures.graph c.requires.found none c.members.invariant.passing

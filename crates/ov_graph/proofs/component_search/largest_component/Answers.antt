@@ -9,7 +9,7 @@ use Rattle.ov_graph.proofs.component_search.largest_component.Goals.{then-found-
 pub places-init : goal.places-init
 places-init c = record {
   best = best_begun c.args.graph.now c.search-best.result.row c.search-best.result.count
-      c.nodes-place-end.ensures.graph c.requires c.search-best.ensures.row c.search-best.ensures.count;
+      c.nodes-place-end.ensures.graph c.requires.node c.search-best.ensures.row c.search-best.ensures.count;
 }
 
 pub places-preserved : goal.places-preserved

@@ -13,7 +13,7 @@ places-preserved c =
     ap (λ (xs : List ℕ). length xs) c.nodes-nodes.ensures.nodes in
     let l = c.places-test.true in
     let room = c.places.invariant.room in
-    let small = c.nodes-nodes.ensures.within in
+    let small = c.requires.small in
     record {
       room = length-set degrees place c.count.result ∙ room;
       each = degrees_more g degrees place c.count.result (omega (arith, l, e, room, small))
@@ -28,7 +28,7 @@ returns-clause-first c =
     let e : n ≡ length g.nodes = ap (λ (xs : List ℕ). length xs) c.nodes-nodes.ensures.nodes in
     let end = c.places-test.false in
     let room = c.places.invariant.room in
-    let small = c.nodes-nodes.ensures.within in
+    let small = c.requires.small in
     quartile_of g c.places.degrees c.sort_unstable.new.self n 1 ((n + 3) / 4 - 1) e (omega (arith, room, small))
     (λ p l. c.places.invariant.each p (omega (arith, l, e, end))) c.sort_unstable.ensures.permutation
     c.sort_unstable.ensures.sorted (omega (arith, e))
@@ -40,7 +40,7 @@ returns-clause-median c =
     let e : n ≡ length g.nodes = ap (λ (xs : List ℕ). length xs) c.nodes-nodes.ensures.nodes in
     let end = c.places-test.false in
     let room = c.places.invariant.room in
-    let small = c.nodes-nodes.ensures.within in
+    let small = c.requires.small in
     quartile_of g c.places.degrees c.sort_unstable.new.self n 2 ((2 * n + 3) / 4 - 1) e (omega (arith, room, small))
     (λ p l. c.places.invariant.each p (omega (arith, l, e, end))) c.sort_unstable.ensures.permutation
     c.sort_unstable.ensures.sorted (omega (arith, e))
@@ -52,7 +52,7 @@ returns-clause-third c =
     let e : n ≡ length g.nodes = ap (λ (xs : List ℕ). length xs) c.nodes-nodes.ensures.nodes in
     let end = c.places-test.false in
     let room = c.places.invariant.room in
-    let small = c.nodes-nodes.ensures.within in
+    let small = c.requires.small in
     quartile_of g c.places.degrees c.sort_unstable.new.self n 3 ((3 * n + 3) / 4 - 1) e (omega (arith, room, small))
     (λ p l. c.places.invariant.each p (omega (arith, l, e, end))) c.sort_unstable.ensures.permutation
     c.sort_unstable.ensures.sorted (omega (arith, e))

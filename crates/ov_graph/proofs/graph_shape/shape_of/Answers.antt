@@ -8,7 +8,7 @@ pub mean-requires-clause-few : goal.mean-requires-clause-few
 mean-requires-clause-few c =
     let e = c.largest_component-best.ensures.counted in
     let l = few_picked c.largest_component-best.result.row 0 c.args.graph.now.nodes in
-    let small = c.nodes.ensures.within in
+    let small = c.requires in
     omega (arith, e, l, small)
 
 pub returns-clause-path : goal.returns-clause-path

@@ -3,8 +3,8 @@ use Rattle.std.proofs.Common.{arith}
 use Rattle.ov_graph.proofs.ShapeOfGraph.Layers.{beside_begun, beside_more}
 use Rattle.ov_graph.proofs.layered_search.next_layer.Goals as goal
 
-pub row_at-requires : goal.row_at-requires
-row_at-requires c = c.requires c.in-Some.place c.in-Some.ensures.some.set
+pub row_at-requires-clause-place : goal.row_at-requires-clause-place
+row_at-requires-clause-place c = c.requires.within c.in-Some.place c.in-Some.ensures.some.set
 
 pub nodes-init : goal.nodes-init
 nodes-init c = record { beside = beside_begun c.args.graph.now c.args.front.now; fits = omega arith }

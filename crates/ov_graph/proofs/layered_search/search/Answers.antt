@@ -9,7 +9,7 @@ use Rattle.ov_graph.proofs.layered_search.search.Goals as goal
 
 pub layers-init : goal.layers-init
 layers-init c = record {
-  found = searching_begun c.args.graph.now c.args.place c.alone-front.result c.nodes.ensures.graph c.requires
+  found = searching_begun c.args.graph.now c.args.place c.alone-front.result c.nodes.ensures.graph c.requires.place
       c.alone-front.ensures;
 }
 
@@ -25,8 +25,8 @@ returns-then-more-eq0 c =
     let s = c.layers.invariant.found in
     let n = c.count-more.ensures g.nodes (next_within g front f.row next c.next_layer-next.ensures) enough in
     let z = c.if-more-eq0.true in
-    searching_ended g a front next f c.nodes.ensures.graph (has_place g.nodes c.args.place 0 c.requires)
-    c.nodes.ensures.within s c.next_layer-next.ensures (omega (arith, n, z))
+    searching_ended g a front next f c.nodes.ensures.graph (has_place g.nodes c.args.place 0 c.requires.place)
+    c.requires.small s c.next_layer-next.ensures (omega (arith, n, z))
 
 pub overflow_add-found : goal.overflow_add-found
 overflow_add-found c =
@@ -34,7 +34,7 @@ overflow_add-found c =
     let l = few_picked c.layers.found.row 0 c.args.graph.now.nodes in
     let n = s.near in
     let m = s.counted in
-    let small = c.nodes.ensures.within in
+    let small = c.requires.small in
     omega (arith, l, n, m, small)
 
 pub overflow_add-found-in-layers : goal.overflow_add-found-in-layers
@@ -49,9 +49,9 @@ overflow_add-found-in-layers c =
     let s = c.layers.invariant.found in
     let all = c.either-found.result in
     let step = step_of g a front f.row next all f.count f.total f.far more c.words-words.result c.nodes.ensures.graph
-    c.nodes.ensures.within enough s c.next_layer-next.ensures c.count-more.ensures c.either-found.ensures in
+    c.requires.small enough s c.next_layer-next.ensures c.count-more.ensures c.either-found.ensures in
     let l = count_fits g a front f.row next all f.count f.total f.far more s step in
-    let small = c.nodes.ensures.within in
+    let small = c.requires.small in
     omega (arith, l, small)
 
 pub overflow_mul-found : goal.overflow_mul-found
@@ -66,10 +66,10 @@ overflow_mul-found c =
     let s = c.layers.invariant.found in
     let all = c.either-found.result in
     let step = step_of g a front f.row next all f.count f.total f.far more c.words-words.result c.nodes.ensures.graph
-    c.nodes.ensures.within enough s c.next_layer-next.ensures c.count-more.ensures c.either-found.ensures in
+    c.requires.small enough s c.next_layer-next.ensures c.count-more.ensures c.either-found.ensures in
     let l = count_fits g a front f.row next all f.count f.total f.far more s step in
     let t = total_fits g a front f.row next all f.count f.total f.far more s step in
-    let small = c.nodes.ensures.within in
+    let small = c.requires.small in
     omega (arith, l, t, small)
 
 pub overflow_add-found-in-layers-2 : goal.overflow_add-found-in-layers-2
@@ -84,10 +84,10 @@ overflow_add-found-in-layers-2 c =
     let s = c.layers.invariant.found in
     let all = c.either-found.result in
     let step = step_of g a front f.row next all f.count f.total f.far more c.words-words.result c.nodes.ensures.graph
-    c.nodes.ensures.within enough s c.next_layer-next.ensures c.count-more.ensures c.either-found.ensures in
+    c.requires.small enough s c.next_layer-next.ensures c.count-more.ensures c.either-found.ensures in
     let l = count_fits g a front f.row next all f.count f.total f.far more s step in
     let t = total_fits g a front f.row next all f.count f.total f.far more s step in
-    let small = c.nodes.ensures.within in
+    let small = c.requires.small in
     omega (arith, l, t, small)
 
 pub layers-smaller : goal.layers-smaller
@@ -102,7 +102,7 @@ layers-smaller c =
     let s = c.layers.invariant.found in
     let all = c.either-found.result in
     let step = step_of g a front f.row next all f.count f.total f.far more c.words-words.result c.nodes.ensures.graph
-    c.nodes.ensures.within enough s c.next_layer-next.ensures c.count-more.ensures c.either-found.ensures in
+    c.requires.small enough s c.next_layer-next.ensures c.count-more.ensures c.either-found.ensures in
     let l = count_fits g a front f.row next all f.count f.total f.far more s step in
     let some = c.if-more-eq0.false in
     omega (arith, l, some)
@@ -119,6 +119,6 @@ layers-preserved c =
     let s = c.layers.invariant.found in
     let all = c.either-found.result in
     let step = step_of g a front f.row next all f.count f.total f.far more c.words-words.result c.nodes.ensures.graph
-    c.nodes.ensures.within enough s c.next_layer-next.ensures c.count-more.ensures c.either-found.ensures in
+    c.requires.small enough s c.next_layer-next.ensures c.count-more.ensures c.either-found.ensures in
     let some = c.if-more-eq0.false in
     record { found = searching_more g a front f.row next all f.count f.total f.far more s step (omega (arith, some)) }

@@ -10,7 +10,8 @@ pub loop-before-init : goal.loop-before-init
 loop-before-init c = record {
   parts = begun c.args.bytes.now c.new-parts.result.nodes.items c.new-parts.result.links.items _
       c.new-parts.ensures.nodes c.new-parts.ensures.links (all_left c.args.bytes.now);
-  told = none_told c.args.bytes.now _ c.new-parts.ensures.told;
+  told = none_told c.most-most.result c.args.bytes.now _ c.new-parts.ensures.told;
+  most = c.most-most.ensures;
   room = search rules;
 }
 
@@ -25,9 +26,10 @@ loop-before-preserved c =
       parts = line_taken c.args.bytes.now l.parts.nodes.items l.parts.links.items l.left.now line later (l.count + 1) _
           c.take.new.self.nodes.items c.take.new.self.links.items l.invariant.parts some c.split_line.ensures.line refl
           c.in-Ok.ensures.nodes c.in-Ok.ensures.links c.in-Ok.ensures.readable;
-      told = line_told c.args.bytes.now (map (λ t. option_copied t) l.parts.told.items)
+      told = line_told c.most-most.result c.args.bytes.now (map (λ t. option_copied t) l.parts.told.items)
           (map (λ t. option_copied t) c.take.new.self.told.items) l.before.now l.left.now line later l.invariant.told
           some c.split_line.ensures.line c.in-Ok.ensures.told;
+      most = c.most-most.ensures;
       room = let r = l.invariant.room in omega (arith, r, shorter);
     }
 
@@ -36,8 +38,9 @@ returns-in-Err-clause-fault c =
     let l = c.loop-before in
     let shorter = c.split_line.ensures.shorter in
     let some : 0 < length l.left.now = omega (arith, shorter) in
-    line_unread c.args.bytes.now l.parts.nodes.items l.parts.links.items l.left.now c.split_line.result.0.now
-    c.split_line.result.1.now (l.count + 1) c.in-Err.fault l.invariant.parts some c.split_line.ensures.line
+    line_unread c.args.limit c.args.bytes.now l.parts.nodes.items l.parts.links.items l.left.now
+    c.split_line.result.0.now c.split_line.result.1.now (l.count + 1) c.in-Err.fault l.invariant.parts some
+    c.split_line.ensures.line
     c.in-Err.ensures.fault
 
 pub returns-clause-readable : goal.returns-clause-readable

@@ -1,6 +1,6 @@
 -- One id more, and the last one.
-use Rattle.std.proofs.Common.{◌≡◌, ◌∙◌, ℕ, ◌+◌, List, [], ◌∷◌, ◌++◌, get_or, drop, ap, sym, subst, arith}
-use Rattle.std.proofs.Common.{append_assoc, append-nil}
+use Rattle.std.proofs.Common.{◌≡◌, ◌≤◌, ◌∙◌, ℕ, ◌+◌, ◌*◌, length, List, [], ◌∷◌, ◌++◌, get_or, drop, ap, sym, subst}
+use Rattle.std.proofs.Common.{arith, append_assoc, append-nil}
 use Rattle.ov_graph.specs.Row.{picked}
 use Rattle.ov_graph.proofs.BitRows.Read.{next_picked, none_picked}
 use Rattle.ov_graphfile.proofs.group_from_names_or_ids.marked_nodes.Goals as goal
@@ -32,7 +32,8 @@ returns-clause-ids c =
     let row = c.args.row.now in
     let ids = c.loop-place.ids.items in
     let next = c.loop-place.next in
-    let enough = c.words-words.ensures.words.enough in
+    let enough = subst (λ (xs : List ℕ). length xs ≤ 64 * c.words_for-words.result) c.nodes-nodes.ensures.nodes
+    c.words_for-words.ensures.words.enough in
     let none : picked row next (drop next nodes) ≡ [] = none_picked row next (drop next nodes)
     (λ q l h. let m = c.requires q h in c.in_default.ensures.none q l (omega (arith, m, enough)) h) in
     sym (append-nil ids) ∙ ap (λ (xs : List ℕ). ids ++ xs) (sym none) ∙ c.loop-place.invariant.ids

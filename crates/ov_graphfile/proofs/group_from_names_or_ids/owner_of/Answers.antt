@@ -1,15 +1,26 @@
--- A name that two nodes have.
-use Rattle.std.proofs.Common.{arith}
-use Rattle.ov_graphfile.proofs.Meanings.{two_named}
+-- The name of one node, of two, or of none.
+use Rattle.std.proofs.Common.{◌∙◌, Some, length, sym, ap, subst}
+use Rattle.ov_graphfile.specs.Code.Bearers.{IsBearerOf}
+use Rattle.ov_graphfile.proofs.Meanings.{one_named, two_named}
 use Rattle.ov_graphfile.proofs.group_from_names_or_ids.owner_of.Goals as goal
 
-pub overflow_add-place : goal.overflow_add-place
-overflow_add-place c =
-    let below = c.in-Some.ensures.some.below in
-    let few = c.place_named.ensures.few in
-    omega (arith, below, few)
+pub owner_spelled-requires-clause-unnamed : goal.owner_spelled-requires-clause-unnamed
+owner_spelled-requires-clause-unnamed c =
+    let names = c.args.names.now in
+    subst (IsBearerOf names.told (length names.graph.nodes) c.args.part.now) (sym c.bearer.ensures ∙ c.in-None.is)
+    (c.requires.named c.args.part.now)
 
-pub returns-in-Some-place_named-clause-owner : goal.returns-in-Some-place_named-clause-owner
-returns-in-Some-place_named-clause-owner c =
-    two_named c.args.names.now c.args.part.now c.in-Some.place c.in-Some-place_named.field-0
-    c.place_named.ensures.graph c.in-Some.ensures.some c.in-Some-place_named.ensures.some
+pub returns-in-Some-One : goal.returns-in-Some-One
+returns-in-Some-One c =
+    let names = c.args.names.now in
+    let is = sym c.bearer.ensures ∙ c.in-Some-One.is ∙ ap Some c.in-Some-One.field-0-is in
+    let bearer = subst (IsBearerOf names.told (length names.graph.nodes) c.args.part.now) is
+    (c.requires.named c.args.part.now) in
+    (bearer.0, one_named names c.args.part.now c.in-Some-One.place bearer)
+
+pub returns-in-Some-Several : goal.returns-in-Some-Several
+returns-in-Some-Several c =
+    let names = c.args.names.now in
+    let is = sym c.bearer.ensures ∙ c.in-Some-Several.is ∙ ap Some c.in-Some-Several.field-0-is in
+    two_named names c.args.part.now c.requires.graph
+    (subst (IsBearerOf names.told (length names.graph.nodes) c.args.part.now) is (c.requires.named c.args.part.now))

@@ -1,7 +1,7 @@
 use Rattle.std.proofs.Common.{sym, subst}
 use Rattle.ov_ids.specs.Members.{Has}
 use Rattle.ov_ids.proofs.Members.{has_place}
-use Rattle.ov_net.proofs.Links.Changing.{changed_more, fits_each, live_kept}
+use Rattle.ov_net.proofs.Links.Changing.{changed_more, fits_each, live_kept, small_kept}
 use Rattle.ov_net.proofs.live_graph_updating.change_graph.Goals as goal
 
 pub change_once-requires-clause-fits : goal.change_once-requires-clause-fits
@@ -24,6 +24,7 @@ loop-change-preserved c =
     let once = c.change_once.ensures in
     record {
       graph = once.graph;
+      small = small_kept members change c.loop-change.graph c.change_once.new.graph once.change i.small;
       live = live_kept members change c.loop-change.graph c.change_once.new.graph once.change fits
           i.live;
       left = λ h rest. i.left h (changed_more members changes change c.loop-change.change-index

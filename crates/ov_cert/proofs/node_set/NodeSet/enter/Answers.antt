@@ -6,15 +6,16 @@ use Rattle.ov_cert.proofs.PathRules.NodeSets.{at_place, stranger_out, fresh_not,
 use Rattle.ov_cert.proofs.node_set.NodeSet.enter.Goals as goal
 
 pub returns-in_default-clause-fresh : goal.returns-in_default-clause-fresh
-returns-in_default-clause-fresh c =
+returns-in_default-clause-fresh g c =
     let g = c.self.inside.graph.now in
     let no = stranger_out g.nodes c.args.id c.in_default.ensures.none in
     fresh_stranger _ _ (ap (λ (v : NodeSetState). has v.graph.nodes c.args.id) (sym c.self.view_is) ∙ no)
 
 pub returns-then-has-clause-fresh : goal.returns-then-has-clause-fresh
-returns-then-has-clause-fresh c =
+returns-then-has-clause-fresh g c =
     let s = c.self.inside in
-    let at = at_place s.graph.now s.row c.in-Some.place c.args.id c.in-Some.ensures.graph c.in-Some.ensures.some.0
+    let at = at_place s.graph.now s.bits.words c.in-Some.place c.args.id c.in-Some.ensures.graph
+    c.in-Some.ensures.some.0
     c.in-Some.ensures.some.1 in
     fresh_not _ _ (ap (λ (v : NodeSetState). has v.graph.nodes c.args.id) (sym c.self.view_is) ∙ at.node)
     (ap (λ (v : NodeSetState). has v.members c.args.id) (sym c.self.view_is)
@@ -22,9 +23,10 @@ returns-then-has-clause-fresh c =
     ∙ c.if-has.true)
 
 pub returns-clause-fresh : goal.returns-clause-fresh
-returns-clause-fresh c =
+returns-clause-fresh g c =
     let s = c.self.inside in
-    let at = at_place s.graph.now s.row c.in-Some.place c.args.id c.in-Some.ensures.graph c.in-Some.ensures.some.0
+    let at = at_place s.graph.now s.bits.words c.in-Some.place c.args.id c.in-Some.ensures.graph
+    c.in-Some.ensures.some.0
     c.in-Some.ensures.some.1 in
     fresh_yes _ _ (ap (λ (v : NodeSetState). has v.graph.nodes c.args.id) (sym c.self.view_is) ∙ at.node)
     (ap (λ (v : NodeSetState). has v.members c.args.id) (sym c.self.view_is)
@@ -32,9 +34,10 @@ returns-clause-fresh c =
     ∙ c.if-has.false)
 
 pub returns-clause-entered : goal.returns-clause-entered
-returns-clause-entered c =
+returns-clause-entered g c =
     let s = c.self.inside in
-    let at = at_place s.graph.now s.row c.in-Some.place c.args.id c.in-Some.ensures.graph c.in-Some.ensures.some.0
+    let at = at_place s.graph.now s.bits.words c.in-Some.place c.args.id c.in-Some.ensures.graph
+    c.in-Some.ensures.some.0
     c.in-Some.ensures.some.1 in
     let of : List ℕ → NodeSetState = λ ms. record { graph = s.graph.now; members = ms } in
     ap of (at.taken c.put.new.row c.put.ensures) ∙ ap (λ (v : NodeSetState). record v

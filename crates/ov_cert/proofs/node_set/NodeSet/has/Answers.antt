@@ -6,14 +6,15 @@ use Rattle.ov_cert.proofs.PathRules.NodeSets.{at_place, stranger_unmarked}
 use Rattle.ov_cert.proofs.node_set.NodeSet.has.Goals as goal
 
 pub returns-in-Some : goal.returns-in-Some
-returns-in-Some c =
+returns-in-Some g c =
     let s = c.self.inside in
-    let at = at_place s.graph.now s.row c.in-Some.place c.args.id c.in-Some.ensures.graph c.in-Some.ensures.some.0
+    let at = at_place s.graph.now s.bits.words c.in-Some.place c.args.id c.in-Some.ensures.graph
+    c.in-Some.ensures.some.0
     c.in-Some.ensures.some.1 in
     at.member c.has.result c.has.ensures ∙ ap (λ (v : NodeSetState). has v.members c.args.id) c.self.view_is
 
 pub returns-in-None : goal.returns-in-None
-returns-in-None c =
+returns-in-None g c =
     let s = c.self.inside in
-    sym (stranger_unmarked s.row s.graph.now.nodes c.args.id c.in-None.ensures.none)
+    sym (stranger_unmarked s.bits.words s.graph.now.nodes c.args.id c.in-None.ensures.none)
     ∙ ap (λ (v : NodeSetState). has v.members c.args.id) c.self.view_is

@@ -8,7 +8,8 @@ use Rattle.ov_even.specs.Desk.{GroupDeskState, HasHand}
 use Rattle.ov_even.specs.Code.KeptDesk.{IsKept, pieces_in}
 use Rattle.ov_even.proofs.DeskTurns.Keeping.{in_hand, may_fail}
 use Rattle.ov_even.proofs.DeskTurns.Settling.{number_shared, haul_within, haul_read, hauls_rest, hauls_more, same_desk}
-use Rattle.ov_even.proofs.DeskTurns.Settling.{on_any_err, claims_failed, claims_stay, settle_held, settle_made, ClaimsSettled}
+use Rattle.ov_even.proofs.DeskTurns.Settling.{on_any_err, claims_failed, claims_stay, settle_held, settle_made}
+use Rattle.ov_even.proofs.DeskTurns.Settling.{ClaimsSettled}
 use Rattle.ov_even.proofs.group_desk.GroupDesk.settle.Goals as goal
 use Rattle.ov_even.proofs.group_desk.GroupDesk.settle.Goals.{then-is_cut+in_ok-fail, else-is_cut}
 

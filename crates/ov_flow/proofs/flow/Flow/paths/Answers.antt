@@ -8,17 +8,17 @@ use Rattle.ov_flow.specs.Flow.{FlowState, ArePlaces}
 use Rattle.ov_flow.proofs.flow.Flow.paths.Goals as goal
 
 pub returns-clause-fan : goal.returns-clause-fan
-returns-clause-fan c =
+returns-clause-fan g c =
     let n = c.self.inside.net in
     let ends = c.self.inside.work.ends.items in
     let ps = c.in_ok-write_paths.field-0 in
-    let fan = subst (λ (l : List ℕ). IsFanOf (net_by_place n) (length l) ps) c.deref-2.ensures.value
+    let fan = subst (λ (l : List ℕ). IsFanOf (net_by_place n) (length l) ps) c.deref.ensures.value
     c.in_ok-write_paths.ensures in
     subst (λ (v : FlowState). IsFanOf v.net v.held (map (map (node_at v.net.graph)) ps)) c.self.view_is
     (fan_by_place n c.self.invariant.0 (length ends) ps fan)
 
 pub returns-clause-places : goal.returns-clause-places
-returns-clause-places c =
+returns-clause-places g c =
     let n = c.self.inside.net in
     let ps = c.in_ok-write_paths.field-0 in
     let fan = c.in_ok-write_paths.ensures in

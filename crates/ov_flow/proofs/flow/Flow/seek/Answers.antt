@@ -4,13 +4,13 @@ use Rattle.ov_flow.proofs.Ending.{fan_held}
 use Rattle.ov_flow.proofs.flow.Flow.seek.Goals as goal
 
 pub returns-then-settle-clause-fans : goal.returns-then-settle-clause-fans
-returns-then-settle-clause-fans c =
+returns-then-settle-clause-fans g c =
     let e = c.places.ensures in
     let w = c.settle.new.work in
-    fan_held c.args.net e.net e.placed (table_of w.from.items) w.ends.items c.settle.ensures.work.flow
+    fan_held c.args.net e.net e.placed (table_of w.from) w.ends.items c.settle.ensures.work.flow
 
 pub returns-clause-fans : goal.returns-clause-fans
-returns-clause-fans c =
+returns-clause-fans g c =
     let e = c.places.ensures in
     let w = c.settle.new.work in
-    fan_held c.args.net e.net e.placed (table_of w.from.items) w.ends.items c.settle.ensures.work.flow
+    fan_held c.args.net e.net e.placed (table_of w.from) w.ends.items c.settle.ensures.work.flow

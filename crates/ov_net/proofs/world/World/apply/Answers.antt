@@ -6,6 +6,7 @@ use Rattle.ov_net.specs.Net.{Net}
 use Rattle.ov_net.specs.declared.journal_entry_and_changes.Change.{Change}
 use Rattle.ov_net.specs.declared.journal_entry_and_changes.Entry.{Entry}
 use Rattle.ov_net.proofs.Journal.Resting.{same_after}
+use Rattle.ov_net.proofs.Links.Changing.{small_gained}
 use Rattle.ov_net.proofs.Links.Kept.{fit_after, live_after}
 use Rattle.ov_net.proofs.Standing.{graph_after, graph_next, may_gain, stands_next}
 use Rattle.ov_net.proofs.world.World.apply.Goals as goal
@@ -21,6 +22,14 @@ reserve_and_change-requires-clause-newborn c =
 
 pub change_graph-requires-clause-graph : goal.change_graph-requires-clause-graph
 change_graph-requires-clause-graph c = c.in_ok-reserve_and_change.ensures.graph
+
+pub change_graph-requires-clause-small : goal.change_graph-requires-clause-small
+change_graph-requires-clause-small c =
+    let before = c.self.inside in
+    small_gained _ before.graph c.reserve_and_change.new.graph
+    (may_gain (world_of before.params before.nodes before.packets.items before.journal.items) c.args.self.now
+    c.args.event before.graph c.self.view_is c.self.invariant.0 c.self.invariant.1 c.requires.judged)
+    c.in_ok-reserve_and_change.ensures.gains
 
 pub change_graph-requires-clause-live : goal.change_graph-requires-clause-live
 change_graph-requires-clause-live c =

@@ -7,21 +7,21 @@ use Rattle.ov_split.proofs.ByNames.Rows.{net_of, kept_of, one_picked}
 use Rattle.ov_split.proofs.source_and_targets_net.SplitNet.new.Goals as goal
 
 pub returns-clause-net : goal.returns-clause-net
-returns-clause-net c =
-    let g = c.args.graph.now in
+returns-clause-net g c =
+    let graph = c.args.graph.now in
     let row = c.row_of-avoided.result in
     let of : List ℕ → SplitNetState = λ avoided. record {
-      graph = g;
+      graph = graph;
       avoided = avoided;
-      source = node_at g c.args.source;
-      targets = picked c.args.targets 0 g.nodes;
+      source = node_at graph c.args.source;
+      targets = picked c.args.targets 0 graph.nodes;
     } in
-    let kept = kept_of g row c.args.source c.args.targets c.args.avoided c.nodes.ensures.graph c.requires.source
+    let kept = kept_of graph row c.args.source c.args.targets c.args.avoided c.nodes.ensures.graph c.requires.source
     c.requires.avoided c.requires.targets c.row_of-avoided.ensures in
-    ap of (one_picked g row c.args.avoided c.nodes.ensures.graph kept.avoided_below c.row_of-avoided.ensures)
+    ap of (one_picked graph row c.args.avoided c.nodes.ensures.graph kept.avoided_below c.row_of-avoided.ensures)
 
 pub returns-clause-is_net : goal.returns-clause-is_net
-returns-clause-is_net c =
+returns-clause-is_net g c =
     let row = c.row_of-avoided.result in
     net_of c.args.graph.now row c.args.source c.args.targets
     (kept_of c.args.graph.now row c.args.source c.args.targets c.args.avoided c.nodes.ensures.graph c.requires.source

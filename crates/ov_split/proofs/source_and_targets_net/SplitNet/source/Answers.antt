@@ -6,12 +6,12 @@ use Rattle.ov_split.proofs.ByNames.Rows.{net_of, source_placed}
 use Rattle.ov_split.proofs.source_and_targets_net.SplitNet.source.Goals as goal
 
 pub returns-clause-net : goal.returns-clause-net
-returns-clause-net c =
+returns-clause-net g c =
     let s = c.self.inside in
-    subst IsSplitNet c.self.view_is (net_of s.graph.now s.avoided s.source s.targets c.self.invariant)
+    subst IsSplitNet c.self.view_is (net_of s.graph.now s.avoided.words s.source s.targets.words c.self.invariant.0)
 
 pub returns-clause-place : goal.returns-clause-place
-returns-clause-place c =
+returns-clause-place g c =
     let s = c.self.inside in
     subst (λ (n : SplitNetState). s.source ≡ (net_by_place n).source) c.self.view_is
-    (sym (source_placed s.graph.now s.avoided s.source s.targets c.self.invariant))
+    (sym (source_placed s.graph.now s.avoided.words s.source s.targets.words c.self.invariant.0))

@@ -8,12 +8,12 @@ use Rattle.ov_split.proofs.ByNames.Rows.{net_of, targets_placed}
 use Rattle.ov_split.proofs.source_and_targets_net.SplitNet.targets.Goals as goal
 
 pub returns-clause-net : goal.returns-clause-net
-returns-clause-net c =
+returns-clause-net g c =
     let s = c.self.inside in
-    subst IsSplitNet c.self.view_is (net_of s.graph.now s.avoided s.source s.targets c.self.invariant)
+    subst IsSplitNet c.self.view_is (net_of s.graph.now s.avoided.words s.source s.targets.words c.self.invariant.0)
 
 pub returns-clause-places : goal.returns-clause-places
-returns-clause-places c =
+returns-clause-places g c =
     let s = c.self.inside in
-    subst (λ (n : SplitNetState). (p : ℕ) → HasBit s.targets p ↔ Has (net_by_place n).targets p) c.self.view_is
-    (targets_placed s.graph.now s.avoided s.source s.targets c.self.invariant)
+    subst (λ (n : SplitNetState). (p : ℕ) → HasBit s.targets.words p ↔ Has (net_by_place n).targets p) c.self.view_is
+    (targets_placed s.graph.now s.avoided.words s.source s.targets.words c.self.invariant.0)

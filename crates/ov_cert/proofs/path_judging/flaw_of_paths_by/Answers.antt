@@ -1,0 +1,21 @@
+-- Before the first path, the two ends are used.
+use Rattle.std.proofs.Common.{ap, ap₂, List, ℕ, length, arith}
+use Rattle.ov_cert.specs.Code.Kept.{NodeSetState}
+use Rattle.ov_cert.specs.Code.Flaws.{pair_paths_flaw}
+use Rattle.ov_cert.proofs.PathRules.NodeSets.{two_entered, node_tested}
+use Rattle.ov_cert.proofs.path_judging.flaw_of_paths_by.Goals as goal
+
+pub loop-at-init : goal.loop-at-init
+loop-at-init g c =
+    let graph = c.args.graph.now in
+    let e = two_entered graph c.args.i c.args.j c.args.used.now c.enter.new.self c.enter-2.new.self c.enter.result
+    c.enter-2.result
+    (node_tested graph c.args.i c.requires.i) (node_tested graph c.args.j c.requires.j) c.requires.differ
+    c.requires.used
+    c.enter.ensures.fresh c.enter.ensures.entered c.enter-2.ensures.fresh c.enter-2.ensures.entered in
+    record {
+      graph = ap (λ (v : NodeSetState). v.graph) e;
+      few = omega (arith, c.iter-path-items.ensures.few, ap length c.iter-path-items.ensures.paths);
+      left = ap₂ (λ (v : NodeSetState) (ps : List (List ℕ)). pair_paths_flaw graph v.members c.args.i c.args.j 0 ps) e
+          c.iter-path-items.ensures.paths;
+    }

@@ -1,7 +1,0 @@
-use Rattle.std.proofs.Common.{subst}
-use Rattle.ov_graph.specs.Links.{IsGraph}
-use Rattle.ov_graph.proofs.BitRows.Read.{is_graph}
-use Rattle.ov_graph.proofs.graph.Graph.links.Goals as goal
-
-pub returns-clause-graph : goal.returns-clause-graph
-returns-clause-graph c = subst IsGraph c.self.view_is (is_graph _ _ c.self.invariant)

@@ -1,5 +1,0 @@
-use Rattle.ov_graph.proofs.BitRows.Read.{all_links}
-use Rattle.ov_graph.proofs.link_iterators.Links.new.Goals as goal
-
-pub returns : goal.returns
-returns c = all_links c.args.nodes.now c.args.rows.now c.requires.each

@@ -1,0 +1,10 @@
+use Rattle.std.proofs.Common.{subst}
+use Rattle.ov_graph.specs.Links.{IsGraph, IsSmall}
+use Rattle.ov_graph.proofs.BitRows.Read.{is_graph}
+use Rattle.ov_graph.proofs.row_graph.RowGraph.nodes.Goals as goal
+
+pub returns-clause-graph : goal.returns-clause-graph
+returns-clause-graph c = subst IsGraph c.self.view_is (is_graph _ _ c.self.invariant)
+
+pub returns-clause-small : goal.returns-clause-small
+returns-clause-small c = subst IsSmall c.self.view_is c.self.invariant.few
