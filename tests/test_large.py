@@ -14,6 +14,8 @@ import json
 import os
 import pathlib
 import random
+import resource
+import signal
 import subprocess
 import sys
 import tempfile
@@ -182,7 +184,6 @@ class Programs(unittest.TestCase):
         self.assertEqual(check.judge(certificate.encode(), check.NEWEST_LARGE), holds)
         return certificate
 
-
     def assert_parts(self, nodes, links, line, k):
         """The answer has a cut of k nodes, without which near is in its side and far is not."""
         said = report(line)
@@ -319,6 +320,51 @@ class Forged(Programs):
             key = drawn.choice(["cut", "side", "group", "nodes"])
             said[key].pop(drawn.randrange(len(said[key])))
         return json.dumps(said)
+
+
+class Bounds(Programs):
+    """With little memory, and on a small stack, a program does its work, says that memory is out, or prints nothing."""
+
+    # What the loader of programs ends with if it has no memory, and what the system ends a program with whose stack has
+    # no room to grow.
+    CANNOT_START, NO_STACK = 127, -signal.SIGSEGV
+
+    def setUp(self):
+        super().setUp()
+        nodes, links, _ = scattered(harary(4, 1500), 6)
+        graph = text_of(nodes, links)
+        line, certificate = self.answered(graph, "--certificate")
+        self.analysed = [
+            ([OVERLAY, "analyse", "--large"], graph, f"{line}\n"),
+            ([OVERLAY, "analyse", "--large", "--certificate"], graph, f"{line}\n{certificate}\n"),
+        ]
+        self.checked = [CHECK_LARGE], certificate, line.replace("report 0", "holds 0") + "\n"
+
+    def bounded(self, kind, most, words, given):
+        """What a program prints on standard output, and its status, if it has no more of a resource than this."""
+        limits = {"preexec_fn": lambda: resource.setrlimit(kind, (most, most)), "timeout": 600}
+        ended = subprocess.run(words, input=given.encode(), capture_output=True, **limits)
+        return ended.stdout.decode(), ended.returncode
+
+    def test_a_small_stack(self):
+        enough = [*((512 * 1024, it) for it in self.analysed), (256 * 1024, self.checked)]
+        for most, (words, given, right) in enough:
+            with self.subTest((words[1:], most)):
+                self.assertEqual(self.bounded(resource.RLIMIT_STACK, most, words, given), (right, 0))
+
+    def test_little_memory(self):
+        seen = set()
+        for words, given, right in [*self.analysed, self.checked]:
+            most, told = 64_000_000, None
+            while told != ("", self.CANNOT_START):
+                with self.subTest((words[1:], most)):
+                    told = self.bounded(resource.RLIMIT_AS, most, words, given)
+                    allowed = [(right, 0), ("refused 99\n", 1), ("", self.NO_STACK), ("", self.CANNOT_START)]
+                    self.assertIn(told, allowed)
+                    seen.add(told)
+                most = most * 19 // 20
+            self.assertIn((right, 0), seen)
+        self.assertIn(("refused 99\n", 1), seen)
 
 
 class Imports(Programs):
