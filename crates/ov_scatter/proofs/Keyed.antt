@@ -1,5 +1,5 @@
 -- The keys of places, and the keys of members in their order.
-use Rattle.std.proofs.Common.{◌≡◌, ◌∙◌, ◌↔◌, ◌⊎◌, ◌+◌, ◌*◌, ◌%◌, ◌≤◌, ◌<◌, inl, inr, List, [], ◌∷◌, ◌++◌, ℕ, zero, suc}
+use Rattle.std.proofs.Common.{◌≡◌, ◌∙◌, ◌+◌, ◌*◌, ◌%◌, ◌≤◌, ◌<◌, inl, inr, List, [], ◌∷◌, ◌++◌, ℕ, zero, suc}
 use Rattle.std.proofs.Common.{sym, ap, subst, refl, length, get_or, arith, eq-or-lt_of_le}
 use Rattle.std.proofs.lemmas.Nat.{mod-mul-add, mod_below, mul-mod_first}
 use Rattle.std.specs.List.{AllByRecursion}

@@ -1,5 +1,5 @@
 -- As many nodes split a renamed group as split the group.
-use Rattle.std.proofs.Common.{◌≡◌, ◌∙◌, ◌↔◌, ◌≤◌, ◌<◌, inl, inr, List, [], ◌∷◌, ℕ, length, arith, sym, subst, refl}
+use Rattle.std.proofs.Common.{◌≡◌, ◌∙◌, ◌≤◌, inl, inr, List, [], ◌∷◌, ℕ, length, arith, sym, subst, refl}
 use Rattle.ov_ids.specs.Members.{Has}
 use Rattle.ov_ids.proofs.Members.{has_or_not}
 use Rattle.ov_graph.specs.Joined.{Joined, Leads, NoFewerSplit, Survives}

@@ -1,4 +1,4 @@
-ghost use Rattle.std.specs.Prelude.{◌≡◌, ◌↔◌, ◌≤◌, ◌<◌, ◌*◌, ◌%◌, ℕ, length, map, IfOk, IsTrue};
+ghost use Rattle.std.specs.Prelude.{◌≡◌, ◌↔◌, ◌≤◌, ◌<◌, ℕ, length, map, IfOk, IsTrue};
 ghost use Rattle.ov_ids.specs.Members.{Has, Ascends, Ordered};
 ghost use Rattle.ov_graph.specs.Joined.{NoFewerSplit};
 ghost use Rattle.ov_graph.specs.Links.{IsGraph, IsGroup, Precedes, most_of_any_graph};
@@ -100,6 +100,7 @@ fn renamed_links(alloc: Global, graph: &Graph) -> Result<Vec<(NodeId, NodeId)>, 
 }
 
 /// Two ids, the lower one first.
+#[tactic(auto, unfolding(crate::specs::Code::Keys::upward))]
 fn upward(a: NodeId, b: NodeId) -> (NodeId, NodeId)
     ensures { result ≡ upward a b }
 {

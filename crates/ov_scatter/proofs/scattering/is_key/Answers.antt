@@ -1,7 +1,7 @@
 -- The node at the place of the key, if there is one, is the only one that may have it.
-use Rattle.std.proofs.Common.{◌≡◌, ◌∙◌, ◌*◌, ◌%◌, ◌<◌, arith, get_or, length, rules, subst, sym}
+use Rattle.std.proofs.Common.{◌≡◌, ◌∙◌, ◌<◌, arith, get_or, length, subst, sym}
 use Rattle.ov_ids.specs.Members.{Has}
-use Rattle.ov_scatter.specs.Code.Keys.{IsKeyOf, place_of_key, scattered_id}
+use Rattle.ov_scatter.specs.Code.Keys.{place_of_key, scattered_id}
 use Rattle.ov_scatter.proofs.Keyed.{at_key, any_default, key_at}
 use Rattle.ov_scatter.proofs.scattering.is_key.Goals as goal
 
