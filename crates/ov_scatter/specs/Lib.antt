@@ -1,0 +1,3 @@
+pub mod Renaming
+pub mod Theorems
+pub mod Code
