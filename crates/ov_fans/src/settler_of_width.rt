@@ -59,6 +59,7 @@ impl<'g, const W: usize> WideSettler<'g, W> {
     }
 
     /// Settles a piece. See `Settler::settle`.
+    #[inline(never)]
     pub(crate) fn settle(&mut self, piece: Piece) -> Result<Settled, OutOfMemory>
         requires { IsPiece self.old.graph self.old.members piece }
         ensures piece { IfOk result (λ s. s.piece ≡ piece) }
@@ -77,6 +78,7 @@ impl<'g, const W: usize> WideSettler<'g, W> {
     }
 
     /// The nearest minimum cut of a piece, or None if it is good. See `Settler::nearest_cut`.
+    #[inline(never)]
     pub(crate) fn nearest_cut(&mut self, piece: Piece) -> Result<Option<Box<Parting>>, OutOfMemory>
         requires { IsPiece self.old.graph self.old.members piece }
         ensures none { IfOk result (λ cut. IfNone cut (IsGood self.old.graph self.old.members piece)) }
@@ -86,6 +88,19 @@ impl<'g, const W: usize> WideSettler<'g, W> {
         if is_linked_pair(&self.group, piece) || has_short_paths(&self.group, piece) {
             return Ok(None);
         }
+        self.cut_sought(piece)
+    }
+
+    /// The nearest minimum cut of a piece that is no linked pair, or None if its paths are found. It is a call of its
+    /// own, since a call clears the room of all its values at once, and most pieces need no search.
+    #[inline(never)]
+    fn cut_sought(&mut self, piece: Piece) -> Result<Option<Box<Parting>>, OutOfMemory>
+        requires piece { IsPiece self.old.graph self.old.members piece }
+        requires apart { ¬ IsLinkedPair self.old.graph self.old.members piece }
+        ensures none { IfOk result (λ cut. IfNone cut (IsGood self.old.graph self.old.members piece)) }
+        ensures some { IfOk result (λ cut. IfSome cut (λ c. IsParted self.old.graph self.old.members piece c.value)) }
+        ensures stays { self.new ≡ self.old }
+    {
         match seek(&self.group, &mut self.flow, piece) {
             None => Ok(None),
             Some(rows) => {
@@ -97,6 +112,7 @@ impl<'g, const W: usize> WideSettler<'g, W> {
     }
 
     /// The result of a search for a piece that is no linked pair.
+    #[inline(never)]
     fn sought(&mut self, piece: Piece) -> Result<Found, OutOfMemory>
         requires piece { IsPiece self.old.graph self.old.members piece }
         requires apart { ¬ IsLinkedPair self.old.graph self.old.members piece }

@@ -98,6 +98,9 @@ fn places_to(from: &PlaceTable, end: u16) -> usize
     from.len()
 }
 
+/// From how many places for each path on a path is followed sooner than all of the table is gone through.
+const SPARSE: usize = 64;
+
 /// How many places all paths to the ends have, without the source.
 fn used(from: &PlaceTable, ends: &[u16]) -> usize
     requires table { IsTable (length from.now) from.now }
@@ -106,6 +109,9 @@ fn used(from: &PlaceTable, ends: &[u16]) -> usize
     requires few_ends { length ends.now ≤ length from.now }
     ensures { result ≤ most_of_any_graph * most_of_any_graph }
 {
+    if from.len() / SPARSE <= ends.len() {
+        return from.used();
+    }
     let mut count = 0;
     for end in ends.iter() {
         count += places_to(from, *end);
@@ -129,12 +135,13 @@ fn write_path<const W: usize>(
     ensures { OnOk result
         (IsWritten (net_by_place net.now) (table_of from.now) flat.old.items flat.new.items end) }
 {
+    let source = net.source() as u16;
     let mut at = end;
-    while let Some(before) = from.get(at as usize) {
+    while at != source {
         flat.push(at)?;
-        at = before;
+        at = from.before(at as usize);
     }
-    flat.push(net.source() as u16)?;
+    flat.push(source)?;
     Ok(())
 }
 

@@ -1,4 +1,5 @@
-ghost use Rattle.std.specs.Prelude.{◌≡◌, ◌<◌, ℕ, length, set, Some, None, IfOk};
+ghost use Rattle.std.specs.Prelude.{◌≡◌, ◌<◌, ◌≤◌, ℕ, length, set, Some, None, IfOk};
+ghost use Rattle.ov_split.specs.Code.Residual.{IsUsed};
 ghost use Rattle.ov_flow.specs.Code.Reached.{tip_of};
 ghost use Rattle.ov_flow.specs.Code.Walked.{table_of};
 ghost use Rattle.ov_flow.specs.Code.Stamped.{AreStamped};
@@ -71,6 +72,22 @@ impl PlaceTable {
         Some(cell.before)
     }
 
+    /// The place before a place that is on a path. No stamp is looked at.
+    #[inline(always)]
+    pub(crate) fn before(&self, place: usize) -> u16
+        requires { IsUsed (table_of self.now) place }
+        ensures { table_of self.now place ≡ Some result }
+    {
+        self.cells[place].before
+    }
+
+    /// How many places are on paths. All of the table is gone through.
+    pub(crate) fn used(&self) -> usize
+        ensures { result ≤ length self.now }
+    {
+        count_stamped(&self.cells, self.stamp)
+    }
+
     /// The open end after a link to `w` is taken.
     #[inline(always)]
     pub(crate) fn tip(&self, w: u16) -> u16
@@ -128,6 +145,19 @@ fn blank_cells(alloc: Global, places: usize) -> Result<Vec<Cell>, AllocError>
         cells.push(BLANK)?;
     }
     Ok(cells)
+}
+
+/// How many cells have this stamp.
+fn count_stamped(cells: &[Cell], stamp: u16) -> usize
+    ensures { result ≤ length cells.now }
+{
+    let mut count = 0;
+    for cell in cells.iter() {
+        if cell.stamp == stamp {
+            count += 1;
+        }
+    }
+    count
 }
 
 /// Lets no cell count any more, whatever the stamp of the table will be.

@@ -7,8 +7,8 @@ use Rattle.ov_fans.specs.Group.{SettlerState}
 use Rattle.ov_fans.specs.Pieces.{IsPiece, IsGood, level_of, paths_of}
 use Rattle.ov_fans.specs.Code.Nets.{net_of}
 use Rattle.ov_fans.proofs.PieceNets.Routes.{asked_paths}
-use Rattle.ov_fans.proofs.settler_of_width.WideSettler.nearest_cut.Goals as goal
-use Rattle.ov_fans.proofs.settler_of_width.WideSettler.nearest_cut.Goals.{in-None, in-Some+in_ok-parting-in-Some}
+use Rattle.ov_fans.proofs.settler_of_width.WideSettler.cut_sought.Goals as goal
+use Rattle.ov_fans.proofs.settler_of_width.WideSettler.cut_sought.Goals.{in-None, in-Some+in_ok-parting-in-Some}
 
 pub returns-clause-none : goal.returns-clause-none
 returns-clause-none g c =
@@ -16,7 +16,7 @@ returns-clause-none g c =
     let p = c.args.piece in
     let e = c.seek.ensures in
     let k = c.seek.new.flow.held in
-    let at = subst (λ (s : SettlerState). IsPiece s.graph s.members p) (sym c.self.view_is) c.requires in
+    let at = subst (λ (s : SettlerState). IsPiece s.graph s.members p) (sym c.self.view_is) c.requires.piece in
     let good = IsGood c.args.self.now.graph c.args.self.now.members p in
     elim c.match-seek.branch [
       | in-None w ↦
