@@ -14,6 +14,7 @@ import json
 import os
 import pathlib
 import random
+import re
 import resource
 import signal
 import subprocess
@@ -368,6 +369,29 @@ class Bounds(Programs):
             self.assertTrue((right, [], 0) in seen, words[1:])
             seen = [refused] if refused in seen else []
         self.assertEqual(seen, [refused])
+
+
+class Sizes(Programs):
+    """A certificate of more than 10,000,000 ids is announced on standard error, and a smaller one is not."""
+
+    def certified(self, count):
+        """What is printed of a ring with ids in order: on standard error, and the answer with its certificate."""
+        out, err, status = run(OVERLAY, "analyse", "--large", "--certificate", given=text_of(*harary(2, count)[:2]))
+        self.assertEqual(status, 0, err)
+        return err, out
+
+    def test_rings_in_order(self):
+        # Of each node but the first two one path has 2 ids, and the other leads up to the last node and the first one.
+        for count, ids in (4470, 9_997_150), (4471, 10_001_622):
+            self.assertEqual(ids, sum(2 + count - node + 1 for node in range(2, count)))
+        self.assertEqual(self.certified(4470)[0], "")
+        err, out = self.certified(4471)
+        told = re.fullmatch(r"the certificate has 10001622 ids in its paths, about (\d+) MB; [^\n]+\n", err)
+        self.assertTrue(told, err)
+        self.assertLess(abs(int(told[1]) - len(out) / 1e6), len(out) / 1e7)
+        said = json.loads(out.splitlines()[1])
+        walks = (walk for entry in said["pairs"] + said["fans"] for walk in entry["paths"])
+        self.assertEqual(sum(map(len, walks)), ids)
 
 
 class Imports(Programs):

@@ -12,10 +12,11 @@ ghost use Rattle.ov_answers.specs.Code.GivenNames.{HasNames, given_names};
 ghost use Rattle.ov_answers.specs.Code.ToldOfGraph.{IsToldOfGraph};
 
 use crate::answer_making::{Answer, FILE_MOMENT, answer_without_file, begun_answer, refusal};
+use crate::answer_watcher::AnswerWatcher;
 use crate::request::{Request, ToldAnalysis};
 use ov_certwriter::{CertificateWriteFault, PlacedAnswer, place_answer, write_large_certificate};
 use ov_crew::{OpenGate, settle_group_watched};
-use ov_even::{Haul, Watcher};
+use ov_even::Haul;
 use ov_graph::Graph;
 use ov_graphfile::Names;
 use ov_ids::{NodeId, Workers};
@@ -27,7 +28,7 @@ use std::thread::Threads;
 
 /// Analyses this graph and this group, and writes what the request asks for. Names are given if lines with names or
 /// sentences are asked for. If it is out of memory, nothing was written. Returns what is told.
-pub(crate) fn tell_graph<T: Threads + Sync, W: Write, P: Watcher>(
+pub(crate) fn tell_graph<T: Threads + Sync, W: Write, P: AnswerWatcher>(
     rt: &T,
     alloc: Global,
     graph: &Graph,
@@ -51,7 +52,7 @@ pub(crate) fn tell_graph<T: Threads + Sync, W: Write, P: Watcher>(
 
 /// The same, with the certificate file.
 #[tactic(auto, using(crate::proofs::Written::refused_or_memory))]
-fn tell_with_file<T: Threads + Sync, W: Write, P: Watcher>(
+fn tell_with_file<T: Threads + Sync, W: Write, P: AnswerWatcher>(
     rt: &T,
     alloc: Global,
     graph: &Graph,
@@ -68,7 +69,9 @@ fn tell_with_file<T: Threads + Sync, W: Write, P: Watcher>(
 {
     let workers = request.workers;
     match settle_group_watched(rt, alloc, graph, group, workers, &OpenGate, watcher) {
-        Ok(hauls) => tell_hauls(rt, alloc, graph, group, hauls, names, request, sink),
+        Ok(hauls) => tell_hauls(
+            rt, alloc, graph, group, hauls, names, request, watcher, sink,
+        ),
         Err(fault) => {
             let answer = refusal(alloc, graph, group, fault)?;
             write_answer(rt, alloc, workers, answer, None, sink)
@@ -76,8 +79,9 @@ fn tell_with_file<T: Threads + Sync, W: Write, P: Watcher>(
     }
 }
 
-/// Tells the answer for which these hauls suffice, and writes its certificate file behind it.
-fn tell_hauls<T: Threads + Sync, W: Write>(
+/// Tells the answer for which these hauls suffice, and writes its certificate file behind it. The watcher is told before
+/// how large that is.
+fn tell_hauls<T: Threads + Sync, W: Write, P: AnswerWatcher>(
     rt: &T,
     alloc: Global,
     graph: &Graph,
@@ -85,6 +89,7 @@ fn tell_hauls<T: Threads + Sync, W: Write>(
     hauls: Vec<Haul>,
     names: Option<&Names<'_>>,
     request: &Request<'_>,
+    watcher: &mut P,
     sink: &mut Sink<W>,
 ) -> Result<ToldAnalysis, RunFault>
     requires names { HasNames request.now.names (option_map (λ n. n.now) names) }
@@ -96,7 +101,15 @@ fn tell_hauls<T: Threads + Sync, W: Write>(
 {
     let placed = place_answer(alloc, graph, group, &hauls)?;
     let answer = begun_answer(alloc, placed.outline(), graph, group, names, request)?;
+    tell_size(graph, &placed, watcher);
     write_answer(rt, alloc, request.workers, answer, Some(&placed), sink)
+}
+
+/// Tells the watcher how large the certificate of this graph is.
+fn tell_size<P: AnswerWatcher>(graph: &Graph, placed: &PlacedAnswer<'_>, watcher: &mut P) {
+    if let Some(highest) = graph.nodes().last() {
+        watcher.writes(placed.path_ids(), *highest);
+    }
 }
 
 /// Writes the text of an answer, and behind it the certificate file if there is one. The file is written as it is made,

@@ -3,10 +3,10 @@ ghost use Rattle.ov_io.specs.Device.{most_faults};
 ghost use Rattle.ov_answers.specs.Analysing.{IsAnalysisOf, IsFileAnalysis};
 
 use crate::answer_making::graph_of;
+use crate::answer_watcher::AnswerWatcher;
 use crate::answer_writing::tell_graph;
 use crate::report_or_refusal::ReportOrRefusal;
 use crate::request::Request;
-use ov_even::Watcher;
 use ov_graph::SizeLimit;
 use ov_ids::{NodeId, Workers};
 use ov_io::{Sink, Source};
@@ -27,7 +27,7 @@ use std::thread::Threads;
 /// are chosen here.
 ///
 /// What was settled for each certificate that was written keeps its memory until the process ends.
-pub fn analyse_file<T: Threads + Sync, R: Read, W: Write, P: Watcher>(
+pub fn analyse_file<T: Threads + Sync, R: Read, W: Write, P: AnswerWatcher>(
     rt: &T,
     alloc: Global,
     limit: SizeLimit,
@@ -59,7 +59,7 @@ pub fn analyse_file<T: Threads + Sync, R: Read, W: Write, P: Watcher>(
 
 /// Does what `analyse_file` does with the graph file of these bytes, which were read before.
 #[tactic(auto, using(crate::proofs::Written::refused))]
-pub fn analyse_bytes<T: Threads + Sync, W: Write, P: Watcher>(
+pub fn analyse_bytes<T: Threads + Sync, W: Write, P: AnswerWatcher>(
     rt: &T,
     alloc: Global,
     limit: SizeLimit,

@@ -3,10 +3,10 @@ ghost use Rattle.ov_io.specs.Device.{most_faults};
 ghost use Rattle.ov_answers.specs.Analysing.{IsAnalysisOf};
 ghost use Rattle.ov_answers.specs.Telling.{IsToldOf, answered_of};
 
+use crate::answer_watcher::AnswerWatcher;
 use crate::answer_writing::tell_graph;
 use crate::graph_without_nodes::graph_without;
 use crate::request::{Request, ToldAnalysis};
-use ov_even::Watcher;
 use ov_graphfile::{Names, read_named_graph};
 use ov_io::Sink;
 use ov_run_meaning::{RunFault, members_of};
@@ -20,7 +20,7 @@ use std::thread::Threads;
 /// Nodes that are gone, and their links, are taken away before the analysis: the answer and its certificate are those
 /// of the graph that is left. Without names, and if no node is gone, what is written is the same as there. The faults
 /// are the same as there, in the same order, and what was settled for a certificate that was written keeps its memory.
-pub fn analyse_told<T: Threads + Sync, W: Write, P: Watcher>(
+pub fn analyse_told<T: Threads + Sync, W: Write, P: AnswerWatcher>(
     rt: &T,
     alloc: Global,
     bytes: &[u8],
@@ -40,7 +40,7 @@ pub fn analyse_told<T: Threads + Sync, W: Write, P: Watcher>(
 
 /// The same, by what is told alone.
 #[tactic(auto, using(crate::proofs::Tellings::refused, crate::proofs::Refused::of_graph_file))]
-fn tell<T: Threads + Sync, W: Write, P: Watcher>(
+fn tell<T: Threads + Sync, W: Write, P: AnswerWatcher>(
     rt: &T,
     alloc: Global,
     bytes: &[u8],

@@ -3,6 +3,7 @@
 #![tactic(auto)]
 
 mod answer_making;
+mod answer_watcher;
 mod answer_writing;
 mod component_texts;
 mod graph_file_analysis;
@@ -14,6 +15,7 @@ mod request;
 mod sentences;
 mod survivors_and_least_linked_members;
 
+pub use answer_watcher::AnswerWatcher;
 pub use graph_file_analysis::{analyse_bytes, analyse_file};
 pub use graph_file_analysis_with_names::analyse_told;
 pub use graph_without_nodes::{graph_without, members_left};

@@ -1,6 +1,7 @@
 -- A certificate, its outline, and its entries.
 use Rattle.std.proofs.Common.{◌≡◌, ◌∙◌, ℕ, List, map, refl, sym, ap, ap₂, subst}
 use Rattle.serde_json.specs.Written.{compact_text}
+use Rattle.ov_ids.proofs.Members.{has_place}
 use Rattle.ov_graph.specs.Links.{LinkGraph, IsGraph, IsGroup}
 use Rattle.ov_cert.specs.Valid.{IsValidForGroup}
 use Rattle.ov_cert.specs.declared.cert.Cert.{Cert}
@@ -18,7 +19,7 @@ use Rattle.ov_even.specs.declared.paths_by_ids.NamedPaths.{NamedPaths}
 use Rattle.ov_even.proofs.AnalysisSteps.Outlining.{entered_full}
 use Rattle.ov_even.proofs.EvenTest.Answering.{linked_valid}
 use Rattle.ov_certwriter.specs.Code.Parts.{without_entries}
-use Rattle.ov_certwriter.specs.Code.Placed.{split_with, cert_with, HasEntries}
+use Rattle.ov_certwriter.specs.Code.Placed.{split_with, cert_with, HasEntries, AreFull}
 
 -- ---- what an outline says of its certificate
 
@@ -69,3 +70,13 @@ answered g q (cert.Linked k) named graph group outline wanted asked =
 answered g q (cert.Split o) named graph group outline wanted asked =
     let full = entered_full g q o named graph group outline wanted asked in
     record { answer = full.answer; valid = full.valid }
+
+-- ---- the entries of a valid certificate have as many paths as it says
+
+pub valid_full : (g : LinkGraph) (q : List ℕ) (o : Cert) (pairs : List PairPaths) (fans : List FanPaths)
+    → IsValidForGroup g q (cert_with o pairs fans) → AreFull o pairs fans
+valid_full g q (cert.Linked k) pairs fans valid = tt
+valid_full g q (cert.Split c) pairs fans valid = record {
+  pairs = λ place d low. (valid.1.pairs.paths _ (has_place pairs place d low)).count;
+  fans = λ place d low. (valid.1.fans.fans _ (has_place fans place d low)).count;
+}

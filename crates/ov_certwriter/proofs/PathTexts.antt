@@ -4,11 +4,13 @@ use Rattle.std.proofs.Common.{length, reverse, slice_index, Option, Some, None, 
 use Rattle.std.proofs.Common.{append-nil, length-append}
 use Rattle.std.specs.Option.{MatchOption}
 use Rattle.std.proofs.lemmas.List.{length-map, reverse-append, reverse-reverse}
+use Rattle.std.proofs.lemmas.List.Sums.{sum_by-cons}
 use Rattle.ov_ids.specs.Members.{Has}
 use Rattle.ov_graph.specs.Links.{LinkGraph}
 use Rattle.ov_graph.specs.Paths.{node_at}
 use Rattle.ov_flow.specs.Flow.{ArePlaces, ended_by, places_on}
 use Rattle.ov_flow.proofs.FlatPaths.{has_reversed}
+use Rattle.ov_certwriter.specs.Length.{ids_on}
 use Rattle.ov_certwriter.specs.Code.Blocks.{texts_room, entry_room}
 use Rattle.ov_certwriter.specs.Code.Placed.{by_ids, ids_back}
 
@@ -21,6 +23,21 @@ ended_append (Some x) ids = refl
 
 ended_long : (last : Option ℕ) (ids : List ℕ) → length (ended_by last ids) ≡ length ids + length (ended_by last [])
 ended_long last ids = ap length (sym (ended_append last ids)) ∙ length-append ids (ended_by last [])
+
+-- ---- how many ids paths have
+
+-- each path has one id more than it has places, if a last one is given
+pub ids_counted : (g : LinkGraph) (last : Option ℕ) (paths : List (List ℕ))
+    → ids_on (by_ids g last paths) ≡ places_on paths + length paths * length (ended_by last [])
+ids_counted g last [] = omega arith
+ids_counted g last (path ∷ paths) =
+    let own = length (ended_by last []) in
+    let first = sum_by-cons length (ended_by last (map (node_at g) path)) (by_ids g last paths) in
+    let long = ended_long last (map (node_at g) path) in
+    let same = length-map path (node_at g) in
+    let rest = ids_counted g last paths in
+    let more : (length paths + 1) * own ≡ length paths * own + own = omega arith in
+    omega (arith, first, long, same, rest, more)
 
 -- ---- the room of an entry
 

@@ -1,5 +1,5 @@
 //! The certificate that hauls suffice for, whose paths are lists of places of nodes in the graph, as they were found.
-ghost use Rattle.std.specs.Prelude.{◌≡◌, map, IfOk};
+ghost use Rattle.std.specs.Prelude.{◌≡◌, ◌-◌, ◌^◌, map, min, IfOk};
 ghost use Rattle.ov_graph.specs.Links.{IsGroup};
 ghost use Rattle.ov_cert.specs.Valid.{IsValidForGroup};
 ghost use Rattle.ov_even.specs.Answer.{IsCheckedAnswer};
@@ -8,9 +8,11 @@ ghost use Rattle.ov_even.specs.Naming.{AreFound, named_of};
 ghost use Rattle.ov_even.specs.Outlines.{HasNoPaths};
 ghost use Rattle.ov_even.specs.Theorems.{AreAlike};
 ghost use Rattle.ov_even.specs.Code.Entries.{pair_entries, fan_entries};
+ghost use Rattle.ov_certwriter.specs.Length.{path_ids};
 ghost use Rattle.ov_certwriter.specs.Code.Placed.{HasEntries};
 
 use crate::entries_by_places::{PlacedFan, PlacedPair};
+use crate::entry_lengths::ids_of;
 use ov_cert::Cert;
 use ov_even::{FoundPaths, Haul, Piece, outline_of_hauls, wanted_paths};
 use ov_fans::member;
@@ -40,7 +42,7 @@ pub struct PlacedAnswer<'a> {
 impl<'a> Model for PlacedAnswer<'a> {
     ghost use Rattle.ov_cert.specs.State.{CheckedState};
     ghost use Rattle.ov_even.specs.Outlines.{HasNoPaths};
-    ghost use Rattle.ov_certwriter.specs.Code.Placed.{cert_with};
+    ghost use Rattle.ov_certwriter.specs.Code.Placed.{cert_with, AreFull};
 
     ghost Value = { CheckedState };
 
@@ -50,7 +52,7 @@ impl<'a> Model for PlacedAnswer<'a> {
       cert = cert_with a.outline a.entries.pairs.items a.entries.fans.items;
     } };
 
-    ghost invariant = { λ a. HasNoPaths a.outline };
+    ghost invariant = { λ a. HasNoPaths a.outline × AreFull a.outline a.entries.pairs.items a.entries.fans.items };
 }
 
 impl<'a> PlacedAnswer<'a> {
@@ -74,6 +76,20 @@ impl<'a> PlacedAnswer<'a> {
         ensures no_paths { HasNoPaths result.now }
     {
         &self.outline
+    }
+
+    /// How many ids the paths of the certificate have together, each path with both its ends; at most 2^64 - 1. The
+    /// time is linear in the number of entries, and does not depend on the lengths of paths.
+    pub fn path_ids(&self) -> u64
+        ensures { result ≡ min (path_ids self.now.cert) (2 ^ 64 - 1) }
+    {
+        let Cert::Split(split) = &self.outline else {
+            return 0;
+        };
+        let paths = u64::from(split.k);
+        let pairs = ids_of(self.entries.pairs.as_slice(), paths);
+        let fans = ids_of(self.entries.fans.as_slice(), paths);
+        pairs.saturating_add(fans)
     }
 
     /// The entries of the certificate.

@@ -69,6 +69,10 @@ impl<'a> Entry for PlacedPair<'a> {
         room_of(self.paths, MORE_FOR_PAIR)
     }
 
+    fn ids(&self, paths: u64) -> u64 {
+        (self.paths.places() as u64).saturating_add(paths)
+    }
+
     fn put_into(&self, out: &mut [u8], at: usize) -> usize {
         put_pair(out, at, self.i, self.j, self.graph, self.paths)
     }
@@ -113,6 +117,10 @@ impl<'a> Entry for PlacedFan<'a> {
 
     fn room(&self) -> usize {
         room_of(self.paths, MORE_FOR_FAN)
+    }
+
+    fn ids(&self, _paths: u64) -> u64 {
+        self.paths.places() as u64
     }
 
     fn put_into(&self, out: &mut [u8], at: usize) -> usize {

@@ -10,10 +10,11 @@ use ov_ids::NodeId;
 
 /// An entry of a certificate, a pair or a fan.
 pub(crate) trait Entry: Sync {
-    ghost use Rattle.std.specs.Prelude.{◌<◌, ◌≤◌, List, ℕ, length};
+    ghost use Rattle.std.specs.Prelude.{◌≡◌, ◌<◌, ◌≤◌, ◌-◌, ◌^◌, List, ℕ, length, min};
     ghost use Rattle.serde_json.specs.Data.{Data};
     ghost use Rattle.serde_json.specs.Written.{compact_text};
     ghost use Rattle.ov_certwriter.specs.Code.Blocks.{Puts, entry_room};
+    ghost use Rattle.ov_certwriter.specs.Length.{ids_on};
 
     ghost as_data: { Self → Data };
 
@@ -22,6 +23,12 @@ pub(crate) trait Entry: Sync {
     /// A number that the entry's room is not above; the largest number, if the room is so large.
     fn room(&self) -> usize
         ensures { result < usize.MAX → entry_room (paths_of self.now) ≤ result };
+
+    /// How many ids the entry's paths have together, if these are so many; at most the largest number. The time does
+    /// not depend on their lengths.
+    fn ids(&self, paths: u64) -> u64
+        requires { length (paths_of self.now) ≡ paths }
+        ensures { result ≡ min (ids_on (paths_of self.now)) (2 ^ 64 - 1) };
 
     /// Puts the entry at a place. It needs less than its room.
     fn put_into(&self, out: &mut [u8], at: usize) -> usize

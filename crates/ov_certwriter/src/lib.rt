@@ -8,6 +8,7 @@ mod byte_putting;
 mod certificate_writing;
 mod entries_by_places;
 mod entry_blocks;
+mod entry_lengths;
 mod entry_rooms;
 mod entry_texts;
 mod path_texts;

@@ -1,7 +1,11 @@
+use crate::large_certificate_note::tell_size;
+use ov_answers::AnswerWatcher;
 use ov_even::Watcher;
+use ov_ids::NodeId;
 use ov_reasons::PacedClock;
 
-/// Says on standard error which piece an analysis has come to, at the pace of `Pacing`.
+/// Says on standard error which piece an analysis has come to, at the pace of `Pacing`; and, also where progress is not
+/// asked for, how large its certificate is, if that is large.
 #[derive(Drop)]
 pub(crate) struct PieceProgress<'a> {
     rt: &'a HostRuntime,
@@ -24,5 +28,11 @@ impl<'a> Watcher for PieceProgress<'a> {
         }
         let piece = place.saturating_add(1);
         let _ = eprintln!(self.rt; "level {level}: piece {piece} of {size}");
+    }
+}
+
+impl<'a> AnswerWatcher for PieceProgress<'a> {
+    fn writes(&mut self, ids: u64, highest: NodeId) {
+        tell_size(self.rt, ids, highest);
     }
 }

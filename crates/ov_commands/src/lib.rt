@@ -12,6 +12,7 @@ mod file_instead_of_command_tip;
 mod graph_file_out_of_certificate_file;
 mod help_command;
 mod import_command;
+mod large_certificate_note;
 mod least_number_alarm;
 mod listed_ids;
 mod node_list_texts;

@@ -1,5 +1,6 @@
 -- Entries whose paths are lists of places of nodes in the graph, and the entries by ids that they stand for.
-use Rattle.std.specs.Prelude.{◌≡◌, ℕ, List, map, reverse, slice_index, Option, Some, None}
+use Rattle.std.specs.Prelude.{◌≡◌, ℕ, List, length, map, reverse, slice_index, Option, Some, None}
+use Rattle.std.specs.List.{All}
 use Rattle.ov_graph.specs.Links.{LinkGraph}
 use Rattle.ov_graph.specs.Paths.{node_at}
 use Rattle.ov_flow.specs.Flow.{ended_by}
@@ -38,3 +39,13 @@ cert_with (cert.Split c) pairs fans = cert.Split (split_with c pairs fans)
 abbrev pub HasEntries : Cert → List PairPaths → List FanPaths → Type 0
 HasEntries (cert.Linked k) pairs fans = Unit {0}
 HasEntries (cert.Split c) pairs fans = (c.pairs ≡ pairs) × (c.fans ≡ fans)
+
+-- each entry has k paths
+pub record HaveCount (k : ℕ) (ps : List PairPaths) (fs : List FanPaths) : Type 0 where
+  pub pairs : All (λ e. length e.paths ≡ k) ps
+  pub fans : All (λ e. length e.paths ≡ k) fs
+
+-- each of these entries of a certificate has as many paths as it asks for, if it is a split
+abbrev pub AreFull : Cert → List PairPaths → List FanPaths → Type 0
+AreFull (cert.Linked k) pairs fans = Unit {0}
+AreFull (cert.Split c) pairs fans = HaveCount c.k pairs fans

@@ -9,7 +9,7 @@ use Rattle.ov_even.specs.declared.paths_by_ids.FoundPaths.{FoundPaths}
 use Rattle.ov_even.specs.declared.worker_haul.Keeping.TheVariants.{EachPiece}
 use Rattle.ov_even.proofs.AnalysisSteps.Entered.{same_pieces, all_asked}
 use Rattle.ov_certwriter.specs.Code.Placed.{cert_with}
-use Rattle.ov_certwriter.proofs.Answering.{IsAnsweredBy, answered}
+use Rattle.ov_certwriter.proofs.Answering.{IsAnsweredBy, answered, valid_full}
 use Rattle.ov_certwriter.proofs.answer_by_places.place_answer.Goals as goal
 use Rattle.ov_certwriter.proofs.answer_by_places.place_answer.Goals.{In_ok-entries}
 
@@ -43,6 +43,9 @@ made c =
     (sym (ap₂ (λ (ps : List PairPaths) (fs : List FanPaths). cert_with c.in_ok-outline.outline ps fs) pairs fans))
     (answered g q c.in_ok-outline.outline named c.nodes.ensures.graph c.requires.group c.in_ok-outline.ensures wanted
     (all_asked g q found c.in_ok-found.ensures.found))
+
+pub invariant_of-result : goal.invariant_of-result
+invariant_of-result c = (c.in_ok-outline.ensures.no_paths, valid_full _ _ _ _ _ (made c).valid)
 
 pub returns-clause-answer : goal.returns-clause-answer
 returns-clause-answer c =
