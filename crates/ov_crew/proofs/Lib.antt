@@ -5,3 +5,4 @@ pub mod Trying
 pub mod Gathering
 pub mod Joining
 pub mod Ascending
+pub mod ByCopy

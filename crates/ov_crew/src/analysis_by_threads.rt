@@ -2,9 +2,8 @@
 ghost use Rattle.std.specs.Prelude.{◌≡◌, ℕ, length, All, IfOk, IfErr, true};
 ghost use Rattle.ov_graph.specs.Links.{IsGroup};
 ghost use Rattle.ov_even.specs.Answer.{IsAnalysed, IsCheckedAnswer};
-ghost use Rattle.ov_even.specs.Hauls.{AreRight, IsSettledGroup, IsSettledKeeping, Suffice, SufficeKeeping};
+ghost use Rattle.ov_even.specs.Hauls.{AreRight, IsSettledGroup, Suffice, SufficeKeeping};
 ghost use Rattle.ov_even.specs.Levels.{AreNumbersOf, IsTried};
-ghost use Rattle.ov_even.specs.Outlines.{IsOutlined};
 ghost use Rattle.ov_even.specs.declared.fault.AnalyseFault.TheVariants.{OutOfMemory as out_of_memory};
 ghost use Rattle.ov_crew.specs.Code.Crews.{IsNewAt, IsRange, HasWorked, outcomes};
 
@@ -13,11 +12,10 @@ use crate::parallel_paths_by_ids::name_by_crew;
 use crate::threads_by_amount_of_work::Hiring;
 use crate::worker::work_range_keeping;
 use ov_board::{Board, Seat};
-use ov_cert::{Cert, Checked, are_all_linked};
+use ov_cert::{Checked, are_all_linked};
 use ov_even::{
     AnalyseFault, Haul, Keeping, LevelNumbers, LevelSearch, Searched, Unwatched, Watcher,
     analyse_group_watched as analyse_by_one, assemble_named, judge_group, level_numbers,
-    outline_group_watched as outline_by_one, outline_of_hauls,
     settle_group_watched as settle_by_one, wanted_paths,
 };
 use ov_graph::Graph;
@@ -96,8 +94,7 @@ fn analyse_by<R: Threads + Sync, G: Gate, W: Watcher>(
 ) -> Result<Checked, AnalyseFault>
     ensures analysed { IsAnalysed graph.now group.now result }
 {
-    let keeping = Keeping::EachPiece;
-    let mut hauls = settle_by(rt, alloc, graph, group, hiring, keeping, gate, watcher)?;
+    let mut hauls = settle_by(rt, alloc, graph, group, hiring, gate, watcher)?;
     let answer = assembled(rt, alloc, graph, group, &hauls, hiring);
     clear_by_crew(rt, &mut hauls, hiring.workers);
     answer
@@ -124,52 +121,23 @@ pub fn settle_group_watched<R: Threads + Sync, G: Gate, W: Watcher>(
         workers,
         sparing: true,
     };
-    let keeping = Keeping::EachPiece;
-    settle_by(rt, alloc, graph, group, &hiring, keeping, gate, watcher)
+    settle_by(rt, alloc, graph, group, &hiring, gate, watcher)
 }
 
-/// Finds the fewest node crashes that split a group, and the cut of an analysis, as `analyse_group_watched` does, but
-/// keeps no paths: the certificate is the outline of one that is valid (Even, SIAM J. Comput. 4, 1975). Workers, gate
-/// and watcher are as there. Faults, in this order: NoNodes (30), the graph has no node; BadGroup (34), the members are
-/// no group. OutOfMemory (99) is returned only if neither applies.
-pub fn outline_group_watched<R: Threads + Sync, G: Gate, W: Watcher>(
-    rt: &R,
-    alloc: Global,
-    graph: &Graph,
-    group: &[NodeId],
-    workers: Workers,
-    gate: &G,
-    watcher: &mut W,
-) -> Result<Cert, AnalyseFault>
-    ensures outlined { IsOutlined graph.now group.now result }
-{
-    if workers == Workers::ONE {
-        return outline_by_one(alloc, graph, group, watcher);
-    }
-    let hiring = Hiring {
-        workers,
-        sparing: true,
-    };
-    let keeping = Keeping::CutsAlone;
-    let hauls = settle_by(rt, alloc, graph, group, &hiring, keeping, gate, watcher)?;
-    Ok(outline_of_hauls(alloc, graph, group, &hauls)?)
-}
-
-/// The settling by these workers, whose hauls keep this.
+/// The settling by these workers.
 fn settle_by<R: Threads + Sync, G: Gate, W: Watcher>(
     rt: &R,
     alloc: Global,
     graph: &Graph,
     group: &[NodeId],
     hiring: &Hiring,
-    keeping: Keeping,
     gate: &G,
     watcher: &mut W,
 ) -> Result<Vec<Haul>, AnalyseFault>
-    ensures settled { IsSettledKeeping keeping graph.now group.now result }
+    ensures settled { IsSettledGroup graph.now group.now result }
 {
     judge_group(graph, group)?;
-    Ok(enough(rt, alloc, graph, group, hiring, keeping, gate, watcher)?)
+    Ok(enough(rt, alloc, graph, group, hiring, gate, watcher)?)
 }
 
 /// Drops the pieces of these hauls, in as many threads as there are workers. On dense graphs their paths take hundreds
@@ -205,17 +173,37 @@ fn enough<R: Threads + Sync, G: Gate, W: Watcher>(
     graph: &Graph,
     group: &[NodeId],
     hiring: &Hiring,
-    keeping: Keeping,
     gate: &G,
     watcher: &mut W,
 ) -> Result<Vec<Haul>, OutOfMemory>
     requires { IsGroup graph.now group.now }
-    ensures { IfOk result (λ hauls. SufficeKeeping keeping graph.now group.now hauls.items) }
+    ensures { IfOk result (λ hauls. Suffice graph.now group.now hauls.items) }
 {
     if are_all_linked(graph, group) {
         return Ok(Vec::new(alloc));
     }
-    let mut levels = LevelSearch::new(alloc, graph, group, keeping);
+    let begun = LevelSearch::new(alloc, graph, group, Keeping::EachPiece);
+    search(rt, alloc, graph, group, begun, hiring, gate, watcher)
+}
+
+/// Settles pieces of the levels that this search tries, until what is kept of them suffices.
+pub(crate) fn search<'a, R: Threads + Sync, G: Gate, W: Watcher>(
+    rt: &R,
+    alloc: Global,
+    graph: &'a Graph,
+    group: &'a [NodeId],
+    begun: LevelSearch<'a>,
+    hiring: &Hiring,
+    gate: &G,
+    watcher: &mut W,
+) -> Result<Vec<Haul>, OutOfMemory>
+    requires group { IsGroup graph.now group.now }
+    requires graph { begun.search.graph ≡ graph.now }
+    requires members { begun.search.members ≡ group.now }
+    ensures { IfOk result (λ hauls. SufficeKeeping begun.entry.keeping graph.now group.now hauls.items) }
+{
+    let keeping = begun.keeping();
+    let mut levels = begun;
     loop {
         let level = levels.level();
         let numbers = level_numbers(graph.nodes().len(), group.len(), level);

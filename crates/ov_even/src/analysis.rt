@@ -1,14 +1,14 @@
 //! The analysis of a graph and a group by one worker.
-ghost use Rattle.std.specs.Prelude.{None, Some, IfOk, IfErr};
+ghost use Rattle.std.specs.Prelude.{◌≡◌, None, Some, IfOk, IfErr};
 ghost use Rattle.ov_graph.specs.Links.{IsGroup};
 ghost use Rattle.ov_even.specs.Answer.{IsAnalysed};
 ghost use Rattle.ov_even.specs.Faults.{GroupJudged};
 ghost use Rattle.ov_even.specs.Hauls.{IsSettledGroup, IsSettledKeeping, SufficeKeeping};
-ghost use Rattle.ov_even.specs.Outlines.{IsOutlined};
+ghost use Rattle.ov_even.specs.Outlines.{IsOutlined, IsOutline};
 
 use crate::assembly::assemble_group;
 use crate::fault::AnalyseFault;
-use crate::level_search::search;
+use crate::level_search::{LevelSearch, search};
 use crate::outline_of_settled_pieces::outline_of_hauls;
 use crate::progress_watcher::{Unwatched, Watcher};
 use crate::worker_haul::{Haul, Keeping};
@@ -64,6 +64,24 @@ pub fn outline_group_watched<W: Watcher>(
 {
     let hauls = settle_group(alloc, graph, group, Keeping::CutsAlone, watcher)?;
     Ok(outline_of_hauls(alloc, graph, group, &hauls)?)
+}
+
+/// The outline that this search leads to, by one worker. The watcher sees each piece before it is examined. Faults: out
+/// of memory (99).
+pub fn outline_of_search<'a, W: Watcher>(
+    alloc: Global,
+    graph: &'a Graph,
+    group: &'a [NodeId],
+    begun: LevelSearch<'a>,
+    watcher: &mut W,
+) -> Result<Cert, OutOfMemory>
+    requires group { IsGroup graph.now group.now }
+    requires graph { begun.search.graph ≡ graph.now }
+    requires members { begun.search.members ≡ group.now }
+    ensures { IfOk result (λ c. IsOutline graph.now group.now c) }
+{
+    let hauls = search(alloc, graph, group, begun, watcher)?;
+    outline_of_hauls(alloc, graph, group, &hauls)
 }
 
 /// Settles pieces of Even's test until they suffice for a certificate of the group: none if every two members are
@@ -123,5 +141,6 @@ fn enough<W: Watcher>(
     if are_all_linked(graph, group) {
         return Ok(Vec::new(alloc));
     }
-    search(alloc, graph, group, keeping, watcher)
+    let begun = LevelSearch::new(alloc, graph, group, keeping);
+    search(alloc, graph, group, begun, watcher)
 }

@@ -1,11 +1,13 @@
 //! The search for the level of the deciding piece, with what is kept of that level and the one below it: a certificate
 //! needs no more. Other levels are tried only to find it.
-ghost use Rattle.std.specs.Prelude.{◌≡◌, ◌<◌, ◌≤◌, ◌++◌, length, IfOk, IfSome, IfNone};
+ghost use Rattle.std.specs.Prelude.{◌≡◌, ◌<◌, ◌≤◌, ◌+◌, ◌++◌, length, IfOk, IfSome, IfNone};
 ghost use Rattle.ov_graph.specs.Links.{IsGraph, IsWithinLimit, IsGroup, AreAllLinked};
+ghost use Rattle.ov_graph.specs.Joined.{NoFewerSplit};
 ghost use Rattle.ov_even.specs.Hauls.{AreRight, SufficeKeeping};
 ghost use Rattle.ov_even.specs.Levels.{IsTried};
 ghost use Rattle.ov_even.specs.Searching.{AreFewTries, IsSearched};
 ghost use Rattle.ov_even.specs.Code.Narrowing.{HasCutWithin, HasCutOf};
+ghost use Rattle.ov_even.specs.declared.worker_haul.Keeping.TheVariants.{CutsAlone};
 
 use crate::first_piece_with_cut::{cut_size, first_cut};
 use crate::level_bounds::LevelBounds;
@@ -72,6 +74,30 @@ impl<'a> LevelSearch<'a> {
         }
     }
 
+    /// Begins a search for a group that `fewest` nodes split, and fewer do not. It tries one level, the one above
+    /// `fewest`, and its hauls keep cuts alone: those of lower levels would be needed for paths.
+    pub fn known(
+        alloc: Global,
+        graph: &'a Graph,
+        group: &'a [NodeId],
+        fewest: usize,
+    ) -> LevelSearch<'a>
+        requires group { IsGroup graph.now group.now }
+        requires holds { NoFewerSplit graph.now group.now fewest }
+        requires splits { ¬ NoFewerSplit graph.now group.now (fewest + 1) }
+        ensures graph { result.search.graph ≡ graph.now }
+        ensures members { result.search.members ≡ group.now }
+        ensures keeping { result.keeping ≡ CutsAlone }
+        ensures level { result.search.level ≡ fewest + 1 }
+        ensures left { result.search.left ≡ 1 }
+    {
+        LevelSearch {
+            bounds: LevelBounds::known(graph, group, fewest),
+            keeping: Keeping::CutsAlone,
+            kept: Vec::new(alloc),
+        }
+    }
+
     /// The level to try next.
     pub fn level(&self) -> usize
         ensures level { result ≡ self.now.search.level }
@@ -83,6 +109,13 @@ impl<'a> LevelSearch<'a> {
         ensures group { IsGroup self.now.search.graph self.now.search.members }
     {
         self.bounds.level()
+    }
+
+    /// What the hauls keep.
+    pub fn keeping(&self) -> Keeping
+        ensures { result ≡ self.now.keeping }
+    {
+        self.keeping
     }
 
     /// Takes the hauls of the level to try next: what is kept of each of its pieces, or of each up to one that has a
@@ -113,20 +146,22 @@ impl<'a> LevelSearch<'a> {
     }
 }
 
-/// Settles pieces until what is kept of them suffices. Two members must not be linked.
-pub(crate) fn search<W: Watcher>(
+/// Settles pieces of the levels that this search tries, until what is kept of them suffices.
+pub(crate) fn search<'a, W: Watcher>(
     alloc: Global,
-    graph: &Graph,
-    group: &[NodeId],
-    keeping: Keeping,
+    graph: &'a Graph,
+    group: &'a [NodeId],
+    begun: LevelSearch<'a>,
     watcher: &mut W,
 ) -> Result<Vec<Haul>, OutOfMemory>
     requires group { IsGroup graph.now group.now }
-    requires apart { ¬ AreAllLinked graph.now group.now }
-    ensures { IfOk result (λ hauls. SufficeKeeping keeping graph.now group.now hauls.items) }
+    requires graph { begun.search.graph ≡ graph.now }
+    requires members { begun.search.members ≡ group.now }
+    ensures { IfOk result (λ hauls. SufficeKeeping begun.entry.keeping graph.now group.now hauls.items) }
 {
     let mut settler = Settler::new(alloc, graph, group)?;
-    let mut levels = LevelSearch::new(alloc, graph, group, keeping);
+    let keeping = begun.keeping();
+    let mut levels = begun;
     loop {
         let level = levels.level();
         let haul = try_level(alloc, &mut settler, group.len(), level, keeping, watcher)?;

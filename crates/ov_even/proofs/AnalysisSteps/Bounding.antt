@@ -1,12 +1,16 @@
 -- The bounds of a search after each try of a level.
-use Rattle.std.proofs.Common.{◌≡◌, inl, inr, ℕ, ◌≤◌, ◌+◌, List, subst, arith}
+use Rattle.std.proofs.Common.{◌≡◌, inl, inr, ℕ, ◌≤◌, ◌+◌, ◌-◌, List, length, subst, arith}
 use Rattle.std.proofs.lemmas.Bool.{cases_lt}
-use Rattle.ov_graph.specs.Links.{LinkGraph}
+use Rattle.ov_graph.specs.Links.{LinkGraph, IsGraph, IsWithinLimit, IsGroup}
+use Rattle.ov_graph.specs.Joined.{NoFewerSplit}
 use Rattle.ov_graph.specs.Even.{PassesEven}
+use Rattle.ov_graph.proofs.EvenTest.Sufficing.{even_suffices, linked_joined}
 use Rattle.ov_even.specs.Levels.{IsLevelGood}
 use Rattle.ov_even.specs.Code.Narrowing.{HasDeciding, AreBounds, SplitsWith}
 use Rattle.ov_even.proofs.AnalysisSteps.Failing.{split_fails}
-use Rattle.ov_even.proofs.EvenTest.Passing.{good_passes, split_has}
+use Rattle.ov_even.proofs.AnalysisSteps.Narrowing.{two_nodes}
+use Rattle.ov_even.proofs.EvenTest.Complete.{none_split}
+use Rattle.ov_even.proofs.EvenTest.Passing.{good_passes, split_has, whole_good}
 use Rattle.ov_even.proofs.PieceOrder.PieceLevels.{level_low}
 
 -- no piece has level 0
@@ -49,3 +53,30 @@ lowered_bounds g q low level high size has bounds most w =
       good = bounds.good;
       fails = split_fails g q w.set (size + 1) has.group w.split (omega (arith, count));
     }
+
+-- the bounds where the number of the group is known to be k: fewer than k nodes never split it, and k nodes do
+pub known_bounds : (g : LinkGraph) (q : List ℕ) (k : ℕ) → HasDeciding g q → NoFewerSplit g q k
+    → ¬ NoFewerSplit g q (k + 1) → AreBounds g q k (k + 1)
+known_bounds g q k has whole split = record {
+  rises = omega arith;
+  below = elim (cases_lt (k + 1) (length g.nodes)) [
+    | inl l ↦ l
+    | inr l ↦
+        let n = length g.nodes - 1 in
+        let many = two_nodes g q has.group has.apart in
+        absurd (has.apart
+        (none_split g q n has.graph has.group (omega (arith, many)) (λ s few. whole s (omega (arith, few, l, many)))))
+  ];
+  good = λ p at e. whole_good g q k p has.graph has.group whole at (omega (arith, e));
+  fails = λ even. split (even_suffices g q (k + 1) has.group even);
+}
+
+-- a group that some set of fewer than k nodes splits has a deciding piece, since two members are not linked
+pub known_deciding : (g : LinkGraph) (q : List ℕ) (k : ℕ) → IsGraph g → IsWithinLimit g → IsGroup g q
+    → ¬ NoFewerSplit g q k → HasDeciding g q
+known_deciding g q k graph within group split = record {
+  graph = graph;
+  within = within;
+  group = group;
+  apart = λ all. split (λ s few a b ma mb. linked_joined g q group.nodes all s a b ma mb);
+}

@@ -150,3 +150,9 @@ begun_few n high less k below =
     let first = at_most 1 (high - 1) k (omega (arith, less, below)) in
     let second = at_most 1 high k (omega (arith, less, below)) in
     omega (arith, first, second)
+
+-- where the number is known to be k, one level is tried: the one above k
+pub one_left : (k : ℕ) → tries_left k (k + 1) false ≡ 1
+one_left k =
+    let none = at_most 1 ((k + 1) - (k + 1)) 0 (omega arith) in
+    omega (arith, none)

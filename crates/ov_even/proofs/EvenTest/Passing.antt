@@ -3,7 +3,7 @@ use Rattle.std.proofs.Common.{ℕ, zero, suc, ◌<◌, ◌≤◌, inl, inr, List
 use Rattle.std.proofs.lemmas.Bool.{cases_lt}
 use Rattle.ov_ids.specs.Members.{Has}
 use Rattle.ov_graph.specs.Links.{LinkGraph, IsGraph, Linked, IsGroup}
-use Rattle.ov_graph.specs.Joined.{SplitsGroup}
+use Rattle.ov_graph.specs.Joined.{SplitsGroup, NoFewerSplit}
 use Rattle.ov_graph.specs.Paths.{ArePaths, IsFan}
 use Rattle.ov_graph.specs.Even.{IsUnlinkedPair, later_members, members_below, PassesEven}
 use Rattle.ov_graph.proofs.EvenTest.Sufficing.{even_suffices}
@@ -64,17 +64,22 @@ split_has g q k s group even split = elim (cases_lt (length s) k) [
   | inr le ↦ le
 ]
 
--- if Even's test passes at k, each piece of level k or lower is good: a cut with fewer nodes would split the group
-pub lower_good : (g : LinkGraph) (q : List ℕ) (k : ℕ) (p : Piece) → IsGraph g → IsGroup g q → PassesEven g q k
+-- if fewer than k nodes never split the group, each piece of level k or lower is good: a cut with fewer nodes would
+-- split it
+pub whole_good : (g : LinkGraph) (q : List ℕ) (k : ℕ) (p : Piece) → IsGraph g → IsGroup g q → NoFewerSplit g q k
     → IsPiece g q p → level_of p ≤ k → IsGood g q p
-lower_good g q k p graph group even at low = elim (good_or_cut g q p graph group at) [
+whole_good g q k p graph group whole at low = elim (good_or_cut g q p graph group at) [
   | inl good ↦ good
   | inr c ↦
       let few = c.1.few in
       let split = piece_splits g q p c.0 group at c.1.nearest.least.cut few in
-      let many = split_has g q k c.0 group even split in
-      absurd (omega (arith, low, few, many))
+      absurd (split.parted (whole c.0 (omega (arith, low, few)) split.a split.b split.a_survives split.b_survives))
 ]
+
+-- if Even's test passes at k, each piece of level k or lower is good
+pub lower_good : (g : LinkGraph) (q : List ℕ) (k : ℕ) (p : Piece) → IsGraph g → IsGroup g q → PassesEven g q k
+    → IsPiece g q p → level_of p ≤ k → IsGood g q p
+lower_good g q k p graph group even at low = whole_good g q k p graph group (even_suffices g q k group even) at low
 
 -- if a level is good, each piece of a lower level is good
 pub below_good : (g : LinkGraph) (q : List ℕ) (k : ℕ) (p : Piece) → IsGraph g → IsGroup g q → k < length g.nodes

@@ -11,6 +11,8 @@ pub(crate) enum Family {
     Petersen,
     /// Each to the four next ones round a ring of 200 nodes.
     Ring,
+    /// Each to the next one round a ring of 1,100 nodes.
+    LongRing,
     /// Each odd node to each even one.
     TwoSides,
     /// Each to each.
@@ -29,6 +31,7 @@ impl Family {
         match self {
             Family::Petersen => PETERSEN.contains(&(low, high)),
             Family::Ring => apart <= 4 || apart >= 196,
+            Family::LongRing => apart == 1 || apart == 1_099,
             Family::TwoSides => apart % 2 == 1,
             Family::All => true,
             Family::Falling => are_falling(low, high),

@@ -1,13 +1,25 @@
 //! Answers without paths, by workers in threads.
-use crate::crew::crews::{Levels, PETERSEN, RING, Row, TWO_SIDES, crew_of, gives};
+use crate::crew::crews::{Levels, PETERSEN, RING, Row, TWO_SIDES, crew_of, find_watched, gives};
 use crate::crew::gates::{Holding, Meeting, Opening};
-use crate::crew::graphs::of_size;
+use crate::crew::graphs::{Family, of_size};
 use ov_cert::Cert;
 use ov_crew::{Gate, OpenGate, outline_group_watched};
 use ov_even::{Unwatched, Watcher};
 use std::alloc::Global;
 use std::test::Fail;
 use std::thread::Threads;
+
+/// The ids go round a ring that is longer than a graph of rows of bits.
+static LONG_RING: Row = Row {
+    family: Family::LongRing,
+    nodes: 1_100,
+    members: 1_100,
+    k: 2,
+    cut: &[2, 1_100],
+    near: 1,
+    far: 3,
+    side: &[1],
+};
 
 /// Whether a certificate has no entries.
 fn has_no_paths(cert: &Cert) -> bool {
@@ -62,5 +74,32 @@ fn each_level_is_told_without_paths(rt: HostRuntime) -> Result<(), Fail> {
             assert!(rt; is_found && levels.were_told_by(count));
         }
     }
+    Ok(())
+}
+
+/// Keeps the levels whose beginnings it is told of, in turn, by a digit each.
+#[derive(Drop)]
+struct Digits {
+    levels: u64,
+}
+
+impl Watcher for Digits {
+    fn sees(&mut self, level: usize, place: usize, _size: usize) {
+        if place == 0 {
+            self.levels = self.levels.saturating_mul(10).saturating_add(level as u64);
+        }
+    }
+}
+
+/// The number of a large graph is found on a copy with other ids, at whose level 3 a piece has a cut. Then level 3 of
+/// the graph is tried, so that the answer has the cut that it has with paths.
+#[test]
+fn a_long_ring_has_the_same_cut_without_paths(rt: HostRuntime) -> Result<(), Fail> {
+    for count in [1, 4] {
+        let mut told = Digits { levels: 0 };
+        let is_found = outlined(&rt, rt.alloc(), &LONG_RING, count, &OpenGate, &mut told)?;
+        assert!(rt; is_found && told.levels == 1233, "levels {}", told.levels);
+    }
+    assert!(rt; find_watched(&rt, rt.alloc(), &LONG_RING, 4, &OpenGate, &mut Unwatched)?);
     Ok(())
 }

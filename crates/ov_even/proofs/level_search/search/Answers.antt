@@ -28,7 +28,7 @@ take-requires-clause-tried g c =
     let hauls = c.in_ok-vec.field-0.items in
     subst (λ (s : KeepingSearch). IsTried s.keeping s.search.graph s.search.members hauls s.search.level)
     (sym c.levels.view_is)
-    (tried_of_one c.args.keeping l.settler c.args.graph.now c.args.group.now l.levels c.in_ok-haul.haul hauls
+    (tried_of_one c.keeping-keeping.result l.settler c.args.graph.now c.args.group.now l.levels c.in_ok-haul.haul hauls
     c.level-level.result l.invariant.settler l.invariant.graph l.invariant.members l.invariant.keeping
     c.in_ok-vec.ensures.items c.level-level.ensures.level c.in_ok-haul.ensures.tried)
 
@@ -40,4 +40,4 @@ returns-in-Enough g c =
     let enough = subst (IsSearched s) c.in-Enough.is c.in_ok-hauls.ensures in
     let own = subst (λ (x : KeepingSearch). SufficeKeeping x.keeping x.search.graph x.search.members hauls)
     c.levels.view_is enough in
-    rw (l.invariant.graph, l.invariant.members, l.invariant.keeping) at own
+    rw (l.invariant.graph, l.invariant.members, l.invariant.keeping, c.keeping-keeping.ensures) at own

@@ -1,6 +1,6 @@
 -- The search is one of the graph and the group, and its bound falls.
 use Rattle.std.proofs.Common.{◌≡◌}
-use Rattle.ov_crew.proofs.analysis_by_threads.enough.Given as goal
+use Rattle.ov_crew.proofs.analysis_by_threads.search.Given as goal
 
 abbrev pub invariant-loop-levels : goal.invariant-loop-levels
 invariant-loop-levels g l = record {

@@ -6,11 +6,11 @@ use Rattle.ov_even.specs.Levels.{AreNumbersOf}
 use Rattle.ov_even.specs.Searching.{IsSearched}
 use Rattle.ov_even.proofs.AnalysisSteps.Narrowing.{members_few}
 use Rattle.ov_crew.proofs.Gathering.{range_of}
-use Rattle.ov_crew.proofs.analysis_by_threads.enough.Goals as goal
+use Rattle.ov_crew.proofs.analysis_by_threads.search.Goals as goal
 
 pub level_numbers-numbers-requires-clause-members : goal.level_numbers-numbers-requires-clause-members
 level_numbers-numbers-requires-clause-members g c =
-    let few = members_few c.args.graph.now c.args.group.now c.requires in
+    let few = members_few c.args.graph.now c.args.group.now c.requires.group in
     omega (arith, few, ap length c.nodes.ensures.nodes)
 
 pub try_level-requires-clause-range : goal.try_level-requires-clause-range
@@ -49,4 +49,4 @@ returns-in-Enough g c =
     let enough : SufficeKeeping c.loop-levels.levels.keeping c.loop-levels.levels.search.graph
     c.loop-levels.levels.search.members hauls =
     subst (IsSearched c.loop-levels.levels) c.in-Enough.is c.in_ok-hauls-2.ensures in
-    rw (i.graph, i.members, i.keeping) at enough
+    rw (i.graph, i.members, i.keeping, c.keeping-keeping.ensures) at enough
