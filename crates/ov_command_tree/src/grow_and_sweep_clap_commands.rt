@@ -1,10 +1,8 @@
 use crate::clap_commands_and_help::{alone, command};
-use crate::grow_and_sweep_option_tables::{
-    BOUND_NAME, CRASH_CUT, growing_options, own_options, takes_list,
-};
+use crate::grow_and_sweep_option_tables::{BOUND_NAME, own_options, takes_list};
 use clap::builder::{ValueParser, ValueRange};
 use clap::{Arg, ArgAction, Command};
-use ov_grow_options::{OptionRow, Unit};
+use ov_grow_options::{CRASH_CUT, OptionRow, Unit, growing_options};
 use std::alloc::{AllocError, Global};
 use std::slice;
 
@@ -164,7 +162,20 @@ fn argument<'a>(
 ) -> Result<Arg<'a>, AllocError> {
     let is_list = matches!(command, GrowingCommand::Sweep) && takes_list(row.name);
     let is_cut = matches!(command, GrowingCommand::Grow) && row.name == CRASH_CUT;
+    let excluded = if is_cut { ROWS_AND_CRASH } else { excludes };
     let value = ValueForm::of(row, is_list);
+    argument_alone(alloc, row, value, is_list)
+        .conflicts_with_all(excluded)?
+        .requires_all(value.needs)
+}
+
+/// What an option with such a value, or a list of them, is to `clap`, whatever stands beside it.
+fn argument_alone<'a>(
+    alloc: Global,
+    row: &'static OptionRow,
+    value: ValueForm,
+    is_list: bool,
+) -> Arg<'a> {
     let arg = Arg::new(alloc, row.name)
         .long(row.name)
         .help(row.help)
@@ -172,14 +183,11 @@ fn argument<'a>(
         .num_args(value.range)
         .value_names(value.names)
         .default_values(value.usual)
-        .value_parser(value.parser)
-        .conflicts_with_all(if is_cut { ROWS_AND_CRASH } else { excludes })?
-        .requires_all(value.needs)?;
-    Ok(if is_list {
-        arg.value_delimiter(',')
-    } else {
-        arg
-    })
+        .value_parser(value.parser);
+    if is_list {
+        return arg.value_delimiter(',');
+    }
+    arg
 }
 
 /// What the value of an option is to `clap`.

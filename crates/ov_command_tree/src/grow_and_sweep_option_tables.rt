@@ -1,6 +1,6 @@
 //! The options that `overlay grow` and `overlay sweep` have besides those of growing.
 use crate::grow_and_sweep_clap_commands::GrowingCommand;
-use ov_grow_options::{OPTIONS, OptionRow, SEED, Unit};
+use ov_grow_options::{OptionRow, SEED, Unit, growing_options};
 
 /// An option of one command, and the options that it does not stand beside.
 #[derive(Clone, Copy)]
@@ -38,7 +38,7 @@ static GROW_OPTIONS: [OwnOption; 2] = [
 /// How many runs each setting has.
 pub const RUNS: OptionRow = OptionRow {
     name: "runs",
-    unit: Unit::Count,
+    unit: Unit::Count(""),
     limits: Some((1, 1_000_000)),
     words: &[],
     usual: Some("30"),
@@ -48,7 +48,7 @@ pub const RUNS: OptionRow = OptionRow {
 /// How many runs go on at once.
 pub const WORKERS: OptionRow = OptionRow {
     name: "workers",
-    unit: Unit::Count,
+    unit: Unit::Count(""),
     limits: Some((1, 64)),
     words: &[],
     usual: Some("1"),
@@ -58,7 +58,7 @@ pub const WORKERS: OptionRow = OptionRow {
 /// Of how many runs the commands of a list are at most.
 pub const LIST: OptionRow = OptionRow {
     name: "list",
-    unit: Unit::Count,
+    unit: Unit::Count(""),
     limits: Some((1, 1_000_000)),
     words: &[],
     usual: None,
@@ -68,7 +68,7 @@ pub const LIST: OptionRow = OptionRow {
 /// Of which part of the runs fewer may be split.
 pub const BOUND: OptionRow = OptionRow {
     name: BOUND_NAME,
-    unit: Unit::OfHundred,
+    unit: Unit::OfHundred(""),
     limits: Some((1, 99)),
     words: &[],
     usual: None,
@@ -192,14 +192,6 @@ static SWEEP_OPTIONS: [OwnOption; 12] = [
 
 /// The option that `--after` stands beside.
 pub(crate) const BOUND_NAME: &str = "at-most-split";
-
-/// The option that excludes `--crash`.
-pub const CRASH_CUT: &str = "crash-cut";
-
-/// The options of growing.
-pub fn growing_options() -> &'static [OptionRow] {
-    &OPTIONS
-}
 
 /// The options that a command has besides.
 pub(crate) fn own_options(command: GrowingCommand) -> &'static [OwnOption] {

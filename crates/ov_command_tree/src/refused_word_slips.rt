@@ -2,7 +2,8 @@
 use crate::argument_tips::{FOUND, GAP, HELP_BELOW, UNEXPECTED, quoted};
 use crate::grow_and_sweep_clap_commands::GrowingCommand;
 use crate::grow_and_sweep_option_tables::{option_named, takes_list};
-use crate::value_slips::{counts_in_hundred, is_of_numbers, list_line, one_value};
+use crate::slip_tips::SlipTip;
+use crate::value_slips::{counts_in_hundred, is_of_numbers, one_value};
 use std::alloc::{AllocError, Global};
 use std::fmt::Write;
 
@@ -17,9 +18,6 @@ const OPTION: &str = "' for '--";
 /// The option that names a row.
 const ROW: &str = "--row";
 
-/// What is said of `none` where another word is written.
-const NEVER: &str = "tip: none is written `--refill never`\n";
-
 /// What is wrong with the words of a command, and what to write, by what `clap` says of them. It ends with a line feed,
 /// and is empty if nothing is known that may be meant.
 pub fn reason_meant(
@@ -33,7 +31,7 @@ pub fn reason_meant(
     }
     if let Some((value, name)) = value_told(said, INVALID, " <") {
         if value == "none" && name == "refill" {
-            return with_line(alloc, said, NEVER);
+            return with_tip(alloc, said, SlipTip::Never);
         }
         if value.contains(',') {
             return no_list(alloc, name, value);
@@ -89,8 +87,7 @@ fn list_reason(
         return Ok(String::new(alloc));
     }
     let list = list_meant(alloc, words, value)?;
-    let line = list_line(alloc, list.as_str())?;
-    with_line(alloc, said, line.as_str())
+    with_tip(alloc, said, SlipTip::Commas(list.as_str()))
 }
 
 /// The list that is meant by the first word that has this value in it.
@@ -138,7 +135,7 @@ fn unexpected_reason(
         return no_value(alloc, name, word);
     }
     match tip_of_word(command, words, word) {
-        Some(tip) => with_slip(alloc, said, tip),
+        Some(tip) => with_tip(alloc, said, tip),
         None => Ok(String::new(alloc)),
     }
 }
@@ -173,19 +170,6 @@ fn word_before(words: &[String], place: usize, back: usize) -> &str {
         Some(word) => word.as_str(),
         None => "",
     }
-}
-
-/// What to write in place of words that are not expected.
-#[derive(Clone, Copy)]
-enum SlipTip<'a> {
-    /// The name of a row that begins with a hyphen.
-    Hyphened(&'a str),
-    /// The file of a row, and its number.
-    Row(&'a str, &'a str),
-    /// An option that counts in 100, and the numbers that are its value.
-    Hundredths(&'a str, &'a str),
-    /// The two parts of a list.
-    List(&'a str, &'a str),
 }
 
 /// What to write where a word is not expected, if it is known.
@@ -257,42 +241,16 @@ fn tip_behind<'a>(
     (is_list && is_of_numbers(word)).then_some(SlipTip::List(list, word))
 }
 
-/// Appends a line that tells what to write.
-fn push_tip(text: &mut String, tip: SlipTip<'_>) -> Result<(), AllocError> {
-    match tip {
-        SlipTip::Hyphened(name) => write!(
-            text,
-            "tip: a value that begins with a hyphen stands behind `=`: `{ROW}={name}`\n"
-        ),
-        SlipTip::Row(file, number) => write!(
-            text,
-            "tip: a row is named FILE:N, as `{ROW} {file}:{number}`\n"
-        ),
-        SlipTip::Hundredths(name, list) => write!(
-            text,
-            "tip: it counts in 100, without %: `--{name} {list}`\n"
-        ),
-        SlipTip::List(list, word) => write!(text, "tip: a list has no spaces: `{list},{word}`\n"),
-    }
-}
-
 /// Whether a word names a row, and begins with what was taken for an option.
 fn is_hyphened(word: &str, taken: &str) -> bool {
     taken.starts_with('-') && word.starts_with(taken) && word.contains(':')
 }
 
-/// What is wrong in the words of `clap`, without its own tip, and with this one below.
-fn with_slip(alloc: Global, said: &str, tip: SlipTip<'_>) -> Result<String, AllocError> {
-    let mut text = with_line(alloc, said, "")?;
-    push_tip(&mut text, tip)?;
-    Ok(text)
-}
-
-/// What is wrong in the words of `clap`, without its own tip, and with this line below.
-fn with_line(alloc: Global, said: &str, line: &str) -> Result<String, AllocError> {
+/// What is wrong in the words of `clap`, with this tip in place of its own.
+fn with_tip(alloc: Global, said: &str, tip: SlipTip<'_>) -> Result<String, AllocError> {
     let wrong = match said.split_once(GAP) {
         Some((wrong, _)) => wrong,
         None => said,
     };
-    format!(in alloc; "{wrong}{HELP_BELOW}{line}")
+    format!(in alloc; "{wrong}{HELP_BELOW}{tip}")
 }

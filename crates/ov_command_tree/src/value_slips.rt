@@ -1,6 +1,7 @@
 //! What to write in place of a value that an option does not take.
 use crate::grow_and_sweep_option_tables::{option_named, takes_list};
 use crate::refused_word_slips::with_commas;
+use crate::slip_tips::SlipTip;
 use ov_grow_options::Unit;
 use ov_io::shown_name;
 use std::alloc::{AllocError, Global};
@@ -12,40 +13,38 @@ pub const RANGE: &str = "..";
 /// The largest number that each option takes which counts in 100.
 const MOST_SHARE: u64 = 99;
 
-/// What is said of a range of which one end is missing.
-const BOTH_ENDS: &str = "tip: a range is written `3..8`, with both ends in it\n";
-
 /// A line `tip: ..` with what to write in place of this value of the option of this name. It ends with a line feed, and
 /// is empty if nothing is known that may be meant.
 pub fn slip_tip(alloc: Global, name: &str, text: &str) -> Result<String, AllocError> {
-    if let Some((low, high)) = range_meant(text) {
-        return format!(in alloc;
-            "tip: a range is written `{low}{RANGE}{high}`, with both ends in it\n"
-        );
-    }
-    if takes_list(name) && lacks_end(text) {
-        return String::from_str(alloc, BOTH_ENDS);
-    }
-    if counts_in_hundred(name) {
-        return hundred_tip(alloc, name, text);
-    }
-    Ok(String::new(alloc))
+    let tip = value_tip(name, text);
+    format!(in alloc; "{tip}")
 }
 
-/// A line `tip: ..` with what to write in place of this value of the option of this name, which counts in 100.
-fn hundred_tip(alloc: Global, name: &str, text: &str) -> Result<String, AllocError> {
+/// What to write in place of this value of the option of this name.
+fn value_tip<'a>(name: &'a str, text: &'a str) -> SlipTip<'a> {
+    if let Some((low, high)) = range_meant(text) {
+        return SlipTip::Range(low, high);
+    }
+    if takes_list(name) && lacks_end(text) {
+        return SlipTip::HalfRange;
+    }
+    if counts_in_hundred(name) {
+        return hundred_tip(name, text);
+    }
+    SlipTip::Unknown
+}
+
+/// What to write in place of this value of the option of this name, which counts in 100.
+fn hundred_tip<'a>(name: &'a str, text: &'a str) -> SlipTip<'a> {
     if let Some(percent) = whole_percent(text) {
-        return format!(in alloc; "tip: it counts in 100: `--{name} {percent}`\n");
+        return SlipTip::Percent(name, percent);
     }
     if let Some((below, above)) = whole_beside(text) {
-        return format!(in alloc; "tip: it takes whole numbers of 100: {below} or {above}\n");
+        return SlipTip::Whole(below, above);
     }
     match share_of_hundred(text) {
-        Some(percent) => format!(in alloc;
-            "tip: it takes whole numbers of 100: `--{name} {percent}` if a share of {text} is meant; {text} % can't be \
-             asked for\n"
-        ),
-        None => Ok(String::new(alloc)),
+        Some(percent) => SlipTip::Share(name, percent, text),
+        None => SlipTip::Unknown,
     }
 }
 
@@ -59,7 +58,8 @@ pub fn list_tip(alloc: Global, parts: &[&str]) -> Result<String, AllocError> {
     }
     let list = with_commas(alloc, given.as_str())?;
     if list.contains(',') && is_of_numbers(list.as_str()) {
-        return list_line(alloc, list.as_str());
+        let tip = SlipTip::Commas(list.as_str());
+        return format!(in alloc; "{tip}");
     }
     Ok(String::new(alloc))
 }
@@ -76,15 +76,10 @@ pub(crate) fn is_of_numbers(list: &str) -> bool {
     is_spelled && is_whole && !list.contains(",.") && !list.contains(".,") && !list.contains(",,")
 }
 
-/// The line that tells how a list is written.
-pub(crate) fn list_line(alloc: Global, list: &str) -> Result<String, AllocError> {
-    format!(in alloc; "tip: a list has one comma between two values, and no spaces: `{list}`\n")
-}
-
 /// Whether the option of this name counts in 100.
 pub(crate) fn counts_in_hundred(name: &str) -> bool {
     match option_named(name) {
-        Some(option) => matches!(option.unit, Unit::OfHundred),
+        Some(option) => matches!(option.unit, Unit::OfHundred(_)),
         None => false,
     }
 }

@@ -1,99 +1,94 @@
 -- The command that grows an overlay with given options.
-use Rattle.std.specs.Prelude.{ℕ, Bool, List, [], ◌++◌, Option, Some, None, codes, decimal, ◌==◌, if◌then◌else◌}
-use Rattle.ov_ids.specs.ParamsState.{ParamsState}
+use Rattle.std.specs.Prelude.{ℕ, Bool, false, List, [], ◌∷◌, ◌++◌, Option, Some, None, codes, decimal, option_map}
+use Rattle.std.specs.Prelude.{if◌then◌else◌}
+use Rattle.std.specs.Str.{bytes_eq}
 use Rattle.ov_ids.specs.RefillNames.{refill_name}
-use Rattle.ov_ids.specs.declared.refill_rule.Refill.{Refill}
-use Rattle.ov_ids.specs.declared.refill_rule.Refill.TheVariants.{Never}
+use Rattle.ov_grow_options.specs.declared.option_table.OptionRow.{OptionRow}
 use Rattle.ov_grow_options.specs.declared.options.GrowOptions.{GrowOptions}
 use Rattle.ov_grow_options.specs.declared.options.Order.{Order}
 use Rattle.ov_grow_options.specs.declared.options.Order.TheVariants.{Random, Oldest}
 use Rattle.ov_grow_options.specs.declared.options.Crash.{Crash}
 use Rattle.ov_grow_options.specs.declared.options.Crash.TheVariants.{Share, Cut}
+use Rattle.ov_grow_options.specs.declared.options_as_command.Shown.{Shown}
+use Rattle.ov_grow_options.specs.declared.options_as_command.Shown.TheVariants.{Nothing, Name, Number, Rule, Turn}
 
--- an option that takes a number, with its name, its default and its value: it is not said at its default
-abbrev pub number_text : List ℕ → ℕ → ℕ → List ℕ
-number_text name usual number =
-    if number == usual then [] else (codes " --" ++ (name ++ (codes " " ++ decimal number)))
+-- the word for whose turn is next
+abbrev pub order_name : Order → List ℕ
+order_name Random = codes "random"
+order_name Oldest = codes "oldest"
 
--- the options that give the sizes of the nodes' views
-abbrev pub views_text : ParamsState → List ℕ
-views_text p = number_text (codes "active") 5 p.active ++ number_text (codes "passive") 30 p.passive
+-- an option without a text is given by its name
+abbrev pub flag_value : Bool → Shown
+flag_value asked = if asked then Name else Nothing
 
--- the options that give the lengths of walks
-abbrev pub walks_text : ParamsState → List ℕ
-walks_text p = number_text (codes "arwl") 6 p.arwl ++ number_text (codes "prwl") 3 p.prwl
+-- a number that may be left out
+abbrev pub number_value : Option ℕ → Shown
+number_value None = Nothing
+number_value (Some number) = Number number
 
--- the options that give what shuffles carry, and how far
-abbrev pub shuffles_text : ParamsState → List ℕ
-shuffles_text p =
-    number_text (codes "ka") 3 p.ka ++ (
-    number_text (codes "kp") 4 p.kp ++
-    number_text (codes "ttl") 4 p.shuffle_ttl)
+-- how many of 100 nodes crash: `--crash N`
+abbrev pub share_value : Crash → Shown
+share_value (Share share) = Number share
+share_value Cut = Nothing
 
--- the option that says when a node that is told DISCONNECT looks for another active member
-abbrev pub refill_text : Refill → List ℕ
-refill_text Never = []
-refill_text rule = codes " --refill " ++ refill_name rule
+-- whether the nodes of the cut crash: `--crash-cut`
+abbrev pub cut_value : Crash → Shown
+cut_value (Share share) = Nothing
+cut_value Cut = Name
 
--- the option that says whose turn is next
-abbrev pub order_text : Order → List ℕ
-order_text Random = []
-order_text Oldest = codes " --order oldest"
+-- the value of each option, in the order of their table
+abbrev pub option_values : GrowOptions → List Shown
+option_values o =
+    Number o.nodes ∷ Number o.params.active ∷ Number o.params.passive ∷ Number o.params.arwl ∷ Number o.params.prwl
+    ∷ Number o.params.ka ∷ Number o.params.kp ∷ Number o.params.shuffle_ttl ∷ Rule o.params.refill ∷ Number o.seed
+    ∷ Number o.loss_join ∷ Number o.loss ∷ Number o.repeat ∷ Turn o.order ∷ number_value o.pace ∷ Number o.rounds
+    ∷ share_value o.crash ∷ cut_value o.crash ∷ Number o.heal ∷ Number o.broadcasts ∷ flag_value o.sequential
+    ∷ number_value o.sender ∷ flag_value o.detect ∷ []
 
--- the option that gives the turns between two births
-abbrev pub pace_text : Option ℕ → List ℕ
-pace_text None = []
-pace_text (Some turns) = codes " --pace " ++ decimal turns
+-- an option's name, and the text of its default, if it has one
+abbrev pub NamedOption : Type 0
+NamedOption = List ℕ × Option (List ℕ)
 
--- the option that says which nodes crash
-abbrev pub crash_text : Crash → List ℕ
-crash_text (Share share) = number_text (codes "crash") 0 share
-crash_text Cut = codes " --crash-cut"
+-- the options of growing, in the order of their table
+abbrev pub named_options : List NamedOption
+named_options =
+    (codes "nodes", Some (codes "100")) ∷ (codes "active", Some (codes "5")) ∷ (codes "passive", Some (codes "30"))
+    ∷ (codes "arwl", Some (codes "6")) ∷ (codes "prwl", Some (codes "3")) ∷ (codes "ka", Some (codes "3"))
+    ∷ (codes "kp", Some (codes "4")) ∷ (codes "ttl", Some (codes "4")) ∷ (codes "refill", Some (codes "never"))
+    ∷ (codes "seed", Some (codes "0")) ∷ (codes "loss-join", Some (codes "0")) ∷ (codes "loss", Some (codes "0"))
+    ∷ (codes "repeat", Some (codes "0")) ∷ (codes "order", Some (codes "random")) ∷ (codes "pace", None)
+    ∷ (codes "rounds", Some (codes "3")) ∷ (codes "crash", Some (codes "0")) ∷ (codes "crash-cut", None)
+    ∷ (codes "heal", Some (codes "2")) ∷ (codes "broadcasts", Some (codes "0")) ∷ (codes "sequential", None)
+    ∷ (codes "sender", None) ∷ (codes "detect", None) ∷ []
 
--- the options that say who joins, and what the choices begin with
-abbrev pub beginning_text : GrowOptions → List ℕ
-beginning_text o =
-    number_text (codes "nodes") 100 o.nodes ++ (
-    views_text o.params ++ (
-    walks_text o.params ++ (
-    shuffles_text o.params ++ (
-    refill_text o.params.refill ++
-    number_text (codes "seed") 0 o.seed))))
+-- what a row of the table says of both
+abbrev pub name_and_default : OptionRow → NamedOption
+name_and_default row = (row.name.now, option_map (λ usual. usual.now) row.usual)
 
--- the options that say what becomes of packets, and when
-abbrev pub packets_text : GrowOptions → List ℕ
-packets_text o =
-    number_text (codes "loss-join") 0 o.loss_join ++ (
-    number_text (codes "loss") 0 o.loss ++ (
-    number_text (codes "repeat") 0 o.repeat ++ (
-    order_text o.order ++
-    pace_text o.pace)))
+-- a text is this default, if there is one
+abbrev pub is_default : Option (List ℕ) → List ℕ → Bool
+is_default None text = false
+is_default (Some usual) text = bytes_eq usual text
 
--- the options that say what happens after all have joined
-abbrev pub phases_text : GrowOptions → List ℕ
-phases_text o =
-    number_text (codes "rounds") 3 o.rounds ++ (
-    crash_text o.crash ++ (
-    number_text (codes "heal") 2 o.heal ++
-    number_text (codes "broadcasts") 0 o.broadcasts))
+-- an option with a text: it is not said at its default
+abbrev pub text_option : NamedOption → List ℕ → List ℕ
+text_option option text =
+    if is_default option.1 text then [] else (codes " --" ++ (option.0 ++ (codes " " ++ text)))
 
--- an option that takes nothing: it is said if it is asked for
-abbrev pub flag_text : List ℕ → Bool → List ℕ
-flag_text name asked = if asked then codes " --" ++ name else []
+-- an option with a value
+abbrev pub shown_option : NamedOption → Shown → List ℕ
+shown_option option Nothing = []
+shown_option option Name = codes " --" ++ option.0
+shown_option option (Number number) = text_option option (decimal number)
+shown_option option (Rule rule) = text_option option (refill_name rule)
+shown_option option (Turn order) = text_option option (order_name order)
 
--- the option that gives the node that makes each broadcast
-abbrev pub sender_text : Option ℕ → List ℕ
-sender_text None = []
-sender_text (Some node) = codes " --sender " ++ decimal node
-
--- the further options: how broadcasts are made, and how nodes learn of crashes
-abbrev pub further_text : GrowOptions → List ℕ
-further_text o =
-    flag_text (codes "sequential") o.sequential ++ (
-    sender_text o.sender ++
-    flag_text (codes "detect") o.detect)
+-- options with their values, one for each
+unfoldable pub shown_options : List NamedOption → List Shown → List ℕ
+shown_options [] values = []
+shown_options (option ∷ options) [] = []
+shown_options (option ∷ options) (value ∷ values) = shown_option option value ++ shown_options options values
 
 -- the command: each option that is not at its default, in the order of their table
 abbrev pub command_line : GrowOptions → List ℕ
-command_line o =
-    codes "overlay grow" ++ (beginning_text o ++ (packets_text o ++ (phases_text o ++ further_text o)))
+command_line o = codes "overlay grow" ++ shown_options named_options (option_values o)

@@ -12,6 +12,10 @@ pub use number_within_limits::{
     MOST_TURNS, NO_CHANCE, NO_ROUNDS, NO_SHARE, NODES, NodeCount, Pace, SETTLING_ROUNDS, Share,
     Within,
 };
-pub use option_table::{BROADCASTS, OPTION_COUNT, OPTIONS, OptionRow, OptionValue, SEED, Unit};
+pub use option_table::{
+    BROADCASTS, CRASH_CUT, OPTION_COUNT, OPTIONS, OptionRow, OptionValue, SEED, Unit,
+    growing_options,
+};
 pub use options::{Crash, GrowOptions, Order};
+pub use options_as_command::Shown;
 pub use options_from_values::OptionValues;

@@ -1,5 +1,8 @@
 //! The options of growing: one table, by which arguments are read, help lists them and tips tell of them.
 
+ghost use Rattle.std.specs.Prelude.{◌≡◌, map};
+ghost use Rattle.ov_grow_options.specs.CommandLine.{is_default, name_and_default, named_options};
+
 use crate::{MOST_NODES, MOST_OF_HUNDRED, MOST_ROUNDS, MOST_SHARE, MOST_TURNS};
 use ov_ids::{LONGEST_WALK, MOST_ACTIVE, MOST_PASSIVE, MOST_SAMPLED};
 
@@ -24,10 +27,10 @@ pub struct OptionRow {
 /// What the value of an option is.
 #[derive(Clone, Copy)]
 pub enum Unit {
-    /// How many there are of what is counted.
-    Count,
-    /// How many of 100.
-    OfHundred,
+    /// How many there are of this; the text is empty where the option's name says of what.
+    Count(&'static str),
+    /// How many of 100: a text says of what.
+    OfHundred(&'static str),
     /// Whose turn is next.
     Order,
     /// The rule by which a node looks for another active member.
@@ -86,6 +89,30 @@ impl OptionRow {
         }
     }
 
+    /// Whether a text is what stands for its value if it is not given.
+    pub fn is_usual(&self, text: &str) -> bool
+        ensures { result ≡ is_default (name_and_default self.now).1 text.now }
+    {
+        match self.usual {
+            Some(usual) => usual == text,
+            None => false,
+        }
+    }
+
+    /// What its numbers count, if its name does not say it; else nothing.
+    pub fn counted(&self) -> &'static str {
+        match self.unit {
+            Unit::Count(counted) | Unit::OfHundred(counted) => counted,
+            _ => "",
+        }
+    }
+
+    /// Whether it tells settings of a sweep apart: each option does but the seed, and `--crash-cut`, which is a value
+    /// of `--crash`.
+    pub fn is_of_setting(&self) -> bool {
+        self.name != SEED.name && self.name != CRASH_CUT
+    }
+
     /// Whether it is there or not, and has no value.
     pub fn takes_nothing(&self) -> bool {
         matches!(self.unit, Unit::Nothing)
@@ -113,7 +140,7 @@ Nodes learn of crashes only by sending, from the crashes on: whoever sends to a 
 /// The seed, which takes no list in a sweep: its runs have seeds that follow one another.
 pub const SEED: OptionRow = OptionRow {
     name: "seed",
-    unit: Unit::Count,
+    unit: Unit::Count(""),
     limits: Some((0, u64::MAX)),
     words: &[],
     usual: Some("0"),
@@ -123,12 +150,15 @@ pub const SEED: OptionRow = OptionRow {
 /// How many broadcasts there are.
 pub const BROADCASTS: OptionRow = OptionRow {
     name: "broadcasts",
-    unit: Unit::Count,
+    unit: Unit::Count(""),
     limits: Some((0, MOST_ROUNDS as u64)),
     words: &[],
     usual: Some("0"),
     help: "0 to 1000: broadcasts after each of the three snapshots",
 };
+
+/// The option that is another word for a value of `--crash`.
+pub const CRASH_CUT: &str = "crash-cut";
 
 /// How many options of growing there are.
 pub const OPTION_COUNT: usize = 23;
@@ -137,7 +167,7 @@ pub const OPTION_COUNT: usize = 23;
 pub static OPTIONS: [OptionRow; OPTION_COUNT] = [
     OptionRow {
         name: "nodes",
-        unit: Unit::Count,
+        unit: Unit::Count(""),
         limits: Some((1, MOST_NODES as u64)),
         words: &[],
         usual: Some("100"),
@@ -145,7 +175,7 @@ pub static OPTIONS: [OptionRow; OPTION_COUNT] = [
     },
     OptionRow {
         name: "active",
-        unit: Unit::Count,
+        unit: Unit::Count("nodes"),
         limits: Some((1, MOST_ACTIVE as u64)),
         words: &[],
         usual: Some("5"),
@@ -153,7 +183,7 @@ pub static OPTIONS: [OptionRow; OPTION_COUNT] = [
     },
     OptionRow {
         name: "passive",
-        unit: Unit::Count,
+        unit: Unit::Count("nodes"),
         limits: Some((1, MOST_PASSIVE as u64)),
         words: &[],
         usual: Some("30"),
@@ -161,7 +191,7 @@ pub static OPTIONS: [OptionRow; OPTION_COUNT] = [
     },
     OptionRow {
         name: "arwl",
-        unit: Unit::Count,
+        unit: Unit::Count("hops"),
         limits: Some((0, LONGEST_WALK as u64)),
         words: &[],
         usual: Some("6"),
@@ -169,7 +199,7 @@ pub static OPTIONS: [OptionRow; OPTION_COUNT] = [
     },
     OptionRow {
         name: "prwl",
-        unit: Unit::Count,
+        unit: Unit::Count("hops"),
         limits: Some((0, LONGEST_WALK as u64)),
         words: &[],
         usual: Some("3"),
@@ -177,7 +207,7 @@ pub static OPTIONS: [OptionRow; OPTION_COUNT] = [
     },
     OptionRow {
         name: "ka",
-        unit: Unit::Count,
+        unit: Unit::Count("nodes"),
         limits: Some((0, MOST_SAMPLED as u64)),
         words: &[],
         usual: Some("3"),
@@ -185,7 +215,7 @@ pub static OPTIONS: [OptionRow; OPTION_COUNT] = [
     },
     OptionRow {
         name: "kp",
-        unit: Unit::Count,
+        unit: Unit::Count("nodes"),
         limits: Some((0, MOST_SAMPLED as u64)),
         words: &[],
         usual: Some("4"),
@@ -193,7 +223,7 @@ pub static OPTIONS: [OptionRow; OPTION_COUNT] = [
     },
     OptionRow {
         name: "ttl",
-        unit: Unit::Count,
+        unit: Unit::Count("hops"),
         limits: Some((1, LONGEST_WALK as u64)),
         words: &[],
         usual: Some("4"),
@@ -210,7 +240,7 @@ pub static OPTIONS: [OptionRow; OPTION_COUNT] = [
     SEED,
     OptionRow {
         name: "loss-join",
-        unit: Unit::OfHundred,
+        unit: Unit::OfHundred("% of packets"),
         limits: Some((0, MOST_OF_HUNDRED as u64)),
         words: &[],
         usual: Some("0"),
@@ -218,7 +248,7 @@ pub static OPTIONS: [OptionRow; OPTION_COUNT] = [
     },
     OptionRow {
         name: "loss",
-        unit: Unit::OfHundred,
+        unit: Unit::OfHundred("% of packets"),
         limits: Some((0, MOST_OF_HUNDRED as u64)),
         words: &[],
         usual: Some("0"),
@@ -226,7 +256,7 @@ pub static OPTIONS: [OptionRow; OPTION_COUNT] = [
     },
     OptionRow {
         name: "repeat",
-        unit: Unit::OfHundred,
+        unit: Unit::OfHundred("% of packets"),
         limits: Some((0, MOST_SHARE as u64)),
         words: &[],
         usual: Some("0"),
@@ -242,7 +272,7 @@ pub static OPTIONS: [OptionRow; OPTION_COUNT] = [
     },
     OptionRow {
         name: "pace",
-        unit: Unit::Count,
+        unit: Unit::Count("turns"),
         limits: Some((0, MOST_TURNS as u64)),
         words: &["none"],
         usual: None,
@@ -250,7 +280,7 @@ pub static OPTIONS: [OptionRow; OPTION_COUNT] = [
     },
     OptionRow {
         name: "rounds",
-        unit: Unit::Count,
+        unit: Unit::Count(""),
         limits: Some((0, MOST_ROUNDS as u64)),
         words: &[],
         usual: Some("3"),
@@ -258,14 +288,14 @@ pub static OPTIONS: [OptionRow; OPTION_COUNT] = [
     },
     OptionRow {
         name: "crash",
-        unit: Unit::OfHundred,
+        unit: Unit::OfHundred("% of nodes"),
         limits: Some((0, MOST_SHARE as u64)),
         words: &["cut"],
         usual: Some("0"),
         help: "0 to 99: of 100 live nodes, how many crash; cut is --crash-cut",
     },
     OptionRow {
-        name: "crash-cut",
+        name: CRASH_CUT,
         unit: Unit::Nothing,
         limits: None,
         words: &[],
@@ -274,7 +304,7 @@ pub static OPTIONS: [OptionRow; OPTION_COUNT] = [
     },
     OptionRow {
         name: "heal",
-        unit: Unit::Count,
+        unit: Unit::Count("rounds"),
         limits: Some((0, MOST_ROUNDS as u64)),
         words: &[],
         usual: Some("2"),
@@ -291,7 +321,7 @@ pub static OPTIONS: [OptionRow; OPTION_COUNT] = [
     },
     OptionRow {
         name: "sender",
-        unit: Unit::Count,
+        unit: Unit::Count(""),
         limits: Some((1, MOST_NODES as u64)),
         words: &["none"],
         usual: None,
@@ -306,3 +336,10 @@ pub static OPTIONS: [OptionRow; OPTION_COUNT] = [
         help: DETECT,
     },
 ];
+
+/// The options of growing, in the order of their table.
+pub fn growing_options() -> &'static [OptionRow]
+    ensures { map name_and_default result.now ≡ named_options }
+{
+    &OPTIONS
+}

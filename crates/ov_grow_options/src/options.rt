@@ -1,4 +1,5 @@
 ghost use Rattle.std.specs.Prelude.{◌≡◌};
+ghost use Rattle.ov_grow_options.specs.CommandLine.{order_name};
 ghost use Rattle.ov_grow_options.specs.Options.{default_options};
 
 use crate::{
@@ -14,6 +15,18 @@ pub enum Order {
     Random,
     /// That of the packet that is on its way for longest.
     Oldest,
+}
+
+impl Order {
+    /// The word for it, in options and in rows.
+    pub fn name(self) -> &'static str
+        ensures { result.now ≡ order_name self }
+    {
+        match self {
+            Order::Random => "random",
+            Order::Oldest => "oldest",
+        }
+    }
 }
 
 /// Which nodes crash once the overlay has settled.

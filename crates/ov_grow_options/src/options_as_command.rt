@@ -1,281 +1,111 @@
 ghost use Rattle.std.specs.Prelude.{◌≡◌};
+ghost use Rattle.ov_grow_options.specs.CommandLine.{cut_value, flag_value, number_value, option_values, share_value};
+ghost use Rattle.ov_ids.specs.RefillNames.{refill_name};
 
-use crate::{Crash, GrowOptions, Order, Pace};
-use ov_ids::{NodeId, Params, Refill};
+use crate::option_table::growing_options;
+use crate::{Crash, GrowOptions, OPTION_COUNT, OptionRow, Order, Pace};
+use itoa::Buffer;
+use ov_ids::{NodeId, Refill};
 use std::fmt::{Display, Formatter, Result, Write};
 
-/// An option that takes a number, or nothing if it has its default.
-#[derive(Drop)]
-struct NumberText {
-    name: &'static str,
-    usual: u64,
-    number: u64,
+/// How the value of an option is shown.
+#[derive(Clone, Copy)]
+pub enum Shown {
+    /// Not at all: the option is not given.
+    Nothing,
+    /// By the option's name alone.
+    Name,
+    /// As a number.
+    Number(u64),
+    /// As the word for a rule.
+    Rule(Refill),
+    /// As the word for an order.
+    Turn(Order),
 }
 
-impl Display for NumberText {
-    ghost use Rattle.std.specs.Prelude.{Some};
-    ghost use Rattle.ov_grow_options.specs.CommandLine.{number_text};
+/// An option with a text, or nothing if that is its default.
+#[derive(Drop)]
+struct TextOption<'a> {
+    row: &'a OptionRow,
+    text: &'a str,
+}
 
-    ghost output = { λ t. Some (number_text t.name.now t.usual t.number) };
+impl<'a> Display for TextOption<'a> {
+    ghost use Rattle.std.specs.Prelude.{Some};
+    ghost use Rattle.ov_grow_options.specs.CommandLine.{name_and_default, text_option};
+
+    ghost output = { λ t. Some (text_option (name_and_default t.row.now) t.text.now) };
 
     fn fmt<W: Write>(&self, f: &mut Formatter<W>) -> Result {
-        if self.number == self.usual {
+        if self.row.is_usual(self.text) {
             return Ok(());
         }
-        let name = self.name;
-        let number = self.number;
-        write!(f, " --{name} {number}")
+        let name = self.row.name;
+        let text = self.text;
+        write!(f, " --{name} {text}")
     }
 }
 
-/// The options that give the sizes of the nodes' views.
+/// An option with its value, as a command says it.
 #[derive(Drop)]
-struct ViewsText(Params);
-
-impl Display for ViewsText {
-    ghost use Rattle.std.specs.Prelude.{Some};
-    ghost use Rattle.ov_grow_options.specs.CommandLine.{views_text};
-
-    ghost output = { λ t. Some (views_text t.0) };
-
-    fn fmt<W: Write>(&self, f: &mut Formatter<W>) -> Result {
-        let active = number_text("active", 5, self.0.active() as u64);
-        let passive = number_text("passive", 30, self.0.passive() as u64);
-        write!(f, "{active}{passive}")
-    }
+struct ShownOption<'a> {
+    row: &'a OptionRow,
+    value: Shown,
 }
 
-/// The options that give the lengths of walks.
-#[derive(Drop)]
-struct WalksText(Params);
-
-impl Display for WalksText {
+impl<'a> Display for ShownOption<'a> {
     ghost use Rattle.std.specs.Prelude.{Some};
-    ghost use Rattle.ov_grow_options.specs.CommandLine.{walks_text};
+    ghost use Rattle.ov_grow_options.specs.CommandLine.{name_and_default, shown_option};
 
-    ghost output = { λ t. Some (walks_text t.0) };
+    ghost output = { λ t. Some (shown_option (name_and_default t.row.now) t.value) };
 
     fn fmt<W: Write>(&self, f: &mut Formatter<W>) -> Result {
-        let arwl = number_text("arwl", 6, self.0.arwl() as u64);
-        let prwl = number_text("prwl", 3, self.0.prwl() as u64);
-        write!(f, "{arwl}{prwl}")
-    }
-}
-
-/// The options that give what shuffles carry, and how far.
-#[derive(Drop)]
-struct ShufflesText(Params);
-
-impl Display for ShufflesText {
-    ghost use Rattle.std.specs.Prelude.{Some};
-    ghost use Rattle.ov_grow_options.specs.CommandLine.{shuffles_text};
-
-    ghost output = { λ t. Some (shuffles_text t.0) };
-
-    fn fmt<W: Write>(&self, f: &mut Formatter<W>) -> Result {
-        let ka = number_text("ka", 3, self.0.ka() as u64);
-        let kp = number_text("kp", 4, self.0.kp() as u64);
-        let ttl = number_text("ttl", 4, self.0.shuffle_ttl() as u64);
-        write!(f, "{ka}{kp}{ttl}")
-    }
-}
-
-/// The option that says when a node that is told DISCONNECT looks for another active member.
-#[derive(Drop)]
-struct RefillText(Refill);
-
-impl Display for RefillText {
-    ghost use Rattle.std.specs.Prelude.{Some};
-    ghost use Rattle.ov_grow_options.specs.CommandLine.{refill_text};
-
-    ghost output = { λ t. Some (refill_text t.0) };
-
-    fn fmt<W: Write>(&self, f: &mut Formatter<W>) -> Result {
-        match self.0 {
-            Refill::Never => Ok(()),
-            rule => write!(f, " --refill {rule}"),
-        }
-    }
-}
-
-/// The option that says whose turn is next.
-#[derive(Drop)]
-struct OrderText(Order);
-
-impl Display for OrderText {
-    ghost use Rattle.std.specs.Prelude.{Some};
-    ghost use Rattle.ov_grow_options.specs.CommandLine.{order_text};
-
-    ghost output = { λ t. Some (order_text t.0) };
-
-    fn fmt<W: Write>(&self, f: &mut Formatter<W>) -> Result {
-        match self.0 {
-            Order::Random => Ok(()),
-            Order::Oldest => write!(f, " --order oldest"),
-        }
-    }
-}
-
-/// The option that gives the turns between two births.
-#[derive(Drop)]
-struct PaceText(Option<Pace>);
-
-impl Display for PaceText {
-    ghost use Rattle.std.specs.Prelude.{Some};
-    ghost use Rattle.ov_grow_options.specs.CommandLine.{pace_text};
-
-    ghost output = { λ t. Some (pace_text t.0) };
-
-    fn fmt<W: Write>(&self, f: &mut Formatter<W>) -> Result {
-        match self.0 {
-            None => Ok(()),
-            Some(pace) => {
-                let turns = pace.get();
-                write!(f, " --pace {turns}")
+        let row = self.row;
+        match self.value {
+            Shown::Nothing => Ok(()),
+            Shown::Name => {
+                let name = row.name;
+                write!(f, " --{name}")
+            }
+            Shown::Number(number) => {
+                let mut digits = Buffer::new();
+                let text = digits.format(number);
+                let option = TextOption { row, text };
+                write!(f, "{option}")
+            }
+            Shown::Rule(rule) => {
+                let text = rule_name(rule);
+                let option = TextOption { row, text };
+                write!(f, "{option}")
+            }
+            Shown::Turn(order) => {
+                let text = order.name();
+                let option = TextOption { row, text };
+                write!(f, "{option}")
             }
         }
     }
 }
 
-/// The option that says which nodes crash.
+/// Options with their values, one for each.
 #[derive(Drop)]
-struct CrashText(Crash);
+struct ShownOptions<'a> {
+    rows: &'a [OptionRow],
+    values: &'a [Shown],
+}
 
-impl Display for CrashText {
-    ghost use Rattle.std.specs.Prelude.{Some};
-    ghost use Rattle.ov_grow_options.specs.CommandLine.{crash_text};
+impl<'a> Display for ShownOptions<'a> {
+    ghost use Rattle.std.specs.Prelude.{Some, map};
+    ghost use Rattle.ov_grow_options.specs.CommandLine.{name_and_default, shown_options};
 
-    ghost output = { λ t. Some (crash_text t.0) };
+    ghost output = { λ t. Some (shown_options (map name_and_default t.rows.now) t.values.now) };
 
     fn fmt<W: Write>(&self, f: &mut Formatter<W>) -> Result {
-        match self.0 {
-            Crash::Cut => write!(f, " --crash-cut"),
-            Crash::Share(share) => {
-                let text = number_text("crash", 0, share.get() as u64);
-                write!(f, "{text}")
-            }
+        for (row, value) in self.rows.iter().zip(self.values) {
+            let option = ShownOption { row, value: *value };
+            write!(f, "{option}")?;
         }
-    }
-}
-
-/// The options that say who joins, and what the choices begin with.
-#[derive(Drop)]
-struct BeginningText(GrowOptions);
-
-impl Display for BeginningText {
-    ghost use Rattle.std.specs.Prelude.{Some};
-    ghost use Rattle.ov_grow_options.specs.CommandLine.{beginning_text};
-
-    ghost output = { λ t. Some (beginning_text t.0) };
-
-    fn fmt<W: Write>(&self, f: &mut Formatter<W>) -> Result {
-        let nodes = number_text("nodes", 100, self.0.nodes.get() as u64);
-        let views = ViewsText(self.0.params);
-        let walks = WalksText(self.0.params);
-        let shuffles = ShufflesText(self.0.params);
-        let refill = RefillText(self.0.params.refill());
-        let seed = number_text("seed", 0, self.0.seed);
-        write!(f, "{nodes}{views}{walks}{shuffles}{refill}{seed}")
-    }
-}
-
-/// The options that say what becomes of packets, and when.
-#[derive(Drop)]
-struct PacketsText(GrowOptions);
-
-impl Display for PacketsText {
-    ghost use Rattle.std.specs.Prelude.{Some};
-    ghost use Rattle.ov_grow_options.specs.CommandLine.{packets_text};
-
-    ghost output = { λ t. Some (packets_text t.0) };
-
-    fn fmt<W: Write>(&self, f: &mut Formatter<W>) -> Result {
-        let loss_join = number_text("loss-join", 0, self.0.loss_join.get() as u64);
-        let loss = number_text("loss", 0, self.0.loss.get() as u64);
-        let repeat = number_text("repeat", 0, self.0.repeat.get() as u64);
-        let order = OrderText(self.0.order);
-        let pace = PaceText(self.0.pace);
-        write!(f, "{loss_join}{loss}{repeat}{order}{pace}")
-    }
-}
-
-/// The options that say what happens after all have joined.
-#[derive(Drop)]
-struct PhasesText(GrowOptions);
-
-impl Display for PhasesText {
-    ghost use Rattle.std.specs.Prelude.{Some};
-    ghost use Rattle.ov_grow_options.specs.CommandLine.{phases_text};
-
-    ghost output = { λ t. Some (phases_text t.0) };
-
-    fn fmt<W: Write>(&self, f: &mut Formatter<W>) -> Result {
-        let rounds = number_text("rounds", 3, self.0.rounds.get() as u64);
-        let crash = CrashText(self.0.crash);
-        let heal = number_text("heal", 2, self.0.heal.get() as u64);
-        let broadcasts = number_text("broadcasts", 0, self.0.broadcasts.get() as u64);
-        write!(f, "{rounds}{crash}{heal}{broadcasts}")
-    }
-}
-
-/// An option that takes nothing, or no text if it is not asked for.
-#[derive(Drop)]
-struct FlagText {
-    name: &'static str,
-    asked: bool,
-}
-
-impl Display for FlagText {
-    ghost use Rattle.std.specs.Prelude.{Some};
-    ghost use Rattle.ov_grow_options.specs.CommandLine.{flag_text};
-
-    ghost output = { λ t. Some (flag_text t.name.now t.asked) };
-
-    fn fmt<W: Write>(&self, f: &mut Formatter<W>) -> Result {
-        if !self.asked {
-            return Ok(());
-        }
-        let name = self.name;
-        write!(f, " --{name}")
-    }
-}
-
-/// The option that gives the node that makes each broadcast.
-#[derive(Drop)]
-struct SenderText(Option<NodeId>);
-
-impl Display for SenderText {
-    ghost use Rattle.std.specs.Prelude.{Some};
-    ghost use Rattle.ov_grow_options.specs.CommandLine.{sender_text};
-
-    ghost output = { λ t. Some (sender_text t.0) };
-
-    fn fmt<W: Write>(&self, f: &mut Formatter<W>) -> Result {
-        match self.0 {
-            None => Ok(()),
-            Some(node) => {
-                let number = node.number();
-                write!(f, " --sender {number}")
-            }
-        }
-    }
-}
-
-/// The further options: how broadcasts are made, and how nodes learn of crashes.
-#[derive(Drop)]
-struct FurtherText(GrowOptions);
-
-impl Display for FurtherText {
-    ghost use Rattle.std.specs.Prelude.{Some};
-    ghost use Rattle.ov_grow_options.specs.CommandLine.{further_text};
-
-    ghost output = { λ t. Some (further_text t.0) };
-
-    fn fmt<W: Write>(&self, f: &mut Formatter<W>) -> Result {
-        let sequential = flag_text("sequential", self.0.sequential);
-        let sender = SenderText(self.0.sender);
-        let detect = flag_text("detect", self.0.detect);
-        write!(f, "{sequential}{sender}{detect}")
+        Ok(())
     }
 }
 
@@ -287,31 +117,101 @@ impl Display for GrowOptions {
     ghost output = { λ o. Some (command_line o) };
 
     fn fmt<W: Write>(&self, f: &mut Formatter<W>) -> Result {
-        let beginning = BeginningText(*self);
-        let packets = PacketsText(*self);
-        let phases = PhasesText(*self);
-        let further = FurtherText(*self);
-        write!(f, "overlay grow{beginning}{packets}{phases}{further}")
+        let values = option_values(self);
+        let options = ShownOptions {
+            rows: growing_options(),
+            values: &values,
+        };
+        write!(f, "overlay grow{options}")
     }
 }
 
-/// The option of this name, with the default that it usually has.
-fn number_text(name: &'static str, usual: u64, number: u64) -> NumberText
-    ensures name { result.name.now ≡ name.now }
-    ensures usual { result.usual ≡ usual }
-    ensures number { result.number ≡ number }
+/// The value of each option, in the order of their table.
+fn option_values(options: &GrowOptions) -> [Shown; OPTION_COUNT]
+    ensures { result ≡ option_values options.now }
 {
-    NumberText {
-        name,
-        usual,
-        number,
+    let params = options.params;
+    [
+        Shown::Number(options.nodes.get() as u64),
+        Shown::Number(params.active() as u64),
+        Shown::Number(params.passive() as u64),
+        Shown::Number(params.arwl() as u64),
+        Shown::Number(params.prwl() as u64),
+        Shown::Number(params.ka() as u64),
+        Shown::Number(params.kp() as u64),
+        Shown::Number(params.shuffle_ttl() as u64),
+        Shown::Rule(params.refill()),
+        Shown::Number(options.seed),
+        Shown::Number(options.loss_join.get() as u64),
+        Shown::Number(options.loss.get() as u64),
+        Shown::Number(options.repeat.get() as u64),
+        Shown::Turn(options.order),
+        pace_value(options.pace),
+        Shown::Number(options.rounds.get() as u64),
+        share_value(options.crash),
+        cut_value(options.crash),
+        Shown::Number(options.heal.get() as u64),
+        Shown::Number(options.broadcasts.get() as u64),
+        flag_value(options.sequential),
+        sender_value(options.sender),
+        flag_value(options.detect),
+    ]
+}
+
+/// The value of an option without a text.
+fn flag_value(asked: bool) -> Shown
+    ensures { result ≡ flag_value asked }
+{
+    if asked { Shown::Name } else { Shown::Nothing }
+}
+
+/// The turns between two births, if they are given.
+fn pace_value(pace: Option<Pace>) -> Shown
+    ensures { result ≡ number_value pace }
+{
+    match pace {
+        Some(turns) => Shown::Number(turns.get() as u64),
+        None => Shown::Nothing,
     }
 }
 
-/// The option of this name that takes nothing, if it is asked for.
-fn flag_text(name: &'static str, asked: bool) -> FlagText
-    ensures name { result.name.now ≡ name.now }
-    ensures asked { result.asked ≡ asked }
+/// The node that makes each broadcast, if it is given.
+fn sender_value(sender: Option<NodeId>) -> Shown
+    ensures { result ≡ number_value sender }
 {
-    FlagText { name, asked }
+    match sender {
+        Some(node) => Shown::Number(node.number() as u64),
+        None => Shown::Nothing,
+    }
+}
+
+/// How many of 100 nodes crash, unless those of the cut do.
+fn share_value(crash: Crash) -> Shown
+    ensures { result ≡ share_value crash }
+{
+    match crash {
+        Crash::Share(share) => Shown::Number(share.get() as u64),
+        Crash::Cut => Shown::Nothing,
+    }
+}
+
+/// Whether the nodes of the cut crash.
+fn cut_value(crash: Crash) -> Shown
+    ensures { result ≡ cut_value crash }
+{
+    match crash {
+        Crash::Share(_) => Shown::Nothing,
+        Crash::Cut => Shown::Name,
+    }
+}
+
+/// The word for a rule at DISCONNECT.
+fn rule_name(rule: Refill) -> &'static str
+    ensures { result.now ≡ refill_name rule }
+{
+    match rule {
+        Refill::Never => "never",
+        Refill::Alone => "alone",
+        Refill::Always => "always",
+    }
 }

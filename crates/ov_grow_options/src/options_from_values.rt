@@ -1,8 +1,8 @@
 ghost use Rattle.std.specs.Prelude.{◌≡◌, IfSome};
 
+use crate::option_table::growing_options;
 use crate::{
-    Chance, Count, Crash, GrowOptions, NodeCount, OPTION_COUNT, OPTIONS, OptionValue, Order, Pace,
-    Share,
+    Chance, Count, Crash, GrowOptions, NodeCount, OPTION_COUNT, OptionValue, Order, Pace, Share,
 };
 use ov_ids::{NodeId, Params, Refill};
 
@@ -37,7 +37,7 @@ impl OptionValues {
 
     /// The value of the option of this name.
     pub fn value(&self, name: &str) -> OptionValue {
-        for (option, value) in OPTIONS.iter().zip(&self.0) {
+        for (option, value) in growing_options().iter().zip(&self.0) {
             if option.name == name {
                 return *value;
             }
