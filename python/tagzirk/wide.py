@@ -78,8 +78,8 @@ class Search:
     def count_pairs(self) -> None:
         """Finds the best crash of all that some two hosts are linked to. Of two hosts that are not linked and share no
         peer it strikes as many as both have links, so of these only hosts with few links are looked at."""
-        bits = Bits(self.graph)
-        links = [number_of(it) for it in bits.peers]
+        bits = self.graph.bits
+        links = [len(it) for it in bits.lists]
         order = sorted(range(len(links)), key=links.__getitem__)
         for a in order:
             near = bits.around(bits.peers[a]) | bits.peers[a]
