@@ -37,7 +37,7 @@ Question = Tuple[List[Link], List[Link]]
 # some ten seconds where there are 300 hosts: this is the most questions, times the crashes in question.
 MOST_LINKS, MOST_PAIRS, MOST_WORK = 400, 2000, 3000
 # Of a large graph no more is asked than reads so many links.
-MOST_READ = 2_000_000
+MOST_READ = 150_000
 
 
 @dataclass(frozen=True)

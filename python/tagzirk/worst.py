@@ -25,8 +25,8 @@ SPREAD, MOST_WEAK = 6, 64
 # from a host to a host.
 MOST_OF, STEPS_OF = 200, 2_000_000
 # A pair is asked about four times or so, and each time all links are read: so many pairs at most are taken that so many
-# links are read.
-MOST_READ = 1_000_000
+# links are read, and of a large overlay fewer.
+MOST_READ, MOST_READ_OF_LARGE = 1_000_000, 300_000
 
 Ask = Callable[[NamedGraph[Any], Optional[List[int]]], Report[Any]]
 
@@ -163,7 +163,8 @@ class Hunt:
 
     def few(self, pairs: List[Tuple[int, int]]) -> List[Tuple[int, int]]:
         """Those of these pairs that there is time for: all, unless there are very many links."""
-        most = max(2, MOST_READ // (4 * len(self.graph.links)))
+        links = MOST_READ if len(self.peers) <= USUAL_HOSTS else MOST_READ_OF_LARGE
+        most = max(1, links // (4 * len(self.graph.links)))
         return pairs[:: -(-len(pairs) // most)] if pairs else pairs
 
     def exchange(self, progress: Optional[Progress]) -> None:
