@@ -20,8 +20,8 @@ and let X be the hosts of a crash.
   there is a cut that does. Then its hosts leave k - 1, and the others are shared out by the side of their peers.
 
 Where both bounds meet, k is known. Else the crash is asked about by itself. From below everything rests on certificates
-that overlay-check confirmed, but for 1, which says no more than that all that are left reach each other. That is counted
-here, and so is all from above: it rests on hosts that don't reach each other.
+that overlay-check confirmed, but for 1, which says no more than that all that are left reach each other. That is
+counted here, and so is all from above: it rests on hosts that don't reach each other.
 """
 
 from __future__ import annotations

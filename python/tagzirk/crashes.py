@@ -41,8 +41,8 @@ class Crash(Generic[Node]):
 
 
 class CutOff(Sequence[Node]):
-    """The names of the hosts that a crash cuts off, as `graph.named` has them. They are looked for when somebody looks at
-    them, since of a large overlay many crashes may cut off thousands each; how many they are is known."""
+    """The names of the hosts that a crash cuts off, as `graph.named` has them. They are looked for when somebody looks
+    at them, since of a large overlay many crashes may cut off thousands each; how many they are is known."""
 
     def __init__(self, graph: NamedGraph[Node], crashed: Hosts) -> None:
         self.graph, self.crashed = graph, crashed

@@ -4,9 +4,11 @@ Hosts are the places 0, 1, 2 and so on, and a crash is the places of its hosts."
 from __future__ import annotations
 
 import collections
-from typing import Collection, Iterator, List, Sequence, Set, Tuple
+from typing import Collection, Deque, Iterator, List, Sequence, Set, Tuple
 
 Crash = Collection[int]
+# Both ends of a link, and by which crashes it is struck.
+Link = Tuple[int, int, List[int]]
 # So many crashes are looked at together.
 AT_ONCE = 4096
 
@@ -30,7 +32,8 @@ def split_at_once(lists: Sequence[Sequence[int]], crashes: Sequence[Crash]) -> i
     """The same, as a number with a bit for each crash. So has what is kept of each host: the crashes that it outlives,
     and those after which it is reached from the first host that outlives them."""
     every = (1 << len(crashes)) - 1
-    left, reached, more = [every] * len(lists), [0] * len(lists), collections.deque()  # type: List[int], List[int], collections.deque[int]
+    left, reached = [every] * len(lists), [0] * len(lists)
+    more: Deque[int] = collections.deque()
     for at, crash in enumerate(crashes):
         for host in crash:
             left[host] ^= 1 << at
@@ -72,7 +75,9 @@ def largest_of(lists: Sequence[Sequence[int]], crashes: Sequence[Crash]) -> List
         for host in crash:
             struck[host].add(at)
     links = [(a, b, sorted(struck[a] | struck[b])) for a, peers in enumerate(lists) for b in peers if a < b]
-    return [min(it, len(lists) - len(crash)) for it, crash in zip(Joined(len(lists)).of(links, 0, len(crashes)), crashes)]
+    sizes = Joined(len(lists)).of(links, 0, len(crashes))
+    # a host that crashed is a tree of its own
+    return [min(size, len(lists) - len(crash)) for size, crash in zip(sizes, crashes)]
 
 
 class Joined:
@@ -82,14 +87,15 @@ class Joined:
         self.above, self.size, self.largest = [*range(hosts)], [1] * hosts, 1
 
     def root(self, host: int) -> int:
+        """The host that stands for the tree of a host."""
         while self.above[host] != host:
             host = self.above[host]
         return host
 
-    def of(self, links: List[Tuple[int, int, List[int]]], begin: int, end: int) -> Iterator[int]:
-        """The size of the largest tree after each of these crashes, with the links that it does not strike. Of links
-        that are not joined yet it is given by which crashes they are struck."""
-        done, largest, later = [], self.largest, []  # type: List[int], int, List[Tuple[int, int, List[int]]]
+    def of(self, links: List[Link], begin: int, end: int) -> Iterator[int]:
+        """The size of the largest tree after each of these crashes, with the links that it does not strike. `links` are
+        those that are not joined yet."""
+        done, largest, later = [], self.largest, []  # type: List[int], int, List[Link]
         for link in links:
             a, b, struck = link
             if any(begin <= it < end for it in struck):

@@ -21,8 +21,8 @@ MOST_STEPS, MOST_HOSTS, ENOUGH_STEPS = 3_000_000, 400, 300_000
 # So many hosts, at most one more, are taken two by two, to ask for a smallest cut that parts them; and of so many hosts
 # with k links these are taken for a cut.
 SPREAD, MOST_WEAK = 6, 64
-# Of a large overlay it is told of so many cuts at most whom they cut off, as far as that takes no more than so many steps
-# from a host to a host.
+# Of a large overlay it is told of so many cuts at most whom they cut off, as far as that takes no more than so many
+# steps from a host to a host.
 MOST_OF, STEPS_OF = 200, 2_000_000
 # A pair is asked about four times or so, and each time all links are read: so many pairs at most are taken that so many
 # links are read, and of a large overlay fewer.

@@ -320,7 +320,8 @@ class Accounts(Dumps):
             ("a b\nb c\na c\n", []),
         ):
             found = doubts_in(self.read(self.put("net.edges", text)).notes)
-            self.assertEqual((len(found), [it in note for it, note in zip(told, found)]), (len(told), [True] * len(told)))
+            self.assertEqual([it in note for it, note in zip(told, found)], [True] * len(found), text)
+            self.assertEqual(len(found), len(told), text)
 
     def test_a_header_that_stands_there_again(self):
         text = "source,target\na,b\nb,c\n\nsource,target\na,c\n"

@@ -1,5 +1,5 @@
-"""Tests of what many crashes leave, counted all at once, and of `each` on large overlays that fall apart. What is counted
-is compared with a plain search after each crash."""
+"""Tests of what many crashes leave, counted all at once, and of `each` on large overlays that fall apart. What is
+counted is compared with a plain search after each crash."""
 
 import csv
 import io

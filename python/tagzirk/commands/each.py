@@ -211,7 +211,8 @@ def most_named(crashes: List[Crash[str]]) -> int:
         return MOST_HOSTS
     most = MOST_NAMED // len(crashes)
     rows = counted(sum(len(it.cut_off) > most for it in crashes), "crash cuts", "crashes cut")
-    told(f"{rows} off more than {counted(most, 'host')}, who are counted and not named: --rows N takes the N worst alone")
+    who = f"{rows} off more than {counted(most, 'host')}, who are counted and not named"
+    told(f"{who}: --rows N takes the N worst alone")
     return most
 
 
