@@ -323,6 +323,12 @@ class Accounts(Dumps):
             self.assertEqual([it in note for it, note in zip(told, found)], [True] * len(found), text)
             self.assertEqual(len(found), len(told), text)
 
+    def test_names_of_signs_alone(self):
+        text = json.dumps({"a": ["b", "--", "c"], "b": ["a", "c", "--"], "c": ["a", "--", "b"]})
+        told = ["not read as states: names of signs alone (--)"]
+        self.assertEqual(doubts_in(self.read(self.put("net.json", text)).notes), told)
+        self.assertEqual(doubts_in(self.read(self.put("net.json", text.replace("--", "d"))).notes), [])
+
     def test_a_header_that_stands_there_again(self):
         text = "source,target\na,b\nb,c\n\nsource,target\na,c\n"
         told = "of 3 links written as (below header 1: 2, below header 2: 1 (a - c))"
