@@ -113,35 +113,42 @@ class Bits:
     def piece(self, start: Hosts, left: Hosts) -> Hosts:
         """All that are reached from a set of hosts, where only the hosts `left` are left."""
         if len(self.nodes) > WIDE:
-            return self.piece_by_lists(start, left)
+            return set_of(self.reached(list(places_of(start)), self.signs(left)))
         piece = more = start
         while more:
             more = self.around(more) & left & ~piece
             piece |= more
         return piece
 
+    def signs(self, hosts: Hosts) -> bytearray:
+        """A sign for each host: whether it is in a set."""
+        return bytearray(f"{hosts:0{len(self.nodes)}b}".encode())[::-1]
+
+    def reached(self, start: List[int], free: bytearray) -> List[int]:
+        """The same of many hosts, link by link, by their places: so it takes no longer where they are far from each
+        other. Who is reached is no longer free."""
+        yes, no = ord("1"), ord("0")
+        found = start
+        for at in found:
+            free[at] = no
+        for at in found:
+            for peer in self.lists[at]:
+                if free[peer] == yes:
+                    free[peer] = no
+                    found.append(peer)
+        return found
+
     @cached_property
     def singles(self) -> Singles:
         """What the crash of each single host leaves."""
         return Singles(self.lists)
 
-    def piece_by_lists(self, start: Hosts, left: Hosts) -> Hosts:
-        """The same of many hosts, link by link: so it takes no longer where they are far from each other."""
-        yes, no, count = ord("1"), ord("0"), len(self.nodes)
-        free, found = bytearray(f"{left & ~start:0{count}b}".encode())[::-1], bytearray(b"0") * count
-        more = list(places_of(start))
-        for at in more:
-            found[at] = yes
-        while more:
-            for peer in self.lists[more.pop()]:
-                if free[peer] == yes:
-                    free[peer], found[peer] = no, yes
-                    more.append(peer)
-        return int(found[::-1].decode(), 2)
-
     def pieces(self, crashed: Hosts = 0) -> List[Hosts]:
         """The connected components that a crash leaves, in the order of their lowest ids."""
         left, pieces = self.all & ~crashed, []
+        if len(self.nodes) > WIDE:
+            free = self.signs(left)
+            return [set_of(self.reached([at], free)) for at in range(len(free)) if free[at] == ord("1")]
         while left:
             piece = self.piece(left & -left, left)
             pieces.append(piece)

@@ -27,6 +27,7 @@ counted here, and so is all from above: it rests on hosts that don't reach each 
 from __future__ import annotations
 
 import collections
+import itertools
 import sys
 from dataclasses import dataclass
 from typing import Any, Callable, Dict, Iterable, List, Optional, Sequence, Tuple
@@ -107,7 +108,7 @@ class Bounds:
         pieces, places = self.bits.pieces(cut), list(places_of(cut))
         for crash, known in list(self.most.items()):
             if known is None or number_of(cut & ~crash) < len(known):
-                if sum(1 for it in pieces if it & ~crash) > 1:
+                if len(list(itertools.islice((it for it in pieces if it & ~crash), 2))) > 1:
                     self.most[crash] = tuple(at for at in places if not crash >> at & 1)
             self.settle(crash)
         return pieces

@@ -76,9 +76,9 @@ class Search:
         return found.union(*(self.graph.peers[it] for it in hosts)).difference(hosts)
 
     def count_pairs(self, least: int) -> None:
-        """Finds the best crash of all that some two hosts are linked to, or one of so few that no fewer do. Of two hosts
-        that are not linked and share no peer it strikes as many as both have links, so of these only hosts with few
-        links are looked at."""
+        """Finds the best crash of all that some two hosts are linked to, or one of so few that no fewer do. Of two
+        hosts that are not linked and share no peer it strikes as many as both have links, so of these only hosts with
+        few links are looked at."""
         bits = self.graph.bits
         links = [len(it) for it in bits.lists]
         order = sorted(range(len(links)), key=links.__getitem__)
