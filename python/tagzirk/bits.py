@@ -91,6 +91,7 @@ class Bits:
         self.lists = [[self.places[it] for it in sorted(graph.peers[host])] for host in self.nodes]
         sets = SetsOfLists(self.lists)
         self.peers: Sequence[Hosts] = sets if len(self.nodes) > WIDE else list(sets)
+        # whom crashes of several hosts cut off, as far as that was counted
         self.numbers: Dict[Hosts, int] = {}
 
     def of(self, ids: Iterable[int]) -> Hosts:

@@ -7,7 +7,7 @@ from dataclasses import dataclass
 from functools import partial
 from typing import Any, Dict, Generic, Iterable, Iterator, List, Mapping, Optional, Sequence, Set, Tuple
 
-from .bits import Bits, Hosts, number_of
+from .bits import Bits, Hosts
 from .bounds import Number, number_in, numbers_after, numbers_after_two
 from .errors import BadGraph
 from .graphs import Graph, NamedGraph, Node, named_graph
