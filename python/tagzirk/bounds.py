@@ -20,23 +20,28 @@ and let X be the hosts of a crash.
   there is a cut that does. Then its hosts leave k - 1, and the others are shared out by the side of their peers.
 
 Where both bounds meet, k is known. Else the crash is asked about by itself. From below everything rests on certificates
-that overlay-check confirmed, and from above on hosts that don't reach each other, which is counted here.
+that overlay-check confirmed, but for 1, which says no more than that all that are left reach each other. That is
+counted here, and so is all from above: it rests on hosts that don't reach each other.
 """
 
 from __future__ import annotations
 
+import collections
+import itertools
 import sys
 from dataclasses import dataclass
 from typing import Any, Callable, Dict, Iterable, List, Optional, Sequence, Tuple
 
-from .bits import Bits, Hosts, number_of, places_of
+from .bits import Hosts, number_of, places_of
 from .graphs import NamedGraph
 from .limits import USUAL_HOSTS
 from .progress import Progress, each_at_once
 from .reports import Report
 
-# Of a large graph questions are asked as long as so many hosts are asked about in all.
-MOST_ASKED = 1_000_000
+# Of a large graph questions are asked as long as so many hosts are asked about in all, some seconds.
+MOST_ASKED = 100_000
+# The hosts of a cut, by their places.
+Places = Tuple[int, ...]
 # Asks about a graph, and a group in it.
 Ask = Callable[[NamedGraph[Any], Optional[List[int]]], Report[Any]]
 
@@ -62,8 +67,9 @@ class Bounds:
     known yet, and `numbers` of the others. `most` is None where no cut is known."""
 
     def __init__(self, graph: NamedGraph[Any], base: Number, crashes: Iterable[Hosts]) -> None:
-        self.graph, self.k, self.bits = graph, base.k, Bits(graph)
-        self.by_links = sorted(range(len(self.bits.nodes)), key=lambda at: number_of(self.bits.peers[at]))
+        self.graph, self.k, self.bits = graph, base.k, graph.bits
+        self.links = [len(it) for it in self.bits.lists]
+        self.by_links = sorted(range(len(self.links)), key=self.links.__getitem__)
         self.least = {crash: max(0, base.k - number_of(crash)) for crash in crashes}
         self.most = {crash: self.links_cut(crash) for crash in self.least}
         self.numbers: Dict[Hosts, Number] = {}
@@ -71,22 +77,25 @@ class Bounds:
         self.questions = MOST_ASKED // hosts if hosts > USUAL_HOSTS else sys.maxsize
         self.learn_cut(self.bits.of(base.cut))
 
-    def links_cut(self, crash: Hosts) -> Optional[Hosts]:
+    def links_cut(self, crash: Hosts) -> Optional[Places]:
         """The fewest links that a host has after a crash, of those that are not linked to all others that are left."""
-        left = self.bits.all & ~crash
-        near = self.bits.around(crash) & left
+        crashed = list(places_of(crash))
+        lost = collections.Counter(peer for at in crashed for peer in self.bits.lists[at])
         # who is linked to none that crashes keeps all links, so the first of those by links is enough
-        far = next((at for at in self.by_links if (left & ~near) >> at & 1), None)
-        hosts = [*places_of(near), *([] if far is None else [far])]
-        rests = [(self.bits.peers[at] & left, 1 << at) for at in hosts]
-        cuts = [rest for rest, host in rests if rest | host != left]
-        return min(cuts, key=number_of) if cuts else None
+        far = next((at for at in self.by_links if at not in lost and not crash >> at & 1), None)
+        left = [at for at in lost if not crash >> at & 1] + ([] if far is None else [far])
+        others = len(self.links) - len(crashed) - 1
+        number, host = min(((self.links[at] - lost[at], at) for at in left), default=(others, 0))
+        if number == others:
+            # each of these is linked to all others, and so is any host with more links
+            return None
+        return tuple(at for at in self.bits.lists[host] if not crash >> at & 1)
 
     def settle(self, crash: Hosts) -> None:
         """Both bounds of a crash may have met."""
         cut = self.most[crash]
-        if cut is not None and number_of(cut) <= self.least[crash]:
-            self.know(crash, Number(number_of(cut), False, tuple(self.bits.ids(cut))))
+        if cut is not None and len(cut) <= self.least[crash]:
+            self.know(crash, Number(len(cut), False, tuple(self.bits.nodes[at] for at in cut)))
 
     def know(self, crash: Hosts, number: Number) -> None:
         """The number after a crash is known."""
@@ -96,12 +105,11 @@ class Bounds:
     def learn_cut(self, cut: Hosts) -> List[Hosts]:
         """A crash of these hosts may part others, which bounds numbers from above. Gives the components that it
         leaves."""
-        pieces = self.bits.pieces(cut)
+        pieces, places = self.bits.pieces(cut), list(places_of(cut))
         for crash, known in list(self.most.items()):
-            rest = cut & ~crash
-            is_better = known is None or number_of(rest) < number_of(known)
-            if is_better and sum(1 for it in pieces if it & ~crash) > 1:
-                self.most[crash] = rest
+            if known is None or number_of(cut & ~crash) < len(known):
+                if len(list(itertools.islice((it for it in pieces if it & ~crash), 2))) > 1:
+                    self.most[crash] = tuple(at for at in places if not crash >> at & 1)
             self.settle(crash)
         return pieces
 
@@ -142,8 +150,6 @@ class Bounds:
     def ask_alone(self, ask: Ask, workers: int, progress: Optional[Progress]) -> None:
         """Asks about each crash by itself that is not known yet: of a large graph about those alone that may leave the
         lowest numbers, as long as there are questions."""
-        if len(self.bits.nodes) > USUAL_HOSTS:
-            self.count_split(progress)
         crashes = sorted(self.least, key=lambda it: self.least[it])[: self.questions]
         asked = (self.graph.without(set(self.bits.ids(crash))) for crash in crashes)
         answers = each_at_once(lambda graph: number_in(ask(graph, None)), asked, workers, "crash", progress)
@@ -152,17 +158,16 @@ class Bounds:
         for crash, least in list(self.least.items()):
             self.know(crash, Number(least, False, (), is_known=False))
 
-    def count_split(self, progress: Optional[Progress]) -> None:
+    def count_split(self) -> None:
         """Settles the crashes that split a graph, by plain reachability; others leave 1 at least."""
         crashes = [it for it, least in self.least.items() if least == 0]
-        for at, crash in enumerate(crashes, 1):
+        self.bits.count_cut_off(crashes)
+        for crash in crashes:
             if self.bits.is_split(crash):
                 self.know(crash, Number(0, False, ()))
             else:
                 self.least[crash] = 1
                 self.settle(crash)
-            if progress:
-                progress.tell(f"crashes: {at} of {len(crashes)} counted")
 
 
 def numbers_after(
@@ -177,6 +182,7 @@ def numbers_after(
     if base.is_linked:
         return {crash: Number(len(graph.ids) - number_of(crash) - 1, True, ()) for crash in crashes}
     bounds = Bounds(graph, base, crashes)
+    bounds.count_split()
     bounds.ask_groups(ask, workers, progress)
     bounds.ask_alone(ask, workers, progress)
     return bounds.numbers
@@ -187,11 +193,11 @@ def numbers_after_two(
 ) -> Dict[Hosts, Number]:
     """What k is after each crash of two hosts, if they leave one. `singles` has the numbers after each single crash: a
     crash of two is a single one of what the first of them leaves."""
-    bits = Bits(graph)
+    bits = graph.bits
 
     def after(first: int) -> Dict[Hosts, Number]:
         left = graph.without({bits.nodes[first]})
-        inner = Bits(left)
+        inner = left.bits
         # a later host stands one place earlier there
         hosts = [1 << at - 1 for at in range(first + 1, len(bits.nodes))]
         numbers = numbers_after(left, singles[1 << first], hosts, ask, 1)

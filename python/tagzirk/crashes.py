@@ -5,12 +5,13 @@ from __future__ import annotations
 import itertools
 from dataclasses import dataclass
 from functools import partial
-from typing import Any, Dict, Generic, Iterable, List, Mapping, Optional, Sequence, Set, Tuple
+from typing import Any, Dict, Generic, Iterable, Iterator, List, Mapping, Optional, Sequence, Set, Tuple
 
 from .bits import Bits, Hosts
 from .bounds import Number, number_in, numbers_after, numbers_after_two
 from .errors import BadGraph
 from .graphs import Graph, NamedGraph, Node, named_graph
+from .limits import USUAL_HOSTS
 from .programs import Program
 from .progress import Progress, processors
 from .racks import ids_of_rack
@@ -35,8 +36,35 @@ class Crash(Generic[Node]):
     hosts: Tuple[Node, ...]
     k: Optional[int]
     is_linked: bool
-    cut_off: Tuple[Node, ...]
+    cut_off: Sequence[Node]
     at_least: Optional[int] = None
+
+
+class CutOff(Sequence[Node]):
+    """The names of the hosts that a crash cuts off, as `graph.named` has them. They are looked for when somebody looks
+    at them, since of a large overlay many crashes may cut off thousands each; how many they are is known."""
+
+    def __init__(self, graph: NamedGraph[Node], crashed: Hosts) -> None:
+        self.graph, self.crashed = graph, crashed
+        self.number = graph.bits.number_cut_off(crashed)
+
+    @property
+    def names(self) -> Tuple[Node, ...]:
+        """All of them."""
+        bits = self.graph.bits
+        return self.graph.named(bits.ids(bits.cut_off(self.crashed)))
+
+    def __len__(self) -> int:
+        return self.number
+
+    def __iter__(self) -> Iterator[Node]:
+        return iter(self.names)
+
+    def __getitem__(self, at: Any) -> Any:
+        return self.names[at]
+
+    def __eq__(self, other: object) -> bool:
+        return isinstance(other, (tuple, CutOff)) and len(self) == len(other) and self.names == tuple(other)
 
 
 def cut_off_by(graph: NamedGraph[Node], crashed: Set[int]) -> List[int]:
@@ -71,7 +99,7 @@ def each(
     """
     named: NamedGraph[Node] = graph if isinstance(graph, NamedGraph) else named_graph(graph)
     ask = partial(analysed, overlay=overlay, overlay_check=overlay_check)
-    bits, numbers = Bits(named), {}  # type: Bits, Dict[Hosts, Number]
+    bits, numbers = named.bits, {}  # type: Bits, Dict[Hosts, Number]
     crashes = crashes_of(named, bits, racks)
     base, at_once = number_in(report or ask(named)), workers or processors()
     if is_of_pairs:
@@ -101,15 +129,22 @@ def crash_of(
     # where k is above 0 all that are left are joined
     is_known = number is not None and number.is_known
     is_split = number is not None and is_known and number.k == 0 and not number.is_linked
-    cut_off = bits.cut_off(hosts) if is_split else 0
+    cut_off = away_after(hosts, bits, graph) if is_split else ()
     return Crash(
         name,
         graph.named(bits.ids(hosts)),
         number.k if number and is_known else None,
         number is not None and number.is_linked,
-        graph.named(bits.ids(cut_off)),
+        cut_off,
         number.k if number and not is_known else None,
     )
+
+
+def away_after(hosts: Hosts, bits: Bits, graph: NamedGraph[Node]) -> Sequence[Node]:
+    """Who no longer reaches the largest connected component. In a large overlay they are looked for when somebody looks
+    at them."""
+    away = CutOff(graph, hosts)
+    return away if len(bits.nodes) > USUAL_HOSTS else away.names
 
 
 def left_by(crashes: Sequence[Tuple[Any, Hosts]], bits: Bits) -> List[Hosts]:

@@ -19,7 +19,7 @@ from .worst import Cut, worst
 Link = Tuple[str, str]
 Ask = Callable[[NamedGraph[str]], Report[str]]
 # Changes of a large overlay are asked about as long as so many hosts are asked about in all.
-MOST_ASKED = 300_000
+MOST_ASKED = 60_000
 
 
 @dataclass(frozen=True)

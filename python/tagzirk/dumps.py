@@ -39,6 +39,8 @@ OF_MEND = re.compile(r"# tagzirk mend --to [0-9]+")
 NAME = re.compile(r"# ([0-9]+) (.*)")
 ONE_SIDED = re.compile(r"^listed by one end only: (\d+)$", re.MULTILINE)
 WITHOUT_ENTRY = re.compile(r"^listed without an entry: (\d+)$", re.MULTILINE)
+# A name of signs alone that has no entry: it may part a list into those that are up and others.
+SIGNS_ALONE = re.compile(r"^([^\w\s]+) is listed and has no entry$", re.MULTILINE)
 # What overlay says of a first line that may be a header.
 HEADER = re.compile(r"^(line \d+: (\S+) and (\S+) stand in no other line; if it is a header, remove it)$", re.MULTILINE)
 NO_PAIR = re.compile(r"line \d+ is no pair of names: ")
@@ -422,7 +424,8 @@ def with_notes(dump: Dump, is_known: bool, lines: Sequence[Line] = ()) -> Dump:
 
 def with_marks(dump: Dump, is_known: bool) -> Dump:
     """A dump with a note on what its names say beside. If a person took all on purpose, it `is_known`."""
-    said = said_by_names(list(dump.graph.ids))
+    said, signs = said_by_names(list(dump.graph.ids)), SIGNS_ALONE.findall("\n".join(dump.notes))
+    said += [f"names of signs alone ({', '.join(signs)})"] if signs else []
     told = [f"{KNOWN if is_known else LEFT}: {'; '.join(said)}"] if said else []
     return replace(dump, notes=(*dump.notes, *told))
 

@@ -9,6 +9,7 @@ from functools import cached_property, lru_cache
 from typing import (AbstractSet, Any, Dict, Generic, Hashable, Iterable, List, Mapping, Optional, Sequence, Set, Tuple,
                     TypeVar, Union, cast)
 
+from .bits import Bits
 from .errors import BadGraph, ViewsDiffer
 from .limits import MOST_HOSTS, USUAL_HOSTS
 
@@ -144,6 +145,11 @@ class NamedGraph(Generic[Node]):
             peers[a].add(b)
             peers[b].add(a)
         return peers
+
+    @cached_property
+    def bits(self) -> Bits:
+        """The graph by sets of hosts."""
+        return Bits(self)
 
     def without(self, crashed: AbstractSet[int]) -> NamedGraph[Node]:
         """The graph that a crash of these nodes leaves, with the same ids."""

@@ -17,8 +17,11 @@ MOST, MOST_LINKS = 600_000, 2_000_000
 MOST_IMPLIED = 100_000
 # How often a node may be put into a subgraph of DOT, or something be said of all nodes of one.
 MOST_MEMBERS = 1_000_000
-# How many bytes a packed dump may have when it is unpacked.
-MOST_UNPACKED = 1_000_000
+# How many bytes a packed dump may have when it is unpacked: so many, or so many times as many as are packed, but never
+# more. A dump that says much of each link is packed to a fiftieth, and a bomb to a thousandth.
+ANY_UNPACKED, MOST_TIMES, MOST_UNPACKED = 1_000_000, 100, 32_000_000
+# So many bytes are unpacked at once, at most to so many.
+PIECE, BLOCK = 1 << 14, 1 << 20
 # How many bytes of the begin of a packed file are looked at.
 MOST_HEAD = 70_000
 # How many bytes of YAML are read where libyaml is not there, in Python alone.
@@ -70,18 +73,24 @@ def unpacked(data: bytes, heads: Optional[List[bytes]] = None) -> bytes:
     >>> unpacked(gzip.compress(b"a b") + gzip.compress(b" c"))
     b'a b c'
     """
-    found = bytearray()
+    found, most, at = bytearray(), min(max(ANY_UNPACKED, MOST_TIMES * len(data)), MOST_UNPACKED), 0
+    bomb = f"its {len(data):,} bytes are packed by gzip, and unpack to more than {most:,}, so it may be a bomb"
     try:
-        while data:
-            if heads is not None:
-                heads.append(data[:MOST_HEAD])
-            packer = zlib.decompressobj(16 + zlib.MAX_WBITS)
-            found += packer.decompress(data, MOST_UNPACKED + 1 - len(found))
-            if len(found) > MOST_UNPACKED:
-                raise BadDump(f"gzip unpacks it to more than {MOST_UNPACKED:,} bytes: unpack it by `zcat` first")
+        while at < len(data):
+            packer, begin = zlib.decompressobj(16 + zlib.MAX_WBITS), at
+            while at < len(data) and not packer.eof:
+                piece = data[at : at + PIECE]
+                found += packer.decompress(piece, BLOCK)
+                at += len(piece) - len(packer.unused_data) - len(packer.unconsumed_tail)
+                if len(found) > most:
+                    raise BadDump(f"{bomb}: `zcat FILE | tagzirk COMMAND` reads it all the same")
             if not packer.eof:
                 raise BadDump("it is packed by gzip, and torn")
-            data = packer.unused_data.lstrip(b"\0")
+            if heads is not None:
+                heads.append(data[begin : min(at, begin + MOST_HEAD)])
+            # zeros may fill a block up
+            while data[at : at + 1] == b"\0":
+                at += 1
     except zlib.error as why:
         raise BadDump(f"it begins like gzip, and can't be unpacked: {why}") from None
     return bytes(found)

@@ -16,7 +16,7 @@ from .reports import Report, analysed
 Link = Tuple[int, int]
 # Partners are looked for far away as long as that takes so many steps from a host to a host in all, some seconds; and
 # where a graph is large, links are tried without as long as so many hosts are asked about in all.
-MOST_STEPS, MOST_ASKED = 10_000_000, 300_000
+MOST_STEPS, MOST_ASKED = 10_000_000, 60_000
 # So many hosts at most are each linked to one that needs no link, if they find none that does.
 FEW = 64
 

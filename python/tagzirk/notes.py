@@ -5,6 +5,7 @@ from __future__ import annotations
 
 import collections
 import re
+import string
 import unicodedata
 from typing import Callable, Counter, Dict, FrozenSet, List, NamedTuple, Sequence, Set, Tuple
 
@@ -78,11 +79,14 @@ def without_port(name: str) -> str:
     return found[1] if found else name
 
 
+# Signs that may mark a name at its ends; a dot there is told apart.
+SIGNS = string.punctuation.replace(".", "")
 # What names may differ in alone, though they may be of one host.
 ALIKE: Sequence[Tuple[str, Callable[[str], str]]] = (
     ("capitals", str.casefold),
     ("a dot at their end", lambda name: name.rstrip(".") or name),
     ("characters that are not seen", bare),
+    ("signs at their ends", lambda name: name.strip(SIGNS) or name),
     ("a port", without_port),
 )
 

@@ -9,7 +9,7 @@ import math
 from dataclasses import dataclass
 from typing import Any, Dict, Generic, Iterable, Iterator, List, Mapping, Optional, Set, Tuple
 
-from .bits import Bits, Hosts, number_of
+from .bits import Hosts
 from .errors import BadDump, BadGraph
 from .graphs import NamedGraph, Node, is_name, shown
 from .json_files import parsed
@@ -46,17 +46,19 @@ def fewest_racks(
     >>> fewest_racks(ring, {"R1": ["a"], "R2": ["b"], "R3": ["d", "e"], "R4": ["c"]})
     Loss(racks=('R1', 'R4'), crashed=('a', 'c'), cut_off=('b',), number=2, tried=2)
     """
-    bits = Bits(graph)
+    bits = graph.bits
     groups = [(rack, bits.of(ids_of_rack(graph, rack, hosts))) for rack, hosts in racks.items()]
     tried = -1
     for number in range(min(MOST_RACKS, len(groups)) + 1):
         sets = math.comb(len(groups), number)
         if sets > MOST_SETS or number > 1 and len(bits.nodes) > USUAL_HOSTS and sets * len(bits.nodes) > MOST_READ:
             break
-        lost = [(them, crashed) for them, crashed in sets_of(groups, number, progress) if bits.is_split(crashed)]
+        ones, others = itertools.tee(sets_of(groups, number, progress))
+        lost = [it for it, is_split in zip(ones, bits.split_by(crashed for _, crashed in others)) if is_split]
         tried = number
         if lost:
-            them, crashed = max(lost, key=lambda it: number_of(bits.cut_off(it[1])))
+            bits.count_cut_off(crashed for _, crashed in lost)
+            them, crashed = max(lost, key=lambda it: bits.number_cut_off(it[1]))
             struck, cut_off = (graph.named(bits.ids(of)) for of in (crashed, bits.cut_off(crashed)))
             return Loss(them, struck, cut_off, len(lost), tried)
     return Loss(None, (), (), 0, tried)

@@ -271,6 +271,8 @@ def of_table(table: Table, ends: Ends) -> Views:
         if cells == table.header:
             repeated += 1
             continue
+        if not ends.is_many:
+            written.next_is(f"below header {repeated + 1}")
         if len(cells) <= max(ends.places):
             raise BadDump(f"line {number} has {len(cells)} columns, and column {max(ends.places) + 1} is an end")
         if table.header and any(cells[len(table.header) :]):

@@ -56,7 +56,18 @@ def text_of(data: bytes, skip: int = 0, name: str = "") -> Text:
         raise BadDump(
             "it has zero bytes, as UTF-16 without a mark has: `iconv -f UTF-16LE -t UTF-8` turns it into UTF-8"
         )
-    return Text(without_lines(data, skip), told, [it for head in heads for it in said_by_gzip(head, name)])
+    beside = [it for head in heads for it in said_by_gzip(head, name)]
+    return Text(without_lines(data, skip), told, [*beside, *said_by_ends(data)])
+
+
+def said_by_ends(data: bytes) -> List[Tuple[str, Scalar]]:
+    """How many lines end in either way, if some end with CR LF and others with LF alone.
+
+    >>> said_by_ends(b"a b\\nb c\\r\\na c\\n"), said_by_ends(b"a b\\r\\nb c\\r\\na c")
+    ([('ends of lines', 'LF: 2, CR LF: 1')], [])
+    """
+    of_two, lines = data.count(b"\r\n"), data.count(b"\n")
+    return [("ends of lines", f"LF: {lines - of_two}, CR LF: {of_two}")] if 0 < of_two < lines else []
 
 
 def said_by_gzip(data: bytes, name: str) -> List[Tuple[str, Scalar]]:

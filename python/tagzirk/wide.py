@@ -37,7 +37,7 @@ Question = Tuple[List[Link], List[Link]]
 # some ten seconds where there are 300 hosts: this is the most questions, times the crashes in question.
 MOST_LINKS, MOST_PAIRS, MOST_WORK = 400, 2000, 3000
 # Of a large graph no more is asked than reads so many links.
-MOST_READ = 2_000_000
+MOST_READ = 150_000
 
 
 @dataclass(frozen=True)
@@ -75,13 +75,16 @@ class Search:
         found: Set[int] = set()
         return found.union(*(self.graph.peers[it] for it in hosts)).difference(hosts)
 
-    def count_pairs(self) -> None:
-        """Finds the best crash of all that some two hosts are linked to. Of two hosts that are not linked and share no
-        peer it strikes as many as both have links, so of these only hosts with few links are looked at."""
-        bits = Bits(self.graph)
-        links = [number_of(it) for it in bits.peers]
+    def count_pairs(self, least: int) -> None:
+        """Finds the best crash of all that some two hosts are linked to, or one of so few that no fewer do. Of two
+        hosts that are not linked and share no peer it strikes as many as both have links, so of these only hosts with
+        few links are looked at."""
+        bits = self.graph.bits
+        links = [len(it) for it in bits.lists]
         order = sorted(range(len(links)), key=links.__getitem__)
         for a in order:
+            if self.most_useful(len(links)) <= least:
+                return
             near = bits.around(bits.peers[a]) | bits.peers[a]
             most = self.most_useful(len(links))
             for b in places_of(near >> a + 1 << a + 1):
@@ -200,7 +203,7 @@ def widest(
     search.is_better({named.ids[it] for it in known})
     search.is_better({named.ids[it] for it in report.cut})
     if search.best is None:
-        search.count_pairs()
+        search.count_pairs(report.k)
     if search.best is None:
         return None
     is_fewest = settle(search, report.k, workers or processors(), progress)

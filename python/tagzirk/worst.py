@@ -8,7 +8,7 @@ from dataclasses import dataclass, field
 from functools import lru_cache
 from typing import Any, Callable, Dict, Generic, Iterable, Iterator, List, Optional, Sequence, Set, Tuple
 
-from .bits import Bits, Hosts, number_of, places_of
+from .bits import Hosts, number_of, places_of
 from .graphs import Graph, NamedGraph, Node, named_graph
 from .limits import USUAL_HOSTS
 from .programs import Program
@@ -21,11 +21,12 @@ MOST_STEPS, MOST_HOSTS, ENOUGH_STEPS = 3_000_000, 400, 300_000
 # So many hosts, at most one more, are taken two by two, to ask for a smallest cut that parts them; and of so many hosts
 # with k links these are taken for a cut.
 SPREAD, MOST_WEAK = 6, 64
-# Of a large overlay it is told of so many cuts whom they cut off.
-MOST_OF = 200
+# Of a large overlay it is told of so many cuts at most whom they cut off, as far as that takes no more than so many
+# steps from a host to a host.
+MOST_OF, STEPS_OF = 200, 2_000_000
 # A pair is asked about four times or so, and each time all links are read: so many pairs at most are taken that so many
-# links are read.
-MOST_READ = 1_000_000
+# links are read, and of a large overlay fewer.
+MOST_READ, MOST_READ_OF_LARGE = 1_000_000, 300_000
 
 Ask = Callable[[NamedGraph[Any], Optional[List[int]]], Report[Any]]
 
@@ -44,7 +45,7 @@ class Cut(Generic[Node]):
 class Worst(Generic[Node]):
     """The smallest cuts that cut off most of those that were `found`, which is a number; the worst first. If `is_all`,
     these are all smallest cuts that there are. `of` has for each host that is in one of them the worst of these; of a
-    large overlay it has hosts of the worst 200 alone."""
+    large overlay it has hosts of the worst ones alone."""
 
     cuts: Tuple[Cut[Node], ...]
     found: int
@@ -115,8 +116,8 @@ class Hunt:
 
     def __init__(self, graph: NamedGraph[Any], report: Report[Any], ask: Ask) -> None:
         self.graph, self.ask, self.k = graph, ask, report.k
-        self.bits = Bits(graph)
-        self.peers = [list(places_of(it)) for it in self.bits.peers]
+        self.bits = graph.bits
+        self.peers = self.bits.lists
         self.steps_of_search = len(self.peers) + 2 * len(graph.links)
         self.found: Dict[Hosts, int] = {}
         self.note(self.bits.of(graph.ids[it] for it in report.cut))
@@ -149,8 +150,8 @@ class Hunt:
     def find_some(self, workers: int, progress: Optional[Progress]) -> None:
         """Finds some: the links of hosts that have k, cuts that part the surroundings of hosts here and there, and
         those that differ by one host from one that was found, the worst first."""
-        for peers in [it for it in self.bits.peers if number_of(it) == self.k][:MOST_WEAK]:
-            self.note(peers)
+        for at in [at for at, peers in enumerate(self.peers) if len(peers) == self.k][:MOST_WEAK]:
+            self.note(self.bits.peers[at])
         spread = self.bits.nodes[:: max(1, len(self.peers) // SPREAD)]
         cut = self.parting_two(self.graph, spread)
         self.note(cut)
@@ -162,7 +163,8 @@ class Hunt:
 
     def few(self, pairs: List[Tuple[int, int]]) -> List[Tuple[int, int]]:
         """Those of these pairs that there is time for: all, unless there are very many links."""
-        most = max(2, MOST_READ // (4 * len(self.graph.links)))
+        links = MOST_READ if len(self.peers) <= USUAL_HOSTS else MOST_READ_OF_LARGE
+        most = max(1, links // (4 * len(self.graph.links)))
         return pairs[:: -(-len(pairs) // most)] if pairs else pairs
 
     def exchange(self, progress: Optional[Progress]) -> None:
@@ -282,7 +284,8 @@ def worst_of(hunt: Hunt, graph: NamedGraph[Node], most: int, is_all: bool) -> Wo
 
     cuts = sorted(hunt.found, key=hunt.badness)
     worst_with: Dict[int, Hosts] = {}
-    for cut in cuts if len(bits.nodes) <= USUAL_HOSTS else cuts[:MOST_OF]:
+    most = min(MOST_OF, STEPS_OF // hunt.steps_of_search)
+    for cut in cuts if len(bits.nodes) <= USUAL_HOSTS else cuts[:most]:
         for at in places_of(cut):
             worst_with.setdefault(at, cut)
     of = {names[bits.nodes[at]]: cut_of(cut) for at, cut in sorted(worst_with.items())}

@@ -447,7 +447,7 @@ PACKED = {
     "gzip of zeros": lambda: gzip.compress(bytes(100 * SIZE)),
     "gzip of a letter": lambda: gzip.compress(b"a\n" * (SIZE - 1)),
     "gzip of a line": lambda: gzip.compress(b"x " * (SIZE - 1)),
-    "gzip of links": lambda: gzip.compress(2 * pairs("n{} n{}\n")[:-9].rpartition("\n")[0].encode()),
+    "gzip of links": lambda: gzip.compress(pairs("n{} n{}\n").encode()),
     "gzip of CSV": lambda: gzip.compress(b"source,target,x\n" + b"a,b,1\n" * 330000),
     "gzip of JSON": lambda: gzip.compress(b"[[1,2]" + b",[1,2]" * 330000 + b"]"),
     "gzip of empty gzips": lambda: gzip.compress(b"") * (SIZE // 21),

@@ -312,6 +312,29 @@ class Accounts(Dumps):
                 doubts = doubts_in(self.read(str(place)).notes)
                 self.assertEqual(doubts, [f"not read as states: beside them {told}"] if told else [])
 
+    def test_ends_of_lines(self):
+        for text, told in (
+            ("a b\r\nb c\na c\n", ["not read as states: beside them ends of lines (LF: 2, CR LF: 1)"]),
+            ("# 1 a\nnode 1\r\n# 2 b\nnode 2\nlink 1 2\n", ["ends of lines (LF: 4, CR LF: 1)"]),
+            ("a b\r\nb c\r\na c", []),
+            ("a b\nb c\na c\n", []),
+        ):
+            found = doubts_in(self.read(self.put("net.edges", text)).notes)
+            self.assertEqual([it in note for it, note in zip(told, found)], [True] * len(found), text)
+            self.assertEqual(len(found), len(told), text)
+
+    def test_names_of_signs_alone(self):
+        text = json.dumps({"a": ["b", "--", "c"], "b": ["a", "c", "--"], "c": ["a", "--", "b"]})
+        told = ["not read as states: names of signs alone (--)"]
+        self.assertEqual(doubts_in(self.read(self.put("net.json", text)).notes), told)
+        self.assertEqual(doubts_in(self.read(self.put("net.json", text.replace("--", "d"))).notes), [])
+
+    def test_a_header_that_stands_there_again(self):
+        text = "source,target\na,b\nb,c\n\nsource,target\na,c\n"
+        told = "of 3 links written as (below header 1: 2, below header 2: 1 (a - c))"
+        self.assertIn(told, "; ".join(doubts_in(self.read(self.put("net.csv", text)).notes)))
+        self.assertEqual(doubts_in(self.read(self.put("net.csv", text.replace("\n\nsource,target", ""))).notes), [])
+
     def test_lists_beside_that_which_is_named(self):
         """They are in the account, and only what is called after something down may be down."""
         for key, told in (("passive", "not read as states: beside them passive (6, as"),

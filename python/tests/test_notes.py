@@ -40,6 +40,7 @@ class Notes(Dumps):
             ("racks.txt", "".join(f"{it} r{it < 'n4'}\n" for it in HOSTS), "no name stands in both columns"),
             ("case.edges", renamed("n6", "N6"), "names that differ in capitals alone, and are hosts of their own here"),
             ("dot.edges", renamed("n6", "n6."), "names that differ in a dot at their end alone"),
+            ("struck.edges", renamed("n6", "~~n6~~"), "names that differ in signs at their ends alone"),
             ("unseen.edges", renamed("n6", "n6\u200b"), "names that differ in characters that are not seen alone"),
             ("domain.edges", renamed("n6", "n6.example.net"), "names that differ in a domain alone"),
             ("port.edges", renamed("n6", "n6:7946"), "names that differ in a port alone"),

@@ -15,6 +15,7 @@ from ..crashes import Crash, badness, cut_off_by, each
 from ..dumps import Dump
 from ..errors import BadDump, TagzirkError
 from ..graphs import NamedGraph, shown
+from ..limits import MOST_HOSTS, USUAL_HOSTS
 from ..naming import without_hosts
 from ..markup import counted
 from ..progress import Progress
@@ -40,9 +41,11 @@ from .words import Parents, at_least_one, command, dump_of, some, told
 if TYPE_CHECKING:
     from .words import Commands
 
-# So many pairs are shown, unless more are asked for.
-MOST_PAIRS = 30
+# So many pairs are shown, or crashes of a large overlay, unless more are asked for.
+MOST_PAIRS, MOST_ROWS = 30, 200
 MOST_WORST = 10
+# Of a large overlay whose crashes cut off more hosts in all, those are named of whom a row has few.
+MOST_NAMED = 2_000_000
 
 
 def add(commands: Commands, parents: Parents) -> None:
@@ -51,7 +54,7 @@ def add(commands: Commands, parents: Parents) -> None:
     it = command(commands, "each", run_each, text, parents.dump, parents.at_once)
     it.add_argument("--racks", metavar="RACKS", help="a file of lines HOST RACK: all hosts of a rack crash at once")
     it.add_argument("--pairs", action="store_true", help="every two hosts, or racks, crash together")
-    rows = f"print the N worst; of pairs {MOST_PAIRS} without it"
+    rows = f"print the N worst; without it {MOST_PAIRS} of pairs, and {MOST_ROWS} of more than {USUAL_HOSTS:,} hosts"
     it.add_argument("--rows", type=at_least_one, metavar="N", help=rows)
     it.add_argument("--without", action="append", default=[], metavar="HOSTS", help="as if these had crashed before")
     it.add_argument("--site", metavar="REGEX", help="the site of a host, by its name: `^([a-z]+)-` is hel of hel-7")
@@ -91,7 +94,7 @@ def run_each(words: argparse.Namespace) -> int:
         crashes = each(graph, racks, report, is_of_pairs=words.pairs, workers=words.workers, progress=progress)
         if words.csv:
             progress.end()
-            write_crashes(crashes[: words.rows], f"{kind}s" if words.pairs else kind)
+            write_crashes(crashes[: words.rows], most_named(crashes[: words.rows]), f"{kind}s" if words.pairs else kind)
             return 0
         found = worst(graph, report, workers=words.workers, progress=progress)
         known = found.cuts[0].crashed if found.cuts else ()
@@ -175,7 +178,8 @@ def name_of(crash: Crash[str]) -> str:
 
 def table_of(of: Told, is_of_pairs: bool, rows: Optional[int]) -> List[str]:
     """The crashes as a table for a person: all, or the worst."""
-    number = rows or (MOST_PAIRS if is_of_pairs else len(of.crashes))
+    is_large = len(of.report.ids) > USUAL_HOSTS
+    number = rows or (MOST_PAIRS if is_of_pairs else MOST_ROWS if is_large else len(of.crashes))
     cells = [(f"after the crash of {f'two {of.kind}s' if is_of_pairs else of.kind}", "k", "cut off")]
     for it in of.crashes[:number]:
         rest = "-" if it.at_least is None else f"{it.at_least} or more"
@@ -191,8 +195,8 @@ def table_of(of: Told, is_of_pairs: bool, rows: Optional[int]) -> List[str]:
 def said_of_crash(crash: Crash[str], of: Told) -> str:
     """Who is cut off by a crash, or else by it and what is missing of the worst of the smallest cuts with that host."""
     if crash.cut_off:
-        sites = site_part(of.sites, crash.hosts, crash.cut_off)
-        return f"{counted(len(crash.cut_off), 'host')}: {some(crash.cut_off)}{sites}"
+        away = tuple(crash.cut_off)
+        return f"{counted(len(away), 'host')}: {some(away)}{site_part(of.sites, crash.hosts, away)}"
     cut = of.worst.of.get(crash.hosts[0]) if len(crash.hosts) == 1 else None
     others = [it for it in cut.crashed if it not in crash.hosts] if cut else []
     if not cut or not others:
@@ -201,8 +205,19 @@ def said_of_crash(crash: Crash[str], of: Told) -> str:
     return f"nobody; {counted(len(cut.cut_off), 'host')} if {some(others)} {too}"
 
 
-def write_crashes(crashes: List[Crash[str]], kind: str) -> None:
-    """Writes the crashes as CSV, for programs."""
+def most_named(crashes: List[Crash[str]]) -> int:
+    """How many hosts a row names at most that a crash cuts off. It is told, if there are rows with more."""
+    if sum(len(it.cut_off) for it in crashes) <= MOST_NAMED:
+        return MOST_HOSTS
+    most = MOST_NAMED // len(crashes)
+    rows = counted(sum(len(it.cut_off) > most for it in crashes), "crash cuts", "crashes cut")
+    who = f"{rows} off more than {counted(most, 'host')}, who are counted and not named"
+    told(f"{who}: --rows N takes the N worst alone")
+    return most
+
+
+def write_crashes(crashes: List[Crash[str]], most: int, kind: str) -> None:
+    """Writes the crashes as CSV, for programs. Who is cut off has names, if these are not too many."""
     rows = csv.writer(sys.stdout, lineterminator="\n")
     rows.writerow((kind, "hosts", "k", "all_linked", "cut_off", "names_cut_off"))
     for it in crashes:
@@ -213,13 +228,15 @@ def write_crashes(crashes: List[Crash[str]], kind: str) -> None:
                 "" if it.k is None else it.k,
                 int(it.is_linked),
                 len(it.cut_off),
-                ";".join(map(shown, it.cut_off)),
+                ";".join(map(shown, it.cut_off)) if len(it.cut_off) <= most else "",
             )
         )
 
 
 def value_of(of: Told, rows: Optional[int]) -> Dict[str, Any]:
     """All of it, for JSON."""
+    crashes = of.crashes[:rows]
+    most = most_named(crashes)
     return {
         "k": of.report.k,
         "all_linked": of.report.is_linked,
@@ -227,7 +244,7 @@ def value_of(of: Told, rows: Optional[int]) -> Dict[str, Any]:
         "worst": value_of_worst(of.worst),
         "fewest_that_cut_off_more_than_one": None if of.wide is None else value_of_wide(of.wide),
         "fewest_racks": None if of.loss is None else value_of_loss(of.loss),
-        "crashes": [value_of_crash(it, of.sites) for it in of.crashes[:rows]],
+        "crashes": [value_of_crash(it, of.sites, most) for it in crashes],
         **value_of_notes(of.dump),
     }
 

@@ -108,17 +108,20 @@ def value_of_loss(loss: Loss[str]) -> Dict[str, Any]:
     return {"racks": racks, "cut_off": list(loss.cut_off), "number": loss.number, "tried": loss.tried}
 
 
-def value_of_crash(crash: Crash[str], sites: Optional[Sites]) -> Dict[str, Any]:
-    """What a crash does, for JSON."""
+def value_of_crash(crash: Crash[str], sites: Optional[Sites], most: int) -> Dict[str, Any]:
+    """What a crash does, for JSON. More than so many hosts that it cuts off are counted alone."""
+    is_named = len(crash.cut_off) <= most
     value: Dict[str, Any] = {
         "name": list(crash.name) if isinstance(crash.name, tuple) else crash.name,
         "hosts": list(crash.hosts),
         "k": crash.k,
         "all_linked": crash.is_linked,
-        "cut_off": list(crash.cut_off),
+        "cut_off": list(crash.cut_off) if is_named else None,
     }
+    if not is_named:
+        value["number_cut_off"] = len(crash.cut_off)
     if crash.at_least is not None:
         value["k_at_least"] = crash.at_least
-    if sites:
+    if sites and is_named:
         value["sites"] = list(map(value_of_site, sites.hit(crash.hosts, crash.cut_off)))
     return value
