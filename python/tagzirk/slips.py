@@ -137,9 +137,9 @@ OF_HABIT: Sequence[Tuple[str, str]] = (
     ),
     ("--filter --include --select --match --subset", "--only 'ams-*' looks at hosts with such names alone"),
     ("--top --head --limit --first --lines -n", "`tagzirk each FILE --rows N` shows N rows"),
-    ("--triples --triple --combinations", "`tagzirk each FILE --pairs` lets every two crash; --racks any sets of hosts"),
+    ("--triples --triple --combinations", "`tagzirk each FILE --pairs` lets every two crash; --racks any sets"),
     ("--png --pdf", "`tagzirk history FILE.. --svg PICTURE` draws; a browser prints the page of `tagzirk report`"),
-    ("--format", "did you mean --form? It is the form of the dump; --json of status, diff, each and history prints JSON"),
+    ("--format", "did you mean --form? It is that of the dump; --json of status, diff, each and history prints JSON"),
     ("--color --colour", "nothing is coloured, so it can be left out"),
 )
 OTHER_OPTIONS = {**EXACT_OPTIONS, **{word: tip for words, tip in OF_HABIT for word in words.split()}}

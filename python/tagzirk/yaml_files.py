@@ -26,27 +26,31 @@ BEGIN = re.compile(r"\ufeff?(?:[ \t]*(?:#[^\n]*)?\r?\n|%[^\n]*\n)*")
 DIRECTIVE = re.compile(r"^%(?!YAML 1\.[0-9]\s*$)[^\n]*", re.MULTILINE)
 # A text that needs no quotes.
 SIMPLE = re.compile(r"(?!(?:null|true|false|yes|no|on|off|y|n)$)[A-Za-z][\w.-]*", re.IGNORECASE)
-# Where it stands.
+# A key without a value, and one that is farther in.
+KEY_ALONE, INNER = re.compile(r"[\w.-]+:"), re.compile(r"[ ]+[\w.-]+:")
+# Where a name stands.
 KEY, ITEM, VALUE = "key", "item", "value"
 BRACKET = re.compile(r":\s*[\[{]")
 OBJECT = re.compile(r"\{\s*[^\s\"'{}\[\],:]+\s*:(?:\s.*)?")
 
 
 def begins_yaml(text: str) -> bool:
-    """Whether a text begins like YAML, and like no other form.
+    """Whether a text begins like YAML, and like no other form. Of two lines `hosts:`, the second one is farther in.
 
     >>> begins_yaml("{a: [b], b: [a]}"), begins_yaml("a: [b, c]\\n"), begins_yaml("a:\\n  - b\\n")
     (True, True, True)
     >>> begins_yaml('{"a": ["b"]}'), begins_yaml("a: b c\\n"), begins_yaml("a b\\n")
     (False, False, False)
     """
-    lines = [*itertools.islice((it for it in map(str.strip, text.split("\n")) if it and it[0] != "#"), 2)]
+    found = (it.rstrip() for it in text.split("\n") if it.strip() and it.strip()[0] != "#")
+    lines = [*itertools.islice(found, 2)]
     if not lines:
         return False
-    first = lines[0]
+    first = lines[0].strip()
+    is_inner = len(lines) > 1 and INNER.fullmatch(lines[1]) and KEY_ALONE.fullmatch(lines[0])
     has_bracket = first[0] not in "[{" and first[-1] in "[]{}," and BRACKET.search(first, 1)
-    is_list = first.endswith(":") and len(lines) > 1 and lines[1].startswith("- ")
-    return bool(first.startswith("- ") or has_bracket or is_list or OBJECT.fullmatch(first))
+    is_list = first.endswith(":") and len(lines) > 1 and lines[1].strip().startswith("- ")
+    return bool(first.startswith("- ") or has_bracket or is_list or is_inner or OBJECT.fullmatch(first))
 
 
 class Open(NamedTuple):
