@@ -317,7 +317,7 @@ def dimacs(text: str) -> Graph:
             words = need_words(line, 3)
             graph.link(words[1], words[2], words[0] == "a", rest(words[3:]))
         elif counts and len(words) == 2 and all(map(str.isdigit, words)):
-            graph.link(*words, False, {"written as": "two numbers"})
+            graph.link(words[0], words[1], False, {"written as": "two numbers"})
         elif words[0] in ("c", "n", "d", "v", "x"):
             if words[1:]:
                 graph.pass_over("comments" if words[0] == "c" else f"lines {words[0]}", " ".join(words[1:]))
