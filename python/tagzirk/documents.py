@@ -2,13 +2,14 @@
 
 from __future__ import annotations
 
-from typing import Any, Dict, List, NamedTuple, Optional, Tuple
+from typing import Any, Dict, List, NamedTuple, Optional, Set, Tuple
 
 from .asked import Asked
 from .errors import BadDump
 from .hosts import Entry, enter_all, peers_as_text
 from .leftovers import Used, take_leftovers
-from .linked import MOST_DEEP, nodes_beside, objects_in, place_of
+from .linked import MOST_DEEP, nodes_beside, objects_in, place_of, ways_of
+from .matrices import LEAST_ROWS, Matrix, matrix_graph
 from .values import (
     LINK_ENDS,
     LISTING_ENDS,
@@ -23,6 +24,7 @@ from .values import (
     item_of,
     key_in,
     name_of,
+    naming_keys,
     naming_part,
     one_of,
     said_of,
@@ -131,7 +133,8 @@ def read_in(value: Any, asked: Asked) -> Tuple[Views, Used]:
 def demand_there(value: Any, asked: Asked) -> None:
     """Refuses a field that is asked for and that no object has."""
     columns = [("--columns", it) for ends in asked_ends(asked) for it in ends]
-    wanted = [(option, it) for option, it in (("--by", asked.by), ("--peers", asked.peers), *columns) if it]
+    names = [("--by", it) for it in naming_keys(asked.by)] if asked.by else []
+    wanted = [(option, it) for option, it in (*names, ("--peers", asked.peers), *columns) if it]
     objects = objects_in(value, MOST_DEEP) if wanted else []
     for option, field in wanted:
         if not any(has_path(it, field) for it in objects):
@@ -161,7 +164,7 @@ def of_object(value: Dict[str, Any], asked: Asked) -> Tuple[Views, Used]:
             return read_in(inner, asked)
     if says_graph(value):
         return of_graph(value, asked)
-    around = key_around(value)
+    around = key_around(value, asked)
     if around:
         hosts, used = read_in(value[around], asked)
         hosts.kind += f", below {around}"
@@ -184,6 +187,8 @@ def says_links(key: str, inner: Any) -> bool:
     if has_peers(inner):
         return False
     items = list(inner.values()) if isinstance(inner, dict) else inner if isinstance(inner, list) else []
+    if isinstance(inner, list) and key in LINK_KEYS and inner and all(map(is_pair, inner)):
+        return True
     if key in PEER_KEYS:
         return isinstance(inner, list) and any(ends_in(it) for it in items)
     return any(ends_in(it) or has_peers(it) for it in items)
@@ -195,9 +200,9 @@ def has_peers(value: Any) -> bool:
     return key is not None and isinstance(value[key], (dict, list))
 
 
-def key_around(value: Dict[str, Any]) -> Optional[str]:
+def key_around(value: Dict[str, Any], asked: Asked = Asked(), deep: int = MOST_DEEP) -> Optional[str]:
     """The one key below which all hosts or links stand, which names no host, then. None if each key names a host.
-    Refused is what says who is there and nobody's peers.
+    Refused is what says who is there and nobody's peers, as far as one knows.
 
     >>> key_around({"taken": "09:00", "hosts": [{"name": "a", "peers": ["b"]}, {"name": "b", "peers": ["a"]}]})
     'hosts'
@@ -208,8 +213,12 @@ def key_around(value: Dict[str, Any]) -> Optional[str]:
     around = next((key for key in nested if says_links(key, value[key])), None)
     if around and len(nested) > 1:
         beside = next(key for key in nested if key != around)
-        raise BadDump(f"below {around} stand hosts or links, and {beside} stands beside it: give {around} alone")
+        raise BadDump(f"below {around} stand hosts or links, and {beside} stands beside it: say --links {around}")
     inner = value[nested[0]] if len(nested) == 1 and not around else None
+    if inner and asked.peers and any(has_path(it, asked.peers) for it in inner if isinstance(inner, list)):
+        return nested[0]
+    if isinstance(inner, dict) and deep and not has_peers(inner) and key_around(inner, asked, deep - 1):
+        return nested[0]
     is_of_objects = isinstance(inner, list) and bool(inner) and all(isinstance(it, dict) for it in inner)
     told = next(filter(None, map(peers_as_text, inner or ())), None) if is_of_objects else None
     if told:
@@ -219,11 +228,19 @@ def key_around(value: Dict[str, Any]) -> Optional[str]:
     if is_of_objects:
         raise BadDump(
             f"its one list, {nested[0]}, has objects without {one_of(PEER_KEYS)}, so nobody lists anybody; if they are "
-            f"links, say --links {nested[0]} --columns FROM,TO by their fields"
+            f"links, say --links {nested[0]} --columns FROM,TO by their fields, and if they are hosts, --peers KEY; "
+            f"{told_fields(inner)}"
         )
     if isinstance(inner, dict) and is_views(inner) and inner and any(inner.values()) and len(value) > 1:
         return nested[0]
     return around
+
+
+def told_fields(objects: List[Any]) -> str:
+    """Which fields objects have, and of a list of two names how both are called."""
+    first = next(it for it in objects if isinstance(it, dict))
+    two = next((f"{key}.1,{key}.2" for key, it in first.items() if is_list_of_names(it) and len(it) == 2), None)
+    return f"the first has {', '.join(map(str, list(first)[:12]))}" + (f"; {two} are the two in a list" if two else "")
 
 
 def of_graph(value: Dict[str, Any], asked: Asked) -> Tuple[Views, Used]:
@@ -281,33 +298,54 @@ def of_nodes(nodes: List[Any], links: Any, is_directed: bool, asked: Asked) -> T
     the names of nodes by what ends of links call them."""
     views = Views("a graph of nodes and links" + (", whose directions are listings" if is_directed else ""))
     names = {key_of(it, asked.by): name_of(it, asked.by) if asked.by else key_of(it) for it in nodes}
+    pairs = links_in(links if isinstance(links, list) else [links], asked)
+    ends = [end for it in pairs for end in (it.one, it.other)]
+    called = {key_of(end, asked.by) for end in ends}
+    if not called <= set(names):
+        names = names_by_place(names, ends) or names_by_field(nodes, called, asked) or names
     if len(set(names.values())) != len(nodes):
         raise BadDump("two of its nodes have one name")
+    unknown = [it for it in called if it not in names]
+    if unknown:
+        raise BadDump(f"a link has the end {unknown[0]}, which is no node")
     written = Written(views)
     for name, node in zip(names.values(), nodes):
         written.next_is(way_of(node, "id" if isinstance(node, dict) and "id" in naming_part(node) else asked.by))
-        views.enter(name, item_of(node, asked.by)[1])
-    listed = links if isinstance(links, list) else [links]
+        views.enter(name, item_of(node, asked.by)[1] if asked.by or name == key_of(node) else said_of(node))
+    for it in pairs:
+        written.next_is(it.way)
+        one, other = (names[key_of(end, asked.by)] for end in (it.one, it.other))
+        views.edge(one, other, is_directed or it.is_listing, it.said)
+    written.tell()
+    return views, names
+
+
+def links_in(listed: List[Any], asked: Asked) -> List[Ends]:
+    """The links of a graph of nodes and links."""
     said = [link_in(it, asked) for it in listed]
     if None in said:
-        told = short(listed[said.index(None)])
+        first = listed[said.index(None)]
+        told = f"{short(first)}, {told_fields([first])}" if isinstance(first, dict) else short(first)
         raise BadDump(
             f"a link should have the fields {' and '.join(asked_ends(asked)[0] if asked.columns else LINK_ENDS[0])}, "
             f"and this has not: {told}; --columns FROM,TO names other fields"
         )
-    pairs = [it for it in said if it]
-    ends = [end for it in pairs for end in (it.one, it.other)]
-    unknown = [end for end in ends if key_of(end) not in names]
-    if unknown and all(type(end) is int and 0 <= end < len(nodes) for end in ends):
-        # as older versions of d3 have it
-        names, unknown = {str(at): name for at, name in enumerate(names.values())}, []
-    if unknown:
-        raise BadDump(f"a link has the end {key_of(unknown[0])}, which is no node")
-    for it in pairs:
-        written.next_is(it.way)
-        views.edge(names[key_of(it.one)], names[key_of(it.other)], is_directed or it.is_listing, it.said)
-    written.tell()
-    return views, names
+    return [it for it in said if it]
+
+
+def names_by_place(names: Dict[str, str], ends: List[Any]) -> Dict[str, str]:
+    """The names of nodes by their places, if all ends of links are such, as older versions of d3 have it."""
+    is_each = all(type(end) is int and 0 <= end < len(names) for end in ends)
+    return {str(at): name for at, name in enumerate(names.values())} if is_each else {}
+
+
+def names_by_field(nodes: List[Any], ends: Set[str], asked: Asked) -> Dict[str, str]:
+    """The names of nodes by that field of theirs which has all ends of links, and a value of its own for each."""
+    for _, end in ways_of([("", it) for it in nodes]):
+        called = [end("", it) for it in nodes]
+        if ends <= set(called) and len(set(called)) == len(nodes):
+            return {it: name_of(node, asked.by) if asked.by else it for it, node in zip(called, nodes)}
+    return {}
 
 
 def of_adjacency(nodes: List[Any], lists: Any, asked: Asked) -> Views:
@@ -327,6 +365,9 @@ def of_list(value: List[Any], asked: Asked) -> Tuple[Views, Used]:
         return of_object(value[0], asked)
     views, entries = Views("a list of hosts with peers"), []  # type: Views, List[Entry]
     written = Written(views)
+    if is_matrix(value):
+        rows = [[str(it) for it in row] for row in value]
+        return matrix_graph(Matrix([str(at) for at in range(1, len(rows) + 1)], rows, [])).views(), Used([value])
     for it in value:
         ends = link_in(it, asked)
         if ends:
@@ -334,8 +375,10 @@ def of_list(value: List[Any], asked: Asked) -> Tuple[Views, Used]:
             written.next_is(ends.way)
             one, other = name_of(ends.one, asked.by), name_of(ends.other, asked.by)
             views.listing(one, other, ends.said) if ends.is_listing else views.link(one, other, ends.said)
+        elif asked.columns and isinstance(it, dict) and key_in(naming_part(it, asked.by), naming_keys(asked.by)):
+            views.enter(*item_of(it, asked.by))
         elif asked.columns:
-            raise BadDump(f"{short(it)} is no link with the fields {asked.columns}")
+            raise BadDump(f"{short(it)} is no link with the fields {asked.columns}; --by FIELD takes such for a host")
         elif isinstance(it, list):
             raise BadDump(f"a link is a list of two names: {short(it)}")
         elif isinstance(it, dict):
@@ -347,10 +390,24 @@ def of_list(value: List[Any], asked: Asked) -> Tuple[Views, Used]:
     return views, Used([value])
 
 
+def is_matrix(value: List[Any]) -> bool:
+    """Whether a list is a square of numbers, too large for links."""
+    return len(value) >= LEAST_ROWS and all(
+        isinstance(row, list) and len(row) == len(value) and all(type(it) in (int, float) for it in row)
+        for row in value
+    )
+
+
 def entries_in(views: Views, it: Dict[str, Any], asked: Asked) -> List[Entry]:
     """The host that an object of a list says, with its peers; or all hosts, if it has such by their names."""
-    names = (asked.by,) if asked.by else NAME_KEYS
+    names = naming_keys(asked.by)
     is_named = key_in(naming_part(it, asked.by), names)
+    if not is_named and any(isinstance(inner, (str, int, float)) for inner in it.values()):
+        raise BadDump(
+            f"an object of its list has no field {one_of(names)} that names a host, nor both ends of a link: say "
+            f"--columns FROM,TO if it is a link, and --by FIELD, maybe with --peers KEY, if it is a host; "
+            f"{told_fields([it])}"
+        )
     if not is_named and it:
         return [Entry(name, inner) for name, inner in it.items()]
     name, said = item_of(it, asked.by)
@@ -361,9 +418,21 @@ def entries_in(views: Views, it: Dict[str, Any], asked: Asked) -> List[Entry]:
     return [Entry(name, {key: inner for key, inner in it.items() if key != naming}, f", by {way_of(it, asked.by)}")]
 
 
+def says_hosts(value: Any, asked: Asked) -> bool:
+    """Whether what stands below a key says hosts with their peers: objects with such a list, or lists by names."""
+    items = list(value.values()) if isinstance(value, dict) else value
+    if any(has_peers(it) or asked.peers and has_path(it, asked.peers) for it in items):
+        return True
+    return isinstance(value, dict) and is_views(value) and any(items)
+
+
 def of_links_below(value: Any, asked: Asked) -> Tuple[Views, Used]:
     """The links below the key that is asked for, with the nodes that stand beside them."""
     place = place_of(value, asked.links or "")
+    if says_hosts(place.inner, asked) and not asked.columns:
+        views, used = read_in(place.inner, asked._replace(links=None))
+        views.kind += f", below {asked.links}"
+        return views, used
     is_directed = is_yes(place.around.get("directed")) if isinstance(place.around, dict) else False
     pairs = []
     for key, it in place.items:

@@ -418,7 +418,8 @@ def with_only(dump: Dump, patterns: Sequence[str]) -> Dump:
 
 def with_notes(dump: Dump, is_known: bool, lines: Sequence[Line] = ()) -> Dump:
     """A dump with notes on its graph, its names, and its lines."""
-    told = notes_on(dump.graph, lines, dump.without_entry or 0)
+    is_header_told = any("alone: of a header say" in it or "if it is a header" in it for it in dump.notes)
+    told = notes_on(dump.graph, lines, dump.without_entry or 0, is_header_told)
     return with_marks(replace(dump, notes=(*dump.notes, *told)), is_known)
 
 

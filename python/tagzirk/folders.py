@@ -82,7 +82,7 @@ def demand_readable(place: pathlib.Path, entry: Entry, asked: Asked) -> None:
 def value_of(text: str, form: str, views: Views) -> Any:
     """The value that a text of JSON or YAML says."""
     try:
-        return json_of(text) if form == "json" else yaml_of(text, views.beside)
+        return json_of(text, views.beside) if form == "json" else yaml_of(text, views.beside)
     except json.JSONDecodeError as why:
         raise BadDump(f"line {why.lineno}: it is no JSON: {why.msg}") from None
 

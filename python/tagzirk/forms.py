@@ -70,6 +70,7 @@ BEGINS = (
     ("gml", GML),
     ("mermaid", MERMAID),
     ("plain", re.compile(r"graph(?: [0-9.]+){3}\s*\nnode ")),
+    ("json", re.compile(r"(?://[^\n]*\n\s*|/\*[^*]*(?:\*(?!/)[^*]*)*\*/\s*)+[\[{]")),
     ("dot", re.compile(r'(?:/\*|(?://[^\n]*\n\s*)*(?:strict|graph|digraph)(?=[\s{"<]))', re.IGNORECASE)),
     ("matrixmarket", re.compile("%%MatrixMarket", re.IGNORECASE)),
     ("pajek", re.compile(r"(?:%[^\n]*\n\s*)*\*(?:vertices|network)\b", re.IGNORECASE)),
@@ -79,6 +80,10 @@ BEGINS = (
     ("dimacs", re.compile(r"(?:c(?:[ \t][^\n]*)?\n\s*)*p[ \t]+[a-z]+[ \t]+[0-9]+[ \t]+[0-9]+\s*\n")),
     ("graph6", re.compile(">>graph6<<")),
 )
+
+
+# A text as Markdown has it within a document.
+FENCED = re.compile(r"\s*```\w*\n(.*?)\n```\s*", re.DOTALL)
 
 
 def form_of(text: str, place: str) -> str:
@@ -91,7 +96,7 @@ def form_of(text: str, place: str) -> str:
             return form
     if begins_yaml(text):
         return "yaml"
-    if begin.startswith("{") or re.match(r'\[(?:["\[{\]\s]|$)', begin):
+    if begin.startswith("{") or re.match(r"\[(?:[\"'(\[{\]\s]|$)", begin):
         return "json"
     if is_tgf(text):
         return "tgf"
@@ -107,7 +112,8 @@ def listings_of(data: bytes, place: str, asked: Asked) -> Optional[Views]:
         return None
     if not asked.form and form_of(data.decode("utf-8-sig", "replace"), place) == "dot":
         return None
-    text = decoded(data)
+    fenced = FENCED.fullmatch(decoded(data))
+    text = "\n" + fenced[1] if fenced else decoded(data)
     form = asked.form or form_of(text, place)
     if form == "yaml":
         beside: List[Tuple[str, Scalar]] = []
@@ -129,8 +135,9 @@ def of_json(text: str, asked: Asked) -> Optional[Views]:
     what is no JSON."""
     if '"verdict"' in text and not asked.form:
         return None
+    beside: List[Tuple[str, Scalar]] = []
     try:
-        value = json_of(text)
+        value = json_of(text, beside)
     except json.JSONDecodeError as why:
         if asked.form:
             raise BadDump(f"line {why.lineno}: it is no JSON: {why.msg}") from None
@@ -140,12 +147,17 @@ def of_json(text: str, asked: Asked) -> Optional[Views]:
         if is_surely_views(text):
             return None
         raise
-    if isinstance(value, dict) and len(value) == 1 and key_in(value, PEER_KEYS) and not key_around(value):
+    is_of_one = isinstance(value, dict) and len(value) == 1 and not asked.links and key_in(value, PEER_KEYS)
+    if is_of_one and not key_around(value):
         raise BadDump(
             f"it has the {key_in(value, PEER_KEYS)} of one host, and does not say of which: give the files of "
             "all hosts, or their folder; the name of each is then the host's"
         )
-    return None if is_views(value) and is_json(text) and not says_more(value) else views_of(value, asked)
+    if is_views(value) and is_json(text) and not says_more(value):
+        return None
+    views = views_of(value, asked)
+    views.beside += beside
+    return views
 
 
 def says_more(value: Dict[str, Any]) -> bool:

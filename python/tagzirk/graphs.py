@@ -168,7 +168,7 @@ class NamedGraph(Generic[Node]):
         [[1, 3]]
         """
         pairs = ((node[a], node[b]) for a, b in self.links)
-        return [*map(list, sorted({(a, b) if a < b else (b, a) for a, b in pairs if a != b}))]
+        return [list(it) for it in sorted({(a, b) if a < b else (b, a) for a, b in pairs if a != b})]
 
     def pieces(self, crashed: AbstractSet[int] = frozenset()) -> List[List[int]]:
         """The connected components that a crash of these nodes leaves, in the order of their lowest ids.

@@ -60,7 +60,10 @@ def enter_all(views: Views, entries: Sequence[Entry], asked: Asked) -> None:
     hosts: Set[str] = set()
     for it in entries:
         if it.name in hosts:
-            raise BadDump(f"the host {it.name} stands there twice")
+            raise BadDump(
+                f"the host {it.name} stands there twice; --by FIELD names hosts by another field, and "
+                "--columns FROM,TO both ends of links"
+            )
         hosts.add(it.name)
     written = Written(views)
     if not asked.peers and is_peers_by_peers(entries, hosts):
@@ -108,7 +111,9 @@ def enter(views: Views, host: Host, asked: Asked, written: Written) -> None:
     """Takes in a host and its listings."""
     name, peers = host.entry.name, host.peers
     if isinstance(peers, (str, int, float)):
-        raise BadDump(f"the entry of {name} is no list of peers: {short(peers)}")
+        raise BadDump(
+            f"the entry of {name} is no list of peers: {short(peers)}; --links KEY takes hosts or links below a key"
+        )
     # it stands there, even if what stands before said so
     views.bare.discard(name)
     written.next_is(host.key + host.entry.way)

@@ -22,6 +22,8 @@ ARROW = re.compile(r" ?(<-{1,3}>|<=>|-{1,3}>|={1,2}>) ?| (-{2,3}) ")
 # A line that is a comment by another mark than `#`.
 COMMENTS = re.compile(r"^[ \t]*(?://|%|;|--)(?:\s|$)", re.MULTILINE)
 # Two names in brackets, with quotes or without.
+# A host and those that it lists, behind an arrow, with commas between.
+ARROW_LIST = re.compile(r"(\S+)\s+->\s+((?:[^\s,<>]+\s*,\s*)*[^\s,<>]+)")
 PAIR = re.compile(r"\(\s*(['\"]?)([^'\",\s()]+)\1\s*,\s*(['\"]?)([^'\",\s()]+)\3\s*\)\s*[,;]?")
 
 # The first line of KONECT's files.
@@ -75,6 +77,9 @@ def of_shape(text: str, rows: List[Row]) -> Optional[Views]:
     """What hosts list by lines whose shape alone says how they are meant."""
     if all(len(chain_of(row.text).names) > 1 for row in rows):
         return of_arrows(rows)
+    lists = [ARROW_LIST.fullmatch(row.text) for row in rows]
+    if all(lists):
+        return of_adjacency([row._replace(text=f"{it[1]}: {it[2]}") for row, it in zip(rows, lists) if it])
     if all(PAIR.fullmatch(row.text) for row in rows):
         return of_pairs(rows)
     if all(";" in row.text for row in rows):

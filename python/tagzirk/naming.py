@@ -82,6 +82,8 @@ def full_name(part: str, short: Dict[str, List[str]], names: Sequence[str], opti
     near = nearest(part, [*names, *short])
     tip = f"; did you mean {' or '.join(map(shown, near))}?" if near else ""
     file = f"; a list in a file is @{part}" if pathlib.Path(part).is_file() else ""
+    if len(part.split()) > 1 and {*names, *short}.issuperset(part.split()):
+        tip = f"; names have commas between them: {option} {','.join(map(shown, part.split()))}"
     raise BadDump(f"{option}: {shown(part)} is no host of the dump{tip}{file}")
 
 

@@ -41,11 +41,13 @@ def lines_in(text: str) -> List[Line]:
     return found
 
 
-def notes_on(graph: NamedGraph[str], lines: Sequence[Line] = (), without_entry: int = 0) -> List[str]:
+def notes_on(
+    graph: NamedGraph[str], lines: Sequence[Line] = (), without_entry: int = 0, is_header_told: bool = False
+) -> List[str]:
     """The notes on a dump that was read as this graph, and on its lines if it is a text of lines."""
     told = [*without_links(graph, without_entry), *alike(graph)]
     if len(lines) > 3:
-        told += [*parted(graph, lines), *counting(graph, lines), *marked(graph, lines)]
+        told += [*parted(graph, lines, is_header_told), *counting(graph, lines), *marked(graph, lines)]
     return told + (in_two_columns(graph, lines) if len(lines) > 2 else [])
 
 
@@ -137,9 +139,9 @@ def is_plain_link(names: Set[str], places: Sequence[Line], graph: NamedGraph[str
     return all(shape_of(it) in others for it in names)
 
 
-def parted(graph: NamedGraph[str], lines: Sequence[Line]) -> List[str]:
+def parted(graph: NamedGraph[str], lines: Sequence[Line], is_header_told: bool) -> List[str]:
     """Two names that are linked to each other alone, beside at least three others: a header or a footer may say them.
-    What the first line says so once is told by `overlay import`; and a word that counts, in the last line alone."""
+    What the first line says so once may be told before; and a word that counts, in the last line alone."""
     told = []
     pairs = [it for it in graph.pieces() if len(it) == 2 and graph.peers[it[0]]] if len(graph.ids) >= 5 else []
     places: Dict[FrozenSet[str], List[Line]] = {}
@@ -148,7 +150,8 @@ def parted(graph: NamedGraph[str], lines: Sequence[Line]) -> List[str]:
     for pair in pairs:
         names = {graph.names[it] for it in pair}
         at = places.get(frozenset(names), [])
-        if at and at != [lines[0]] and not is_plain_link(names, at, graph):
+        is_told = at == [lines[0]] and is_header_told
+        if at and not is_told and not is_plain_link(names, at, graph):
             both = " and ".join(sorted(names))
             told.append(f"{in_lines([it.number for it in at])}: {both} stand in no other line: a header or a footer?")
     last = [it.casefold() for it in lines[-1].words[:2]]

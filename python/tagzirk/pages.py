@@ -23,7 +23,7 @@ from .reports import Report, analysed
 from .sites import Sites
 from .stale import one_sided
 from .taken import doubts_in
-from .wide import widest
+from .wide import Wide, widest
 from .worst import Cut, Worst, worst
 
 # A certificate of more bytes is not put into the page, but told.

@@ -118,7 +118,8 @@ def call(program: str, words: Sequence[str], data: Data, output: Optional[IO[byt
 
 def started(command: Sequence[str], data: Data, out: Union[int, IO[bytes]]) -> "subprocess.Popen[bytes]":
     """A program that runs, unless all are to end."""
-    given, here = subprocess.PIPE if isinstance(data, bytes) else data, threading.get_ident()
+    given: Union[int, IO[bytes]] = subprocess.PIPE if isinstance(data, bytes) else data
+    here = threading.get_ident()
     if ending:
         raise ProgramFailed(f"{command[0]} was not started, since this command is to end")
     beginning.add(here)

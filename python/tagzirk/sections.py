@@ -305,7 +305,7 @@ def plain(text: str) -> Graph:
 
 
 def dimacs(text: str) -> Graph:
-    """DIMACS: `p edge NODES EDGES`, `e A B` for links, and `a A B WEIGHT` for listings."""
+    """DIMACS: `p edge NODES EDGES`, `e A B` for links, or `A B` as PACE has them, and `a A B WEIGHT` for listings."""
     graph, counts = Graph("DIMACS"), []  # type: Graph, List[int]
     for line in lines_of(text):
         words = line.words
@@ -316,6 +316,8 @@ def dimacs(text: str) -> Graph:
         elif words[0] in ("e", "a"):
             words = need_words(line, 3)
             graph.link(words[1], words[2], words[0] == "a", rest(words[3:]))
+        elif counts and len(words) == 2 and all(map(str.isdigit, words)):
+            graph.link(words[0], words[1], False, {"written as": "two numbers"})
         elif words[0] in ("c", "n", "d", "v", "x"):
             if words[1:]:
                 graph.pass_over("comments" if words[0] == "c" else f"lines {words[0]}", " ".join(words[1:]))

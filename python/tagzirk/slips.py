@@ -16,7 +16,10 @@ CERTIFICATE = (
 # What is meant by words of other programs, or of people, that are no command here.
 MEANT: Sequence[Tuple[str, str]] = (
     ("analyze analyzer analysis", "did you mean `tagzirk analyse`?"),
-    ("k connectivity cut min-cut vertex-cut info show summary health split partition components", STATUS),
+    ("k connectivity cut min-cut vertex-cut info show summary health split partition components explain", STATUS),
+    ("without down exclude", "`tagzirk status FILE --without HOST,HOST` tells what is without some hosts"),
+    ("sites site", "`tagzirk status FILE --site REGEX` tells which sites are cut off, and `tagzirk each` has it too"),
+    ("json csv", "--json of status, diff, each and history prints JSON, and `tagzirk each FILE --csv` prints CSV"),
     ("run scenario", f"`overlay run FILE` runs a scenario; {STATUS}"),
     ("check validate", f"`overlay-check FILE` checks a certificate file; {STATUS}"),
     ("overlay-check", "`overlay-check FILE` is a program of its own, which checks a certificate file"),
@@ -54,7 +57,7 @@ MEANT: Sequence[Tuple[str, str]] = (
     ("racks", "`tagzirk each FILE --racks RACKS` tells what the crash of each rack does"),
     ("pairs pair", "`tagzirk each FILE --pairs` tells what the crash of every two hosts does"),
     (
-        "hosts nodes crash crashes fail failure failures kill simulate what-if worst weakest spof all",
+        "hosts nodes crash crashes fail failure failures kill simulate what-if worst weakest top rank spof all",
         "`tagzirk each FILE` tells what the crash of each host does",
     ),
     ("compare changes difference differences delta", "`tagzirk diff OLD NEW` tells what changed between two dumps"),
@@ -64,7 +67,7 @@ MEANT: Sequence[Tuple[str, str]] = (
 )
 OTHER_COMMANDS: Dict[str, str] = {word: tip for words, tip in MEANT for word in words.split()}
 # Options of other commands, of `overlay`, or of habit: what is meant.
-OTHER_OPTIONS: Dict[str, str] = {
+EXACT_OPTIONS: Dict[str, str] = {
     "--views": "--form views says that the dump is views in JSON",
     "--edges": "--form edges says that each line of the dump is a link",
     "--dot": "--form dot says that the dump is DOT",
@@ -95,7 +98,6 @@ OTHER_OPTIONS: Dict[str, str] = {
     "--threads": "--workers N asks so many questions at once",
     "--jobs": "--workers N asks so many questions at once",
     "-j": "--workers N asks so many questions at once",
-    "-w": "--workers N asks so many questions at once",
     "-k": "K is a number behind --to, or behind --at-least of `tagzirk status`",
     "--k": "K is a number behind --to, or behind --at-least of `tagzirk status`",
     "--host": "--without and --group of `tagzirk status` name hosts; --by FIELD says which field names a host",
@@ -123,6 +125,24 @@ OTHER_OPTIONS: Dict[str, str] = {
     "--version": "`tagzirk --version` prints the version",
     "-V": "`tagzirk --version` prints the version",
 }
+# Words of habit for options that are called otherwise.
+OF_HABIT: Sequence[Tuple[str, str]] = (
+    (
+        "--exclude --ignore --remove --drop --down --dead --kill",
+        "--without HOST,HOST of status and each takes hosts away; --up FIELD=VALUE says which are up by the dump",
+    ),
+    (
+        "--min --minimum --threshold --warning --warn --critical --crit -c -w",
+        "`tagzirk status FILE --at-least K` warns below K; --workers N asks so many questions at once",
+    ),
+    ("--filter --include --select --match --subset", "--only 'ams-*' looks at hosts with such names alone"),
+    ("--top --head --limit --first --lines -n", "`tagzirk each FILE --rows N` shows N rows"),
+    ("--triples --triple --combinations", "`tagzirk each FILE --pairs` lets every two crash; --racks any sets"),
+    ("--png --pdf", "`tagzirk history FILE.. --svg PICTURE` draws; a browser prints the page of `tagzirk report`"),
+    ("--format", "did you mean --form? It is that of the dump; --json of status, diff, each and history prints JSON"),
+    ("--color --colour", "nothing is coloured, so it can be left out"),
+)
+OTHER_OPTIONS = {**EXACT_OPTIONS, **{word: tip for words, tip in OF_HABIT for word in words.split()}}
 # Options and words that need a value, or that a command can't do without: how they are given.
 HOW: Dict[str, str] = {
     "--to": "--to 3 asks for links so that no fewer than 3 crashes split the overlay",
@@ -134,6 +154,10 @@ HOW: Dict[str, str] = {
     "--html": "--html PAGE names the file to write, and --html - prints it",
     "--columns": "--columns FROM,TO names two columns, with a comma between",
     "--most-links": "--most-links 2 gives no host more than two links",
+    "--racks": "--racks RACKS names a file with a line HOST RACK for each host",
+    "--without": "--without HOST,HOST names hosts, and --without @FILE a file of them",
+    "--group": "--group HOST,HOST names hosts, and --group @FILE a file of them",
+    "--up": "--up FIELD=VALUE[,VALUE] says which values of a field are up",
     "KIND": "tinc and yggdrasil are the kinds",
 }
 # Words that are given in the place of one that there is.
@@ -162,6 +186,8 @@ def of_command(word: str, rest: Sequence[str], commands: Sequence[str]) -> List[
     if word in ("-v", "--verbose", "-q", "--quiet"):
         return [f"tagzirk has no option {word}", OTHER_OPTIONS[word]]
     if word.startswith("-"):
+        if word in ("-version", "-help"):
+            return [f"tagzirk has no option {word}", f"did you mean -{word}, with two dashes?"]
         behind = next((it for it in rest if it in commands), "COMMAND")
         return [f"tagzirk has no option {word.partition('=')[0]!r} before its command: tagzirk {behind} {word} .."]
     key = word.lower()
@@ -250,6 +276,10 @@ def of_missing(place: str, command: str) -> List[str]:
     """What is said of a file that is not there: names of others that are like it, or where output goes."""
     if "=" in place and os.path.exists(place.partition("=")[2]):
         return [f"a file is named alone: {place.partition('=')[2]}"]
+    if "=" in place:
+        return [f"FIELD=VALUE stands behind --up, and several values are one word: --up {place},VALUE"]
+    if place.isdigit():
+        return [f"{place} was taken for a file; a number stands behind its option, as --at-least {place}"]
     if place.endswith(OUTPUT_ENDINGS):
         return [f"{place} is not there; if it is to be written: tagzirk {command} .. > {place}"]
     if place in (">", "2>", "|"):

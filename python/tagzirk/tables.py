@@ -27,6 +27,8 @@ DRAWN = {ord(it): drawn for drawn, all_such in (("|", "│┃║"), ("-", "─�
 DRAWN.update(dict.fromkeys(map(ord, "┼╪╬├╞╠┤╡╣┌╒╔┐╕╗└╘╚┘╛╝┬╤╦┴╧╩╭╮╯╰"), "+"))
 OF_RULES = frozenset("-+|: \t\r")
 FOOTER = re.compile(r"\(?\d+ rows?\b.*|Time:.*|\(?(?:no|empty) (?:rows?|set)\b.*", re.IGNORECASE)
+# What begins a row that has a line for each column.
+RECORD = re.compile(r"-\[ RECORD [0-9]+ \][-+]*|\*+ [0-9]+\. row \*+")
 # A footer that says nothing but how many rows there are, or how long they took.
 COUNT = re.compile(
     r"\(?([0-9]+) rows?(?: in set)?(?: ?\([0-9.]+ sec\))?\)?|Time: [0-9.]+ ms(?: \([0-9:.]+\))?", re.IGNORECASE
@@ -150,6 +152,33 @@ def drawn_table(text: str) -> Optional[Table]:
     return table
 
 
+def records_table(text: str) -> Optional[Table]:
+    """The table that psql shows by `-x`, and mysql by `\\G`: the columns of each row on lines of their own. None if the
+    text is no such.
+
+    >>> records_table("-[ RECORD 1 ]\\nsource | a\\ntarget | b\\n").rows
+    [(1, ['a', 'b'])]
+    """
+    lines = [(at, line.strip()) for at, line in enumerate(text.split("\n"), 1) if line.strip()]
+    if not lines or not RECORD.fullmatch(lines[0][1]):
+        return None
+    table, sign = Table("a table", [], [], [], {}), "|" if lines[0][1][0] == "-" else ":"
+    for number, line in lines:
+        name, between, value = line.partition(sign)
+        if RECORD.fullmatch(line):
+            table.rows.append((number, []))
+        elif FOOTER.fullmatch(line):
+            table.beside.extend(footer_of(line, len(table.rows)))
+        elif not between or len(table.rows) > 1 and table.header[len(table.rows[-1][1]) :][:1] != [name.strip()]:
+            raise BadDump(f"line {number} is no column of the row above it: {line[:60]}")
+        else:
+            table.header.extend([name.strip()] * (len(table.rows) == 1))
+            table.rows[-1][1].append(value.strip())
+    if any(len(cells) != len(table.header) for _, cells in table.rows):
+        raise BadDump("its rows do not have the same columns")
+    return table
+
+
 def rules_within(lines: List[Tuple[int, str]], rules: Set[int], head: int) -> List[Tuple[str, str]]:
     """The lines that are drawn between some rows below the header, and not between all."""
     rows = [place for place, (_, line) in enumerate(lines) if place > head and place not in rules and "|" in line]
@@ -242,7 +271,7 @@ def cells_at(row: Sequence[str], ends: Ends) -> Iterable[str]:
 
 def table_of(text: str, columns: Optional[str]) -> Optional[Tuple[Table, Ends]]:
     """The table that a text is, and its columns of both ends; or None if it is none."""
-    drawn = drawn_table(text)
+    drawn = records_table(text) or drawn_table(text)
     if drawn:
         ends = ends_by_name(drawn.header, columns) or ends_by_number(columns)
         if ends and max(ends.places) < len(drawn.header):
@@ -274,7 +303,8 @@ def of_table(table: Table, ends: Ends) -> Views:
         if not ends.is_many:
             written.next_is(f"below header {repeated + 1}")
         if len(cells) <= max(ends.places):
-            raise BadDump(f"line {number} has {len(cells)} columns, and column {max(ends.places) + 1} is an end")
+            raise BadDump(f"line {number} has {len(cells)} columns, and column {max(ends.places) + 1} is an end; "
+                            "--columns FROM,TO counts columns too, as 1,3")
         if table.header and any(cells[len(table.header) :]):
             raise BadDump(f"line {number} has {len(cells)} columns, and the header has {len(table.header)}")
         one, other = cells_at(cells, ends)

@@ -156,19 +156,24 @@ def name_of(value: Any, by: Optional[str] = None) -> str:
         return str(value)
     if isinstance(value, dict):
         inner = naming_part(value, by)
-        for key in (by,) if by else NAME_KEYS:
+        for key in naming_keys(by):
             if isinstance(inner.get(key), (str, int, dict)):
                 return name_of(inner[key], by)
         told = ", ".join(map(str, list(inner)[:10])) or "no field"
-        wanted = f"the field {by}" if by else f"a field {one_of(NAME_KEYS)}"
+        wanted = f"the field {one_of(naming_keys(by))}" if by else f"a field {one_of(NAME_KEYS)}"
         raise BadDump(f"an object should name a host by {wanted}, and it has {told}; --by FIELD names another field")
     raise BadDump(f"{short(value)} is no name of a host")
+
+
+def naming_keys(by: Optional[str]) -> Sequence[str]:
+    """The fields of which the first that is there names a host: those that are asked for, or the known ones."""
+    return [it.strip() for it in by.split(",")] if by else NAME_KEYS
 
 
 def naming_part(value: Dict[str, Any], by: Optional[str] = None) -> Dict[str, Any]:
     """That part of an object which has its name: itself, or what stands below `data`, as cytoscape writes it."""
     data = value.get("data")
-    is_own = key_in(value, (by,) if by else NAME_KEYS) is not None or not isinstance(data, dict)
+    is_own = key_in(value, naming_keys(by)) is not None or not isinstance(data, dict)
     return value if is_own else dict(data or {})
 
 
@@ -262,7 +267,7 @@ def item_of(value: Any, by: Optional[str] = None) -> Tuple[str, Said]:
     if not isinstance(value, dict):
         return name, {}
     inner = naming_part(value, by)
-    naming = next(key for key in ((by,) if by else NAME_KEYS) if isinstance(inner.get(key), (str, int, dict)))
+    naming = next(key for key in naming_keys(by) if isinstance(inner.get(key), (str, int, dict)))
     said = said_of(inner, naming)
     if isinstance(inner[naming], dict):
         said.update((f"{naming}.{key}", it) for key, it in item_of(inner[naming], by)[1].items())
@@ -287,14 +292,17 @@ def key_in(value: Dict[str, Any], keys: Iterable[str]) -> Optional[str]:
 
 
 def at_path(value: Any, path: str) -> Any:
-    """What stands below a key of an object, or below several with dots between. KeyError if there is none.
+    """What stands below a key of an object, or below several with dots between; a number is the place in a list, from
+    1. KeyError if there is none.
 
-    >>> at_path({"a": {"b": 7}, "a.c": 8}, "a.b"), at_path({"a": {"b": 7}, "a.c": 8}, "a.c")
-    (7, 8)
+    >>> at_path({"a": {"b": 7}, "a.c": 8}, "a.b"), at_path({"a": {"b": 7}, "a.c": 8}, "a.c"), at_path({"a": [9]}, "a.1")
+    (7, 8, 9)
     """
     if isinstance(value, dict) and path in value:
         return value[path]
     first, dot, rest = path.partition(".")
+    if isinstance(value, list) and first in map(str, range(1, min(len(value), MOST_LONG) + 1)):
+        return at_path(value[int(first) - 1], rest) if dot else value[int(first) - 1]
     if not dot or not isinstance(value, dict) or first not in value:
         raise KeyError(path)
     return at_path(value[first], rest)

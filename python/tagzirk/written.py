@@ -7,7 +7,7 @@ import array
 import collections
 from typing import Any, Counter, Dict, List, Optional, Sequence, Set, Tuple
 
-from .values import NAME_KEYS, Said, Statement, Views, key_in, naming_part
+from .values import NAME_KEYS, Said, Statement, Views, key_in, naming_keys, naming_part
 
 # What these fields are called.
 WRITTEN, REPEATED = "written as", "stands there"
@@ -28,7 +28,7 @@ def way_of(name: Any, by: Optional[str] = None) -> str:
     """
     if isinstance(name, dict):
         inner = naming_part(name, by)
-        key = by if by and by in inner else key_in(inner, NAME_KEYS) or ""
+        key = (by and key_in(inner, naming_keys(by))) or key_in(inner, NAME_KEYS) or ""
         held = inner.get(key)
         way = f"{way_of(held, by)} in {key}" if isinstance(held, dict) else key
         digits = "" if isinstance(held, dict) or way_of(held) == NAME else f", {way_of(held)}"

@@ -26,25 +26,31 @@ BEGIN = re.compile(r"\ufeff?(?:[ \t]*(?:#[^\n]*)?\r?\n|%[^\n]*\n)*")
 DIRECTIVE = re.compile(r"^%(?!YAML 1\.[0-9]\s*$)[^\n]*", re.MULTILINE)
 # A text that needs no quotes.
 SIMPLE = re.compile(r"(?!(?:null|true|false|yes|no|on|off|y|n)$)[A-Za-z][\w.-]*", re.IGNORECASE)
+# A key without a value, and one that is farther in.
+KEY_ALONE, INNER = re.compile(r"[\w.-]+:"), re.compile(r"[ ]+[\w.-]+:")
+# Where a name stands.
+KEY, ITEM, VALUE = "key", "item", "value"
 BRACKET = re.compile(r":\s*[\[{]")
 OBJECT = re.compile(r"\{\s*[^\s\"'{}\[\],:]+\s*:(?:\s.*)?")
 
 
 def begins_yaml(text: str) -> bool:
-    """Whether a text begins like YAML, and like no other form.
+    """Whether a text begins like YAML, and like no other form. Of two lines `hosts:`, the second one is farther in.
 
     >>> begins_yaml("{a: [b], b: [a]}"), begins_yaml("a: [b, c]\\n"), begins_yaml("a:\\n  - b\\n")
     (True, True, True)
     >>> begins_yaml('{"a": ["b"]}'), begins_yaml("a: b c\\n"), begins_yaml("a b\\n")
     (False, False, False)
     """
-    lines = [*itertools.islice((it for it in map(str.strip, text.split("\n")) if it and it[0] != "#"), 2)]
+    found = (it.rstrip() for it in text.split("\n") if it.strip() and it.strip()[0] != "#")
+    lines = [*itertools.islice(found, 2)]
     if not lines:
         return False
-    first = lines[0]
+    first = lines[0].strip()
+    is_inner = len(lines) > 1 and INNER.fullmatch(lines[1]) and KEY_ALONE.fullmatch(lines[0])
     has_bracket = first[0] not in "[{" and first[-1] in "[]{}," and BRACKET.search(first, 1)
-    is_list = first.endswith(":") and len(lines) > 1 and lines[1].startswith("- ")
-    return bool(first.startswith("- ") or has_bracket or is_list or OBJECT.fullmatch(first))
+    is_list = first.endswith(":") and len(lines) > 1 and lines[1].strip().startswith("- ")
+    return bool(first.startswith("- ") or has_bracket or is_list or is_inner or OBJECT.fullmatch(first))
 
 
 class Open(NamedTuple):
@@ -64,9 +70,9 @@ class Reader:
         self.aliases: Set[str] = set()
         # what stands in the text beside its values: anchors of names, and tags
         self.beside: List[Tuple[str, Scalar]] = []
-        # by whether they are keys: names in quotes that need none, and how many have none
-        self.quoted: Dict[bool, List[str]] = {True: [], False: []}
-        self.bare: Dict[bool, int] = {True: 0, False: 0}
+        # of keys, of items of lists and of other values: names in quotes that need none, and those without quotes
+        self.quoted: Dict[str, List[str]] = {it: [] for it in (KEY, ITEM, VALUE)}
+        self.bare: Dict[str, List[str]] = {it: [] for it in (KEY, ITEM, VALUE)}
         # where scalars begin and end in the text
         self.scalars: List[Tuple[int, int]] = []
         self.documents, self.implied = 0, 0
@@ -124,9 +130,8 @@ class Reader:
             self.beside.append(("anchors", event.anchor))
         if SIMPLE.fullmatch(text):
             around = self.open[-1] if self.open else None
-            is_key = around is not None and isinstance(around.value, dict) and not around.keys
-            self.bare[is_key] += is_plain
-            self.quoted[is_key] += [] if is_plain else [text]
+            kind = VALUE if around is None or around.keys else KEY if isinstance(around.value, dict) else ITEM
+            (self.bare if is_plain else self.quoted)[kind].append(text)
         self.put(value, text, line)
 
     def need_known(self, event: Any, line: int) -> None:
@@ -169,10 +174,21 @@ def size_of(value: Any, so_far: int) -> int:
     return so_far
 
 
+def quotes_in(reader: Reader) -> List[Tuple[str, Scalar]]:
+    """The names in quotes that need none, if most of their kind have none; of items of lists those that are fewer."""
+    found: List[Tuple[str, Scalar]] = []
+    for kind, quoted in reader.quoted.items():
+        bare = reader.bare[kind]
+        if 2 * len(quoted) < len(bare) or kind == ITEM and len(quoted) <= len(bare):
+            found += [("in quotes", it) for it in quoted]
+        elif kind == ITEM:
+            found += [("without quotes", it) for it in bare]
+    return found
+
+
 def beside_in(text: str, reader: Reader) -> List[Tuple[str, Scalar]]:
     """What stands in a text of YAML beside its values: comments; directives, tags, and names of anchors that nothing
-    repeats, that stand for a name, or have a word of a state; and names in quotes that need none, if most of their kind
-    have none."""
+    repeats, that stand for a name, or have a word of a state; and in which quotes names stand."""
     between, at = [], 0
     for begin, end in reader.scalars:
         # a text of several lines may end behind the line break that ends it
@@ -184,8 +200,7 @@ def beside_in(text: str, reader: Reader) -> List[Tuple[str, Scalar]]:
     directives = [("directives", it.strip()) for it in DIRECTIVE.findall(above[0] if above else "")]
     lists = [it for it, value in reader.anchors.items() if isinstance(value, (dict, list))]
     anchors = [it for it in lists if it not in reader.aliases or words_of(it) & STATE_WORDS]
-    quoted = [it for is_key, names in reader.quoted.items() if 2 * len(names) < reader.bare[is_key] for it in names]
-    beside = [*reader.beside, *(("anchors", it) for it in anchors), *(("in quotes", it) for it in quoted)]
+    beside = [*reader.beside, *(("anchors", it) for it in anchors), *quotes_in(reader)]
     return [*(("comments", it) for it in found), *directives, *beside]
 
 

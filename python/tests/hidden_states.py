@@ -190,6 +190,13 @@ HIDDEN = [
     ("anchors.yaml", yaml("z: 1", "z: 1").replace("name: n3", "name: *gone").replace("name: *gone",
      "name: &gone n3", 1),
      "anchors (gone)"),
+    ("in-quotes.json", "{" + ", ".join(
+        f"'{it}': [" + ", ".join(f"'{x}'" if is_up(it, x) else f'"{x}"' for x in others(it)) + "]"
+        for it in HOSTS) + "}", "in double quotes ("),
+    ("comment.json", json.dumps({it: others(it) for it in HOSTS})[:-1] + "} // n3 is away", "comments (// n3 is away)"),
+    ("half-in-quotes.yaml", "".join(
+        f"{it}:\n" + "".join(f"- {x}\n" if is_up(it, x) else f"- '{x}'\n" for x in others(it)) for it in HOSTS),
+     "without quotes ("),
     ("quotes.yaml", yaml("z: 1", "z: 1").replace("name: n3", "name: 'n3'"), "in quotes (n3)"),
     ("aliases.yaml", "n1: &dead [n2, n3]\nn2: [n1, n3]\nn3: [n1, n2]\nn4: *dead\n", "anchors (dead)"),
     ("sign.yaml", yaml("z: 1", "z: 1").replace("name: n3", "name: n3 # \u2717"), "comments (# \u2717)"),

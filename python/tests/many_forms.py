@@ -101,6 +101,8 @@ LINES = (
     form("arrows without spaces", both_ways("{a}->{b}\n")),
     form("longer arrows", both_ways("{a} --> {b}\n")),
     form("arrows of equals signs", both_ways("{a} => {b}\n")),
+    form("lists behind arrows", each_host("{a} -> {peers}\n", ", ")),
+    form("pairs of Python in one list", str([(a, b) for a, b in LINKS])),
     form("chains of arrows", "n1->n2->n3->n4->n5->n6->n1->n4\nn4->n1->n6->n5->n4->n3->n2->n1\n"),
     form("chains of lines", "n1 -- n2 -- n3 -- n4 -- n5 -- n6 -- n1\nn1 -- n4\n"),
     form("arrows of one end", each_link("{a} -> {b}\n"), "--either"),
@@ -163,6 +165,18 @@ TABLES = (
         + each_link(" {a}     | {b}     |    1\n")
         + "(7 rows)\n\n",
     ),
+    form(
+        "psql, a line for each column",
+        each_link("-[ RECORD {at} ]-\nsource | {a}\ntarget | {b}\ncost   | 1\n") + "(7 rows)\n",
+    ),
+    form("mysql, a line for each column", each_link("******* {i}. row *******\n  source: {a}\n  target: {b}\n")),
+    form(
+        "psql, a line for each column, and one less",
+        "-[ RECORD 1 ]\nsource | a\ntarget | b\n-[ RECORD 2 ]\nsource | a\n",
+        told="do not have the same columns",
+    ),
+    form("words with fewer than the header has", "State Local Address Peer Address Process\n" + both_ways(
+        "ESTAB {a} {b}\n"), "--columns", "2,3"),
     form(
         "psql with unknown columns",
         " a | b | cost \n---+---+------\n" + each_link(" {a} | {b} | 1\n") + "(7 rows)\n",
@@ -285,6 +299,7 @@ GRAPHS = (
     form("METIS with weights", "6 7 001\n" + each_host("{peers}\n", peer="{} 5"), hosts=NUMBERS),
     form("METIS that may be pairs", "3 3\n2 3\n1 3\n1 2\n", told="--form edges or --form metis"),
     form("DIMACS", "c of today\np edge 6 7\n" + each_link("e {i} {j}\n"), hosts=NUMBERS),
+    form("DIMACS of PACE", "c of today\np tw 6 7\n" + each_link("{i} {j}\n"), hosts=NUMBERS),
     form("DIMACS that counts twice", "p col 6 14\n" + each_link("e {i} {j}\n"), hosts=NUMBERS),
     form("DIMACS with directions", "c of today\np sp 6 14\n" + both_ways("a {i} {j} 5\n"), hosts=NUMBERS),
     form("DIMACS that is torn", "p edge 6 7\ne 1 2\n", told="declares 7 links and has 1"),
@@ -364,6 +379,7 @@ GRAPHS = (
         "Mermaid with chains",
         "graph LR;\n  n1 --- n2 & n4 & n6\n  n2 --- n3 --- n4 --- n5 --- n6;\n  classDef x fill:#f9f\n",
     ),
+    form("Mermaid within Markdown", "```mermaid\ngraph LR\n" + each_link("{a} --- {b}\n") + "```\n"),
     form("Mermaid that is another chart", "graph TD\n  a %% b\n", told="no arrow of Mermaid"),
     form("strict DOT", "// of today\nstrict graph {" + both_ways("{a} -- {b};") + "}"),
 )
@@ -450,6 +466,39 @@ VALUES = (
         "--peers",
         "Swarm",
     ),
+    form("JSON, one value behind the other", "".join(
+        json.dumps({"name": host, "peers": peers}) for host, peers in VIEWS.items())),
+    form("JSON, one value behind the other, on many lines", "\n".join(
+        of_json({"name": host, "peers": peers}) for host, peers in VIEWS.items()) + "\n"),
+    form("JSON, one value behind the other, and torn", '{"a": ["b"]}{"b": ["a"', told="and what stands above it is"),
+    form("JSON with comments", "// of today\n" + of_json(VIEWS).replace("],", "], /* seen */")),
+    form("values of Python", str({host: {"peers": peers, "is_up": True} for host, peers in VIEWS.items()})),
+    form("values of JavaScript", "{" + each_host("{a}: {{name: '{a}', peers: [{peers}],}},\n", ", ", "'n{}'") + "}"),
+    form("JSON, a matrix", json.dumps(MATRIX), hosts=NUMBERS),
+    form("JSON, pairs below a key", of_json({"at": "noon", "links": [list(it) for it in LINKS]})),
+    form("JSON, hosts below two keys", of_json({"cluster": {"name": "x", "members": {
+        host: {"peers": peers} for host, peers in VIEWS.items()}}})),
+    form("JSON, lists below two keys", of_json({"ok": "yes", "result": {"peers": VIEWS}}), "--links", "result.peers"),
+    form("JSON, hosts below two keys with another list", of_json({"data": {"hosts": [
+        {"uid": f"0x{at}", "name": host, "link": [{"uid": f"0x{it[1:]}", "name": it} for it in VIEWS[host]]}
+        for at, host in enumerate(HOSTS, 1)]}}), "--peers", "link"),
+    form("JSON lines without known names", "".join(
+        json.dumps({"self": host, "activeView": peers, "v": 3}) + "\n" for host, peers in VIEWS.items()),
+        "--by", "self", "--peers", "activeView"),
+    form("JSON lines of links with unknown ends", each_link('{{"_key": "{at}", "_from": "{a}", "_to": "{b}"}}\n'),
+         "--columns", "_from,_to"),
+    form("JSON lines of hosts and links", each_host('{{"primary": "{a}"}}\n') + both_ways(
+        '{{"router": "{a}", "neighbor": "{b}"}}\n'), "--columns", "router,neighbor", "--by", "primary"),
+    form("JSON, hosts and peers by other fields", of_json([
+        {"server": host, "routes": [{"rid": 1, "remote": it} for it in peers]} for host, peers in VIEWS.items()]),
+        "--by", "server,remote", "--peers", "routes"),
+    form("JSON, links by another field of nodes", of_json({
+        "nodes": [{"hostname": it.upper(), "node_id": it} for it in HOSTS], "links": EDGES})),
+    form("JSON, both ends in a list", of_json({"links": [{"id": str(at), "ends": list(it)} for at, it in enumerate(
+        LINKS)]}), "--links", "links", "--columns", "ends.1,ends.2"),
+    form("JSON, links and hosts in two lists", of_json(
+        {"hosts": HOSTS, "links": [[a, b, {"bw": 1}] for a, b in LINKS]}), "--links", "links"),
+    form("YAML of hosts below a key", "hosts:\n" + each_host("  {a}:\n    peers: [{peers}]\n", ", ")),
     form("JSON, a key twice", '{"n1": {"peers": ["n2"]}, "n1": {"peers": []}}', told="n1 twice"),
     form("YAML, lists", "---\n" + each_host("{a}: [{peers}]\n", ", ")),
     form("YAML, items", "---\n" + each_host("{a}:\n  - {peers}\n", "\n  - ")),

@@ -185,7 +185,7 @@ class Values(unittest.TestCase):
             ('{"nodes": [{"id": "a"}, {"id": "b"}]}', "it has nodes, and neither links, edges or adjacency"),
             ('{"nodes": ["a", "b"]}', "it has nodes, and neither links, edges or adjacency"),
             ('{"hosts": [{"name": "a"}, {"name": "b"}]}', "its one list, hosts, has objects without peers"),
-            ('{"hosts": [{"name": "a", "peers": []}], "sites": ["x"]}', "and sites stands beside it: give hosts alone"),
+            ('{"hosts": [{"name": "a", "peers": []}], "sites": ["x"]}', "sites stands beside it: say --links hosts"),
             ('["a","b"]', "'a' is neither a link nor a host with its peers"),
             ('[["a"]]', "a link is a list of two names"),
             ('{"peers":["a"]}', "does not say of which"),

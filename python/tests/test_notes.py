@@ -29,6 +29,7 @@ class Notes(Dumps):
         views = {it: [a if b == it else b for a, b in UP if it in (a, b)] for it in HOSTS}
         for name, text, told in (
             ("two-csv.csv", f"a,b\n{RING}a,b\n".replace(" ", ","), "lines 1 and 9: a and b stand in no other line"),
+            ("quotes.csv", "von;nach\n" + RING.replace(" ", ";"), "line 1: nach and von stand in no other line"),
             ("middle.edges", RING + "from to\n" + RING, "line 8: from and to stand in no other line: a header"),
             ("footer.edges", RING + "total 7\n", "line 8: 7 and total stand in no other line: a header or a footer?"),
             ("mark-alone.edges", ";\n" + RING + "total 7\n", "7 and total stand in no other line"),
