@@ -394,7 +394,8 @@ class Slips(Commands):
         sources, options = (CHECKOUT / "crates" / it / "src" for it in ("ov_command_tree", "ov_grow_options"))
         tips = (sources / "argument_tips.rt").read_text()
         told = re.findall(r'Meant\((?:""|EACH), "([^"]+)", TAGZIRK\)', tips)
-        names = re.compile(r'(?:name: |BOUND_NAME: &str = |^const (?:GROW|SWEEP): &str = )"([\w-]+)"', re.MULTILINE)
+        constant = "(?:BOUND_NAME|CRASH_CUT): &str = |^const (?:GROW|SWEEP): &str = "
+        names = re.compile(rf'(?:name: |{constant})"([\w-]+)"', re.MULTILINE)
         tables = [*sources.glob("*.rt"), *options.glob("*.rt")]
         theirs = {name for it in tables for name in names.findall(it.read_text())}
         _, commands = parsers()
