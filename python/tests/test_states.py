@@ -197,6 +197,7 @@ class FalseAlarms(Dumps):
             ("failed.json", hosts({"failed": 0}, {"failed": 0}), "failed is 0 of all 30 listings"),
             ("limit.json", hosts({"max_failures": 3}, {"max_failures": 3}), "max_failures is 3 of all 30 listings"),
             ("tls.json", hosts({"tls_enabled": False}, {"tls_enabled": False}), "tls_enabled is false of all 30 li"),
+            ("empty.json", hosts({"state": ""}, {"state": ""}), "state is empty of all 30 listings"),
             ("healthy.json", each(lambda it: {"state": "alive", "peers": others(it)}), "state is alive of all 6 hosts"),
             ("lengths.json", seen("status", ["Up 3 hours", "Up 2 days"], ["Up 5 days"]), "status is Up"),
             ("moment.json", seen("lastSeen", [1764493200, 1764493210], [1764493233]), "lastSeen is 17644932"),
