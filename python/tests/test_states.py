@@ -130,6 +130,7 @@ PLAIN = [
     ("protocol.json", hosts({"proto": "tcp"}, {"proto": "quic"})),
     ("interface.json", seen("interface", ["eth0", "eth1"], ["wg0"])),
     ("mtu.json", hosts({"mtu": 1500}, {"mtu": 9000})),
+    ("keys.json", json.dumps([{"_key": at, "source": a, "target": b} for at, (a, b) in enumerate(ALL)])),
     ("hops.json", hosts({"hops": 1}, {"hops": 2})),
     ("addresses.json", each(lambda it: {"peers": [{"id": x, "addr": f"10.0.0.{x[1:]}:7946"} for x in others(it)]})),
     ("builds.json", each(lambda it: {"peers": [{"id": x, "cookie": f"b{x[1:]}"} for x in others(it)]})),
