@@ -82,6 +82,10 @@ class Status(Commands):
         self.assertEqual(said["cut_off"], said["worst"]["cuts"][0]["cut_off"])
         self.assertEqual([it["site"] for it in said["sites"] if it["is_cut_off"]], ["pod1", "pod2", "pod3"])
         self.assertEqual(json.loads(self.tagzirk("each", path, "--json")[0])["cut"], spines)
+        # the ten worst, or as many as are asked for, of all that were found
+        self.assertEqual((said["worst"]["found"] > 20, len(said["worst"]["cuts"])), (True, 10))
+        found = worst(tagzirk.read_dump([path]).graph, most=3)
+        self.assertEqual((len(found.cuts), found.found, found.is_all), (3, said["worst"]["found"], True))
 
     def test_who_is_dead_may_be_named(self):
         lines = self.lines("--without", "fra-9,relay-1")
