@@ -86,10 +86,8 @@ def status(
     ...     file = pathlib.Path(room, "net.lists")
     ...     _ = file.write_text("a.x: b.x gone\\nb.x: a.x c.x\\nc.x: b.x d.x\\nd.x: c.x\\n")
     ...     it, less = status([str(file)]), status([str(file)], without=["a"])
-    >>> it.report.k, it.report.cut, it.pieces, it.dead.names, it.dead.report.k
-    (1, ('b.x',), (('c.x', 'd.x'), ('a.x',)), ('gone',), 0)
-    >>> less.report.cut, less.left_out
-    (('c.x',), ('a.x',))
+    >>> it.report.k, it.report.cut, it.pieces, it.dead.names, it.dead.report.k, less.report.cut, less.left_out
+    (1, ('b.x',), (('c.x', 'd.x'), ('a.x',)), ('gone',), 0, ('c.x',), ('a.x',))
     """
     dump = read_dump(places, options.living, overlay=overlay)
     whole, without = dump.graph, list(without)
@@ -101,8 +99,7 @@ def status(
         return analysed(of, of.members(members), overlay=overlay, overlay_check=overlay_check)
 
     report = ask(graph)
-    number = (dump.without_entry or 0) - sum(it not in whole.ids for it in left_out)
-    has_dead = number > 0 and options.entries is None
+    has_dead = options.entries is None and (dump.without_entry or 0) > sum(it not in whole.ids for it in left_out)
     dead = with_dead(partial(read_dump, places, options, overlay=overlay), whole, left_out, ask) if has_dead else None
     found = None
     if members is None:
