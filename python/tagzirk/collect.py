@@ -53,7 +53,11 @@ def tinc(place: str, pidfile: Optional[str] = None) -> Collected:
     if graph.startswith("|"):
         raise BadDump(f"{folder / 'tinc.conf'}: GraphDumpFile is a command, so read the file that it writes")
     where = pathlib.Path(pidfile or f"/run/tinc{f'.{folder.name}' if folder.name != 'tinc' else ''}.pid")
-    number = re.match(r"\d+", read(where))
+    try:
+        number = re.match(r"\d+", read(where))
+    except FileNotFoundError:
+        told = f"{where} is not there, so no daemon of this net seems to run, and {graph} may be old"
+        raise BadDump(f"{told}; --pidfile FILE names it, if it is elsewhere") from None
     if not number or not is_running(int(number[0])):
         raise BadDump(f"the daemon does not run that {where} names, so {graph} is old")
     return Collected(whole(pathlib.Path(graph)), ())
@@ -162,7 +166,7 @@ def answer(words: List[str]) -> Dict[str, Any]:
     except ValueError:
         # it tells faults on either stream, and may end with status 0 all the same
         lines = (ended.stdout + ended.stderr).decode(errors="replace").split("\n")
-        told = [STAMP.sub("", line) for line in lines if line.strip()]
+        told = [STAMP.sub("", line.strip()) for line in lines if line.strip()]
         raise OSError(told[-1] if told else f"status {ended.returncode}, and no word") from None
     return said
 

@@ -118,5 +118,6 @@ def colour_rules() -> str:
 
 
 def severity_of(k: int, is_linked: bool) -> str:
-    """How bad an answer is, as a class of CSS: parted already, by one crash, by two, or by more if at all."""
-    return "t-fine" if is_linked or k > 2 else ("t-split", "t-one", "t-few")[k]
+    """How bad an answer is, as a class of CSS: parted already, or one host alone; by one crash, by two, or by more if
+    at all."""
+    return "t-fine" if is_linked and k or k > 2 else ("t-split", "t-one", "t-few")[k]

@@ -4,7 +4,7 @@ from __future__ import annotations
 
 import difflib
 import pathlib
-from typing import Dict, Iterable, List, Sequence, Tuple
+from typing import Container, Dict, Iterable, List, Sequence, Tuple
 
 from .errors import BadDump
 from .graphs import NamedGraph, shown
@@ -32,12 +32,17 @@ def hosts_of(words: Iterable[str], names: Sequence[str], option: str) -> List[st
     return list(found)
 
 
-def without_hosts(graph: NamedGraph[str], words: Iterable[str]) -> Tuple[NamedGraph[str], List[str]]:
-    """A graph without the hosts that the words of `--without` name, and these. Some host must be left."""
-    left_out = hosts_of(words, list(graph.ids), "--without")
-    if left_out and len(left_out) == len(graph.ids):
-        raise BadDump(f"--without names all {len(left_out)} hosts of the dump, so that none is left")
-    return graph.without({graph.ids[it] for it in left_out}), left_out
+def without_hosts(
+    graph: NamedGraph[str], words: Iterable[str], dead: Iterable[str] = ()
+) -> Tuple[NamedGraph[str], List[str]]:
+    """A graph without the hosts that the words of `--without` name, and these. Some host must be left. Who is `dead` is
+    not in the graph, and may be named too."""
+    gone = [it for it in dead if it not in graph.ids]
+    left_out = hosts_of(words, [*graph.ids, *gone], "--without")
+    places = {graph.ids[it] for it in left_out if it in graph.ids}
+    if places and len(places) == len(graph.ids):
+        raise BadDump(f"--without names all {len(places)} hosts of the dump, so that none is left")
+    return graph.without(places), left_out
 
 
 def parts_of(word: str, option: str) -> List[str]:
@@ -68,6 +73,18 @@ def short_names(names: Iterable[str]) -> Dict[str, List[str]]:
             if sign in ENDS and at:
                 short.setdefault(name[:at], []).append(name)
     return short
+
+
+def known_by(said: str, names: Container[str], short: Dict[str, List[str]]) -> str:
+    """The host that somebody may mean by a name that need not be one here: the name as it is said, if it is that of a
+    host, or short for no single one.
+
+    >>> names = ["a.x", "b.x", "b.y"]
+    >>> [known_by(it, names, short_names(names)) for it in ("a", "a.x", "b", "c")]
+    ['a.x', 'a.x', 'b', 'c']
+    """
+    meant = short.get(said, [])
+    return meant[0] if said not in names and len(meant) == 1 else said
 
 
 def full_name(part: str, short: Dict[str, List[str]], names: Sequence[str], option: str) -> str:

@@ -33,7 +33,7 @@ def of_certificate(report: Report[str], cut_off: Sequence[str], sites: Optional[
     crash = f"{joined_html(report.cut)} crash{'es' if report.k == 1 else ''}"
     away = counted(len(cut_off), "host is", "hosts are")
     return (
-        f"<p>This is the worst of the smallest cuts that were found. Picture, pieces and certificate have another one: "
+        f"<p>This is the worst of the smallest cuts that were found. Picture and certificate have another one: "
         f"if {crash}, {away} cut off: {names_html(cut_off, MOST_NAMES)}.</p>"
         + site_of(sites, report.cut, cut_off, ending)
     )

@@ -37,6 +37,8 @@ MOST_NAMED, MOST_ADDED, MOST_PASTED = 200, 1000, 1100
 
 def title_of(report: Report[str]) -> str:
     """The answer in few words."""
+    if len(report.ids) == 1:
+        return "One host is left alone"
     if report.is_linked:
         return "No crash parts this overlay"
     if report.k == 0:
@@ -65,6 +67,8 @@ def answer_of(
     report: Report[str], graph: NamedGraph[str], crashed: Sequence[str], pieces: List[List[int]]
 ) -> str:
     """The answer in sentences, by the crash of a smallest cut and the pieces that it leaves."""
+    if len(graph.ids) == 1:
+        return f"There is one host alone, {names_html(graph.ids)}: nobody is there from whom a crash could part it."
     if report.is_linked:
         return f"Every two of its {counted(len(graph.ids), 'host')} are linked, so no crash parts two that survive."
     away = sum(map(len, pieces)) - max(map(len, pieces))
@@ -99,23 +103,26 @@ def colours_of(report: Report[str], pieces: List[List[int]]) -> Dict[int, int]:
     return {host: min(at, len(COLOURS) - 1) for at, piece in enumerate(ranked) for host in piece}
 
 
-def pieces_title(report: Report[str], pieces: List[List[int]]) -> str:
+def pieces_title(crashed: Sequence[str], pieces: List[List[int]]) -> str:
     """How many pieces there are, in words."""
     if len(pieces) < 2:
         return "All survivors are joined"
-    return f"{len(pieces)} pieces after the crash" if report.cut else f"{len(pieces)} pieces"
+    return f"{len(pieces)} pieces after the crash" if crashed else f"{len(pieces)} pieces"
 
 
-def pieces_of(report: Report[str], graph: NamedGraph[str], pieces: List[List[int]]) -> str:
-    """Who is in which connected component after the crash, the largest first."""
-    colours = colours_of(report, pieces)
+def pieces_of(
+    report: Report[str], graph: NamedGraph[str], crashed: Sequence[str], pieces: List[List[int]]
+) -> str:
+    """Who is in which connected component after the crash, the largest first. They have their colours in the picture,
+    if that is of this crash."""
+    colours = colours_of(report, pieces) if set(crashed) == set(report.cut) else None
     most = MOST_NAMED if len(graph.ids) > USUAL_HOSTS else None
     rows = []
     for piece in sorted(pieces, key=len, reverse=True)[:50]:
-        kind = f'<span class="t-swatch t-piece-{colours.get(piece[0], 0)}"></span>'
+        kind = f'<span class="t-swatch t-piece-{colours.get(piece[0], 0)}"></span>' if colours else ""
         rows.append((kind + counted(len(piece), "host"), names_html(graph.named(piece), most)))
     more = f"<p>{len(pieces) - 50} further pieces are not shown.</p>" if len(pieces) > 50 else ""
-    told = "" if not report.cut else f"<p>Crashed: {names_html(report.cut)}</p>"
+    told = f"<p>Crashed: {names_html(crashed)}</p>" if crashed else ""
     if most and any(len(it) > most for it in pieces):
         more += f"<p>Of each piece {most} hosts are named. The picture has a disc for each side.</p>"
     return told + table(("piece", "its hosts"), rows) + more
@@ -196,11 +203,11 @@ def checking_of(report: Report[str], graph_file: str) -> str:
 
 def facts_of(report: Report[str], graph: NamedGraph[str], dump: Dump) -> str:
     """Numbers at a glance."""
-    facts = [(len(graph.ids), "hosts"), (len(graph.links), "links")]
-    facts += [] if report.is_linked else [(report.survives, "crashes survived")]
-    facts += [(dump.one_sided, "one-sided listings")] if dump.one_sided else []
-    facts += [(dump.without_entry, "without an entry")] if dump.without_entry else []
-    return "".join(f"<li><b>{number}</b>{label}</li>" for number, label in facts)
+    facts = [(len(graph.ids), "host", "hosts"), (len(graph.links), "link", "links")]
+    facts += [] if report.is_linked else [(report.survives, "crash survived", "crashes survived")]
+    facts += [(dump.one_sided, "one-sided listing", "one-sided listings")] if dump.one_sided else []
+    facts += [(dump.without_entry, "without an entry", "without an entry")] if dump.without_entry else []
+    return "".join(f"<li><b>{number}</b>{one if number == 1 else more}</li>" for number, one, more in facts)
 
 
 def about_of(dump: Dump, taken: Optional[datetime.datetime], overlay: Tuple[Optional[Program], ...]) -> str:
@@ -325,8 +332,8 @@ def parts_of_cuts(
         + (of_certificate(report, cut_off, sites, ending) if worse else "")
         + wider_of(wide, report, found)
         + (f'<p class="t-soft">All names end in {shown_html(ending)}, which is left out here.</p>' if ending else ""),
-        "pieces_title": pieces_title(report, pieces),
-        "pieces": pieces_of(report, graph, pieces),
+        "pieces_title": pieces_title(told.crashed, left),
+        "pieces": pieces_of(report, graph, told.crashed, left),
         "others": other_cuts(found, report, sites, ending),
         "paste": paste_of(report, cut_off, found, ending),
     }

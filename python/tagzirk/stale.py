@@ -1,11 +1,13 @@
-"""Which hosts have listings that the other end does not answer: `one_sided`."""
+"""Which hosts have listings that the other end does not answer: `one_sided`; and whom others list who has no entry:
+`without_entry`."""
 
 from __future__ import annotations
 
 from collections import Counter
-from typing import Dict, FrozenSet, Optional, Sequence, Set
+from typing import Dict, FrozenSet, List, Optional, Sequence, Set
 
 from .dumps import Dump, read_graph_file
+from .graphs import NamedGraph
 from .programs import Program, call_for_any, demand_end, find
 
 
@@ -29,9 +31,29 @@ def one_sided(dump: Dump, overlay: Optional[Program] = None) -> Dict[str, int]:
     return {host: number[host] for host in sorted(number, key=lambda it: (-number[it], it))}
 
 
+def without_entry(dump: Dump, overlay: Optional[Program] = None) -> List[str]:
+    """The names that hosts list and that have no entry, as of dead peers.
+
+    >>> from tagzirk.dumps import dump_of
+    >>> without_entry(dump_of(b'{"a": ["b", "gone"], "b": ["a"]}', "net.json"))
+    ['gone']
+    """
+    if not dump.without_entry:
+        return []
+    data, words = dump.given
+    form = [it for it in words if it != "--entries"]
+    living = graph_of(data, [*form, "--entries"], overlay).ids
+    return [it for it in graph_of(data, form, overlay).ids if it not in living]
+
+
 def links_in(data: bytes, words: Sequence[str], overlay: Optional[Program]) -> Set[FrozenSet[str]]:
     """The links that `overlay import` finds in a dump, by names."""
+    graph = graph_of(data, words, overlay)
+    return {frozenset(graph.names[it] for it in link) for link in graph.links}
+
+
+def graph_of(data: bytes, words: Sequence[str], overlay: Optional[Program]) -> NamedGraph[str]:
+    """The graph that `overlay import` finds in a dump."""
     ended = call_for_any(find("overlay", overlay), ["import", *words], data)
     demand_end(ended)
-    graph = read_graph_file(ended.out)
-    return {frozenset(graph.names[it] for it in link) for link in graph.links}
+    return read_graph_file(ended.out)

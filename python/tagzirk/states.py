@@ -43,7 +43,7 @@ MEASURE_NAMES = frozenset(
     size penwidth label""".split()
 )
 # Names of ids.
-ID_NAMES = frozenset("id uid uuid index".split())
+ID_NAMES = frozenset("id uid uuid index key number row".split())
 # Names of how a link or a host is drawn.
 LOOK_NAMES = frozenset("color colour fillcolor style shape class classes".split())
 # Words of a value that say a state.

@@ -7,12 +7,13 @@ from functools import partial
 from typing import Callable, Iterable, List, Optional, Sequence, Tuple
 
 from .dumps import Dump, Options, read_dump
-from .errors import TagzirkError, in_words
-from .graphs import NamedGraph
+from .errors import BadDump, TagzirkError, in_words
+from .graphs import NamedGraph, shown
 from .naming import hosts_of, without_hosts
 from .programs import Program
 from .progress import Progress
 from .reports import Report, analysed
+from .stale import without_entry
 from .taken import DOUBT, doubts_in
 from .worst import Worst, worst
 
@@ -85,36 +86,43 @@ def status(
     ...     file = pathlib.Path(room, "net.lists")
     ...     _ = file.write_text("a.x: b.x gone\\nb.x: a.x c.x\\nc.x: b.x d.x\\nd.x: c.x\\n")
     ...     it, less = status([str(file)]), status([str(file)], without=["a"])
-    >>> it.report.k, it.report.cut, it.pieces, it.dead.names, it.dead.report.k
-    (1, ('b.x',), (('c.x', 'd.x'), ('a.x',)), ('gone',), 0)
-    >>> less.report.cut, less.left_out
-    (('c.x',), ('a.x',))
+    >>> it.report.k, it.report.cut, it.pieces, it.dead.names, it.dead.report.k, less.report.cut, less.left_out
+    (1, ('b.x',), (('c.x', 'd.x'), ('a.x',)), ('gone',), 0, ('c.x',), ('a.x',))
     """
     dump = read_dump(places, options.living, overlay=overlay)
-    whole = dump.graph
-    graph, left_out = without_hosts(whole, without)
-    members = None if group is None else members_of(group, whole, left_out)
+    whole, without = dump.graph, list(without)
+    nameless = without_entry(dump, overlay) if without or group is not None else []
+    graph, left_out = without_hosts(whole, without, nameless)
+    members = None if group is None else members_of(group, whole, left_out, nameless)
 
     def ask(of: NamedGraph[str]) -> Report[str]:
         return analysed(of, of.members(members), overlay=overlay, overlay_check=overlay_check)
 
     report = ask(graph)
-    has_dead = bool(dump.without_entry) and options.entries is None
+    has_dead = options.entries is None and (dump.without_entry or 0) > sum(it not in whole.ids for it in left_out)
     dead = with_dead(partial(read_dump, places, options, overlay=overlay), whole, left_out, ask) if has_dead else None
     found = None
     if members is None:
         found = worst(graph, report, workers=workers, overlay=overlay, overlay_check=overlay_check, progress=progress)
-    return Status(dump, graph, report, pieces_after(report, graph), tuple(left_out), found, dead)
+    return Status(dump, graph, report, pieces_after(report.cut, graph), tuple(left_out), found, dead)
 
 
-def members_of(group: Iterable[str], graph: NamedGraph[str], left_out: Sequence[str]) -> List[str]:
-    """The hosts of a group that are not left out."""
-    return [it for it in hosts_of(group, list(graph.ids), "--group") if it not in left_out]
+def members_of(
+    group: Iterable[str], graph: NamedGraph[str], left_out: Sequence[str], dead: Sequence[str]
+) -> List[str]:
+    """The hosts of a group that are not left out. Who is `dead` can be in none."""
+    gone = [it for it in dead if it not in graph.ids]
+    members = [it for it in hosts_of(group, [*graph.ids, *gone], "--group") if it not in left_out]
+    lost = [it for it in members if it not in graph.ids]
+    if lost:
+        told = "has no entry, and so is left out, as dead; --no-entries takes such names in"
+        raise BadDump(f"--group: {shown(lost[0])} {told}")
+    return members
 
 
-def pieces_after(report: Report[str], graph: NamedGraph[str]) -> Tuple[Tuple[str, ...], ...]:
-    """The connected components that the crash of the cut leaves, the largest first."""
-    pieces = graph.pieces({graph.ids[it] for it in report.cut})
+def pieces_after(crashed: Iterable[str], graph: NamedGraph[str]) -> Tuple[Tuple[str, ...], ...]:
+    """The connected components that a crash of these hosts leaves, the largest first."""
+    pieces = graph.pieces({graph.ids[it] for it in crashed})
     return tuple(graph.named(piece) for piece in sorted(pieces, key=len, reverse=True))
 
 
@@ -124,10 +132,11 @@ def with_dead(
     left_out: Sequence[str],
     ask: Callable[[NamedGraph[str]], Report[str]],
 ) -> Dead:
-    """What k is with the names that have no entry: in the graph that is read with them."""
+    """What k is with the names that have no entry, but for those that are left out: in the graph that is read with
+    them."""
     try:
         everybody = read().graph
-        names = tuple(it for it in everybody.ids if it not in living.ids)
+        names = tuple(it for it in everybody.ids if it not in living.ids and it not in left_out)
         return Dead(names, ask(everybody.without({everybody.ids[it] for it in left_out})))
     except TagzirkError as why:
         # with them they may be more than can be analysed

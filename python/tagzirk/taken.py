@@ -51,7 +51,8 @@ def taken_of(views: Views, asked: Asked) -> Tuple[Views, List[str]]:
     if differ and not asked.all:
         raise BadDump(question(differ))
     same = [it for it, kind in kinds if kind is Kind.TOLD and len(it.counts) == 1]
-    notes += [f"{it.name} is {next(iter(it.counts))} of all {len(it.said)} {it.of}" for it in same[:MOST_SHOWN]]
+    told = [(it, next(iter(it.counts)) or "empty") for it in same[:MOST_SHOWN]]
+    notes += [f"{it.name} is {value} of all {len(it.said)} {it.of}" for it, value in told]
     maybe = [it for it, kind in kinds if kind is Kind.TOLD and len(it.counts) > 1]
     doubts = [many([*differ, *maybe])] * bool(differ or maybe) + doubtful(views)
     if doubts and asked.all:

@@ -284,9 +284,11 @@ def worst_of(hunt: Hunt, graph: NamedGraph[Node], most: int, is_all: bool) -> Wo
 
     cuts = sorted(hunt.found, key=hunt.badness)
     worst_with: Dict[int, Hosts] = {}
-    most = min(MOST_OF, STEPS_OF // hunt.steps_of_search)
-    for cut in cuts if len(bits.nodes) <= USUAL_HOSTS else cuts[:most]:
+    looked_at = cuts
+    if len(bits.nodes) > USUAL_HOSTS:
+        looked_at = cuts[: max(1, min(MOST_OF, STEPS_OF // hunt.steps_of_search))]
+    for cut in looked_at:
         for at in places_of(cut):
             worst_with.setdefault(at, cut)
     of = {names[bits.nodes[at]]: cut_of(cut) for at, cut in sorted(worst_with.items())}
-    return Worst(tuple(map(cut_of, cuts[:most])), len(cuts), is_all, of)
+    return Worst(tuple(map(cut_of, looked_at[:most])), len(cuts), is_all, of)

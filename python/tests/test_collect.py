@@ -21,7 +21,7 @@ case $1 in
   -endpoint=*) at=${1#-endpoint=} ;;
   *) [ "$1 $2 $3 $5" = "-o BatchMode=yes -- yggdrasilctl" ] && at=$4 ;;
 esac
-cat "ROOM/$at.$last" 2>/dev/null || { echo "2026/11/30 17:58:53 Fatal error: dial unix $at: no such file"; exit 0; }
+cat "ROOM/$at.$last" 2>/dev/null || printf "2026/11/30 17:58:53 Fatal error: dial unix $at: no such file\\r\\n"
 """
 
 
@@ -182,6 +182,10 @@ class Tinc(Commands):
         ):
             out, err, status = self.tagzirk(*self.net(**net))
             self.assertEqual((out, status, told in err), ("", 1, True), err)
+        words = [*self.net()[:-1], self.room / "no-pid"]
+        out, err, status = self.tagzirk(*words)
+        told = "no-pid is not there, so no daemon of this net seems to run"
+        self.assertEqual((out, status, told in err, "--pidfile FILE" in err), ("", 1, True, True), err)
         for place in str(self.room / "other"), "nowhere-at-all":
             out, err, status = self.tagzirk("collect", "tinc", place)
             self.assertEqual((out, status, "tinc.conf: No such file" in err), ("", 1, True), err)

@@ -381,6 +381,9 @@ class Pages(Commands):
             ("a b\n", "No crash parts this overlay"),
             ("a b\nc d\n", "This overlay is parted already"),
             (edges_of(CLIQUES), "A single crash is enough"),
+            ('{"a": []}', "<title>One host is left alone</title>"),
+            ('{"a": []}', "There is one host alone, "),
+            ('{"a": []}', "<li><b>1</b>host</li><li><b>0</b>links</li>"),
         ):
             out, _, status = self.tagzirk("report", given=text)
             self.assertEqual((status, told in out), (0, True), text)
@@ -398,6 +401,7 @@ class Pages(Commands):
             ("a b\nc d\n", 0, "split"),
             ("a b\nb c\n", 1, "one"),
             ("a b\n", 1, "fine"),
+            ('{"a": []}', 0, "split"),
             ("a b\nb c\nc d\nd a\n", 2, "few"),
             (edges_of(itertools.combinations("abcde", 2)).replace("a b\n", ""), 3, "fine"),
         ):
@@ -411,8 +415,11 @@ class Pages(Commands):
         out, _, _ = self.tagzirk("report", "--site", "^[pqr]", given=edges_of(links))
         words = re.sub("</?(?:span|strong)[^>]*>", "", out)
         first = words.index("<p>If hub-a, hub-b crash, 6 hosts are cut off, and the largest of the 3 pieces")
-        self.assertLess(first, words.index("Picture, pieces and certificate have another one: if hub-a, p2 crash"))
+        self.assertLess(first, words.index("Picture and certificate have another one: if hub-a, p2 crash"))
         self.assertIn("another one: if hub-a, p2 crash, 2 hosts are cut off: p1, p3.", words)
+        pieces = words.partition("<h2>3 pieces after the crash</h2>")[2].partition("<h2>")[0]
+        self.assertIn("<p>Crashed: hub-a, hub-b</p>", pieces)
+        self.assertEqual(pieces.count("<td>3 hosts</td>"), 3)
         out, _, _ = self.tagzirk("each", given=edges_of(links))
         told = "k is 2 now: Crashing hub-a, hub-b cuts off 6 hosts, the most of the smallest cuts found."
         other = " The certificate has another one: Crashing hub-a, p2 separates hub-b from p1."

@@ -154,6 +154,13 @@ class Each(Commands):
         self.assertEqual((out.splitlines()[1:], status), (["R1,1,1,0,0,"], 0))
         self.assertIn(f"{racks}: not in the dump, and so passed over: x, y\n", err)
 
+    def test_racks_of_short_names(self):
+        path = self.file("net", edges_of((f"{a}.example.net", f"{b}.example.net") for a, b in CLIQUES))
+        racks = self.file("racks", "a R1\nb R1\na.example.net R2\nleaf R3\nx R3\n")
+        out, err, status = self.tagzirk("each", path, "--racks", racks, "--csv", "--without", "leaf")
+        self.assertEqual((out.splitlines()[1:], status), (["R1,2,0,0,1,c.example.net", "R2,1,1,0,0,"], 0))
+        self.assertIn(f"{racks}: not in the dump, and so passed over: x\n", err)
+
     def test_pairs_of_racks_and_the_fewest(self):
         # c alone cuts off the leaf; of the racks below none does, and R1 with R2 cuts off c and leaf
         path = self.file("net", edges_of(CLIQUES))

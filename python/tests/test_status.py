@@ -70,6 +70,34 @@ class Status(Commands):
         self.assertEqual((worst_cut["crashed"], len(worst_cut["cut_off"]), worst_cut["pieces"]), (["relay-2"], 8, 3))
         self.assertEqual((said["status"], said["with_dead"]["k"], said["one_sided"]), ("OK", 0, 2))
 
+    def test_json_has_the_cut_that_is_told_first(self):
+        # rings of six, each joined to both spines: the certificate has a cut of the first ring
+        rings = [[f"pod{ring}-{at}" for at in range(6)] for ring in range(4)]
+        links = [link for ring in rings for at in range(6) for link in [(ring[at], ring[at - 1])]]
+        links += [link for ring in rings for link in [(ring[0], "spine-a"), (ring[3], "spine-b")]]
+        path, spines = self.file("pods", edges_of(links)), ["spine-a", "spine-b"]
+        self.assertNotEqual(sorted(tagzirk.status([path]).report.cut), spines)
+        said = json.loads(self.tagzirk("status", path, "--json", "--site", "^(pod[0-9])")[0])
+        self.assertEqual((said["cut"], sorted(map(len, said["pieces"])), len(said["cut_off"])), (spines, [6] * 4, 18))
+        self.assertEqual(said["cut_off"], said["worst"]["cuts"][0]["cut_off"])
+        self.assertEqual([it["site"] for it in said["sites"] if it["is_cut_off"]], ["pod1", "pod2", "pod3"])
+        self.assertEqual(json.loads(self.tagzirk("each", path, "--json")[0])["cut"], spines)
+        # the ten worst, or as many as are asked for, of all that were found
+        self.assertEqual((said["worst"]["found"] > 20, len(said["worst"]["cuts"])), (True, 10))
+        found = worst(tagzirk.read_dump([path]).graph, most=3)
+        self.assertEqual((len(found.cuts), found.found, found.is_all), (3, said["worst"]["found"], True))
+
+    def test_who_is_dead_may_be_named(self):
+        lines = self.lines("--without", "fra-9,relay-1")
+        self.assertTrue(lines[0].startswith("k is 1: of 13 hosts, a crash of relay-2 cuts off 8 hosts"), lines)
+        self.assertEqual(lines[-1], "Left out, as --without says: fra-9.example.net, relay-1.")
+        self.assertEqual(self.lines("--without", "fra-9", "--entries")[-1], lines[-1].replace(", relay-1", ""))
+        out, _, status = self.tagzirk("each", self.dump, "--without", "fra-9", "--csv")
+        self.assertEqual((len(out.splitlines()), status), (15, 0))
+        _, err, status = self.tagzirk("status", self.dump, "--group", "fra-9,relay-1")
+        told = "--group: fra-9.example.net has no entry, and so is left out, as dead; --no-entries takes such names in"
+        self.assertEqual((status, told in err), (1, True), err)
+
     def test_statuses_of_an_alarm(self):
         split = self.file("split.json", json.dumps(views_of("abcd", [("a", "b"), ("c", "d")])))
         torn = self.file("torn.json", '{"a": ["b"')

@@ -16,12 +16,13 @@ from ..dumps import Dump
 from ..errors import BadDump, TagzirkError
 from ..graphs import NamedGraph, shown
 from ..limits import MOST_HOSTS, USUAL_HOSTS
-from ..naming import without_hosts
+from ..naming import known_by, short_names, without_hosts
 from ..markup import counted
 from ..progress import Progress
 from ..racks import Loss, fewest_racks, racks_of
 from ..reports import Report, analysed
 from ..sites import Sites
+from ..stale import without_entry
 from ..wide import Wide, widest
 from ..worst import Cut, Worst, worst
 from .telling import (
@@ -82,7 +83,7 @@ class Told:
 def run_each(words: argparse.Namespace) -> int:
     """Prints what each single crash does."""
     dump = dump_in(words)
-    graph, left_out = without_hosts(dump.graph, words.without)
+    graph, left_out = without_hosts(dump.graph, words.without, without_entry(dump) if words.without else [])
     racks = racks_in(words.racks, graph, left_out) if words.racks else None
     sites = Sites(words.site, graph.ids) if words.site else None
     kind = "host" if racks is None else "rack"
@@ -240,7 +241,7 @@ def value_of(of: Told, rows: Optional[int]) -> Dict[str, Any]:
     return {
         "k": of.report.k,
         "all_linked": of.report.is_linked,
-        "cut": list(of.report.cut),
+        "cut": list(of.worst.cuts[0].crashed if of.worst.cuts else of.report.cut),
         "worst": value_of_worst(of.worst),
         "fewest_that_cut_off_more_than_one": None if of.wide is None else value_of_wide(of.wide),
         "fewest_racks": None if of.loss is None else value_of_loss(of.loss),
@@ -250,8 +251,8 @@ def value_of(of: Told, rows: Optional[int]) -> Dict[str, Any]:
 
 
 def racks_in(place: str, graph: NamedGraph[str], left_out: List[str]) -> Dict[str, List[str]]:
-    """The racks that a file names, with those hosts that are in the dump. Who is in none is told, and who is not in the
-    dump."""
+    """The racks that a file names, with those hosts that are in the dump; a name may be short. Who is in none is told,
+    and who is not in the dump."""
     data = pathlib.Path(place).read_bytes()
     tip = f"\ntip: the dump is named without an option, and racks by one: tagzirk each {place} --racks RACKS"
     try:
@@ -264,6 +265,9 @@ def racks_in(place: str, graph: NamedGraph[str], left_out: List[str]) -> Dict[st
         raise BadDump(f"{place}: it names no rack; a line is HOST RACK")
     if 2 * sum(rack in graph.ids and hosts != [rack] for rack, hosts in racks.items()) > len(racks):
         raise BadDump(f"{place}: racks in it have the names of hosts, so it is likely to be the dump{tip}")
+    names = {**graph.ids, **dict.fromkeys(left_out, 0)}
+    short = short_names(names)
+    racks = {rack: [known_by(it, names, short) for it in hosts] for rack, hosts in racks.items()}
     known = {host for hosts in racks.values() for host in hosts}
     here = {rack: [it for it in hosts if it in graph.ids] for rack, hosts in racks.items()}
     if not any(here.values()):

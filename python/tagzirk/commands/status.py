@@ -11,7 +11,7 @@ from ..graphs import in_line
 from ..markup import MOST_DOUBT, counted
 from ..progress import Progress
 from ..sites import Sites
-from ..status import OK, UNKNOWN, WORDS, Dead, Status, status
+from ..status import OK, UNKNOWN, WORDS, Dead, Status, pieces_after, status
 from ..worst import Cut
 from .telling import site_lines, value_of_notes, value_of_site, value_of_worst, worst_lines
 from .words import Parents, at_least_one, command, fault, options_of, places_of, some, tell_notes
@@ -145,7 +145,8 @@ def head_of(it: Status, cut: Cut[str]) -> str:
 def dead_lines(it: Status) -> List[str]:
     """What names do to k that are listed and have no entry."""
     if it.dead is None:
-        number = it.dump.left_out
+        # of those that --without names this is told above
+        number = it.dump.left_out - sum(name not in it.dump.graph.ids for name in it.left_out)
         return [f"Left out, as --entries says: {counted(number, 'name')} without an entry."] if number else []
     number = len(it.dead.names) or it.dump.without_entry or 0
     who = some(it.dead.names) if it.dead.names else counted(number, "name")
@@ -158,16 +159,17 @@ def dead_lines(it: Status) -> List[str]:
 def value_of(it: Status, sites: Optional[Sites], at_least: Optional[int]) -> Dict[str, Any]:
     """All of it, for JSON."""
     report, cut = it.report, cut_told(it)
+    pieces = it.pieces if cut.crashed == report.cut else pieces_after(cut.crashed, it.graph)
     value: Dict[str, Any] = {
         "dump": it.dump.name,
         "hosts": len(it.graph.ids),
         "links": len(it.graph.links),
         "k": report.k,
         "all_linked": report.is_linked,
-        "cut": list(report.cut),
+        "cut": list(cut.crashed),
         "group": None if report.group is None else list(report.group),
-        "pieces": [list(piece) for piece in it.pieces],
-        "cut_off": list(it.cut_off),
+        "pieces": [list(piece) for piece in pieces],
+        "cut_off": [name for piece in pieces[1:] for name in piece],
         "worst": value_of_worst(it.worst) if it.worst else None,
         "left_out": list(it.left_out),
         "one_sided": it.dump.one_sided,
