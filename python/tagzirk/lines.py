@@ -130,7 +130,7 @@ def is_weighted(rows: List[Row]) -> bool:
     if any(";" in row.text for row in rows) or count == 2 and not quoted:
         return False
     if count == 2:
-        return all(len(words_of(row)) == 2 for row in rows) and any(words_of(row) != row.words for row in quoted)
+        return all(len(row.words) == 2 for row in rows if not has_quotes(row)) and are_pairs_in_quotes(quoted)
     words = [words_of(row) for row in rows]
     if not all(len(it) == 3 and NUMBER.fullmatch(it[2]) for it in words):
         return False
@@ -146,6 +146,17 @@ def is_weighted(rows: List[Row]) -> bool:
             "--form adjacency"
         )
     return True
+
+
+def are_pairs_in_quotes(rows: List[Row]) -> bool:
+    """Whether each line has two names, and quotes stand round some that are no part of it."""
+    differs = False
+    for row in rows:
+        words = words_of(row)
+        if len(words) != 2:
+            return False
+        differs = differs or words != row.words
+    return differs
 
 
 def of_weighted(rows: List[Row], is_directed: bool = False) -> Views:

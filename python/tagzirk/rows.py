@@ -77,6 +77,7 @@ def unquoted(text: str) -> List[str]:
     for found in WORD.finditer(text):
         if text[at : found.start()].strip(" \t,;"):
             return []
-        words.append(next(it for it in found.groups() if it is not None))
+        # one of the three kinds of words was found
+        words.append(found[found.lastindex or 0])
         at = found.end()
     return [] if text[at:].strip(" \t,;") or any(it[:1] in "\"'" and it for it in words) else words

@@ -6,6 +6,7 @@ from __future__ import annotations
 import collections
 import csv
 import re
+from functools import lru_cache
 from typing import Counter, Dict, Iterator, List, NamedTuple, Optional, Sequence, Set
 
 from .errors import BadDump
@@ -262,6 +263,7 @@ def is_tgf(text: str) -> bool:
     return has_names and bool(ends) and all(len(it) == 2 and set(it) <= known for it in ends)
 
 
+@lru_cache(maxsize=1)
 def looks_like_tgf(text: str) -> bool:
     """Whether a text looks like TGF, whatever does not fit in it: one line or two are # alone, and above the first each
     line is a whole number and a label that is none, and below it begin lines with two whole numbers."""
@@ -269,10 +271,12 @@ def looks_like_tgf(text: str) -> bool:
         return False
     lines = [line.text for line in lines_of(text)]
     at = lines.index("#")
-    above = [re.fullmatch(r"[0-9]+[ \t]+(.*\S)", it) for it in lines[:at]]
-    has_labels = any(it and not re.match(r"[0-9.]+(?:\s|$)", it[1]) for it in above)
+    # most texts that are no TGF are told by their first line
+    if not all(re.fullmatch(r"[0-9]+[ \t]+.*\S", it) for it in lines[:at]):
+        return False
+    has_labels = any(not re.match(r"[0-9]+[ \t]+[0-9.]+(?:\s|$)", it) for it in lines[:at])
     below = [it for it in lines[at + 1 :] if it != "#"]
-    return all(above) and has_labels and bool(below) and all(re.match(r"[0-9]+\s+[0-9]+(?:\s|$)", it) for it in below)
+    return has_labels and bool(below) and all(re.match(r"[0-9]+\s+[0-9]+(?:\s|$)", it) for it in below)
 
 
 def line_points(line: Line, word: str) -> int:
