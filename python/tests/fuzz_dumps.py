@@ -27,7 +27,7 @@ sys.path.insert(0, str(pathlib.Path(__file__).resolve().parent.parent))
 from tagzirk.asked import Asked  # noqa: E402
 from tagzirk.dumps import Options, dump_of  # noqa: E402
 from tagzirk.errors import TagzirkError  # noqa: E402
-from tagzirk.graphs import in_file  # noqa: E402
+from tagzirk.graphs import in_file, of_file  # noqa: E402
 from tests.heavy_dumps import MOST_MEMORY, MOST_SECONDS  # noqa: E402
 from tests.many_forms import FORMS  # noqa: E402
 from tests.second_readings import READINGS  # noqa: E402
@@ -170,11 +170,16 @@ def fault_of(form, data, options):
     second = READINGS[form.name](data) if form.name in READINGS and kind_of(dump) == KINDS[form.name] else None
     if second is None:
         return ""
-    hosts, pairs = set(map(in_file, second[0])), {frozenset(map(in_file, it)) for it in second[1]}
+    hosts, pairs = set(map(kept, second[0])), {frozenset(map(kept, it)) for it in second[1]}
     lost, added = hosts ^ set(graph.ids), links - pairs
     if lost:
         return f"hosts differ: {sorted(lost)}"
     return f"links are added: {sorted(map(sorted, added))}" if added else ""
+
+
+def kept(name):
+    """A name as it is after it stood in a graph file."""
+    return of_file(in_file(name))
 
 
 def kind_of(dump):
