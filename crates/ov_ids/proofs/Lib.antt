@@ -4,3 +4,4 @@ pub mod Sets
 pub mod Rising
 pub mod Cases
 pub mod Stepping
+pub mod Scales

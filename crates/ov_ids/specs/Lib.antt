@@ -8,3 +8,4 @@ pub mod FaultOrder
 pub mod Text
 pub mod Workers
 pub mod RefillNames
+pub mod Scales

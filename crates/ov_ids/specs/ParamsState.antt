@@ -2,11 +2,13 @@
 use Rattle.std.specs.Prelude.{ℕ, ◌≤◌}
 use Rattle.ov_ids.specs.declared.refill_rule.Refill.{Refill}
 use Rattle.ov_ids.specs.declared.refill_rule.Refill.TheVariants.{Never}
+use Rattle.ov_ids.specs.declared.world_scale.Scale.{Scale}
+use Rattle.ov_ids.specs.declared.world_scale.Scale.TheVariants.{Profile}
 
 -- The parameters of HyParView (Leitão, Pereira, Rodrigues, DSN 2007): the sizes of the active and the passive view, the
 -- lengths of the active and the passive random walk (ARWL, PRWL), how many active and how many passive members a
--- shuffle samples, and the time to live of a shuffle. The last one, an extension of ours, is the rule by which a node
--- that is told DISCONNECT looks for another active member.
+-- shuffle samples, and the time to live of a shuffle. The last two, extensions of ours, are the rule by which a node that
+-- is told DISCONNECT looks for another active member, and how large a world of such nodes may grow.
 pub record ParamsState : Type 0 where
   pub active : ℕ
   pub passive : ℕ
@@ -16,8 +18,10 @@ pub record ParamsState : Type 0 where
   pub kp : ℕ
   pub shuffle_ttl : ℕ
   pub refill : Refill
+  pub scale : Scale
 
 -- HyParView's seven parameters, in the order of the arguments of `Params::new`, with the profile's rule at DISCONNECT
+-- and the profile's scale
 abbrev pub params_of : ℕ → ℕ → ℕ → ℕ → ℕ → ℕ → ℕ → ParamsState
 params_of active passive arwl prwl ka kp shuffle_ttl = record {
   active = active;
@@ -28,6 +32,7 @@ params_of active passive arwl prwl ka kp shuffle_ttl = record {
   kp = kp;
   shuffle_ttl = shuffle_ttl;
   refill = Never;
+  scale = Profile;
 }
 
 -- the most active members of a node: chosen here

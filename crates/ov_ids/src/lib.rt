@@ -1,5 +1,5 @@
 //! What all crates share: ids of nodes and broadcasts, lists of ids as text, lists and sets that contracts see as plain
-//! values, the parameters of a node, how many workers there may be, the fault of a call that is out of memory, and
+//! values, the parameters of a node, how large a world may grow, how many workers there may be, the fault of a call that is out of memory, and
 //! definitions for the order of faults.
 #![tactic(auto)]
 
@@ -13,6 +13,7 @@ mod params;
 mod plain_list;
 mod refill_rule;
 mod worker_count;
+mod world_scale;
 
 pub use ascending_order::is_ascending;
 pub use id::{MsgId, NodeId};
@@ -24,3 +25,4 @@ pub use params::{BadParams, LONGEST_WALK, MOST_ACTIVE, MOST_PASSIVE, MOST_SAMPLE
 pub use plain_list::Seq;
 pub use refill_rule::Refill;
 pub use worker_count::Workers;
+pub use world_scale::Scale;

@@ -1,7 +1,7 @@
 ghost use Rattle.std.specs.Prelude.{◌≡◌, IfOk, IsOk, ◌↔◌};
 ghost use Rattle.ov_ids.specs.ParamsState.{ParamsState, AreWithinLimits, params_of};
 
-use crate::Refill;
+use crate::{Refill, Scale};
 use std::marker::Model;
 use thiserror::Error;
 
@@ -31,8 +31,8 @@ impl BadParams {
     }
 }
 
-/// The parameters of a node in HyParView, each within its limits, and the rule by which a node that is told DISCONNECT
-/// looks for another active member. Contracts see them as `ParamsState`.
+/// The parameters of a node in HyParView, each within its limits, the rule by which a node that is told DISCONNECT looks
+/// for another active member, and how large the world of such nodes may grow. Contracts see them as `ParamsState`.
 #[derive(Clone, Copy, Debug, PartialEq, Eq)]
 pub struct Params {
     active: u32,
@@ -43,6 +43,7 @@ pub struct Params {
     kp: u32,
     shuffle_ttl: u32,
     refill: Refill,
+    scale: Scale,
 }
 
 impl Model for Params {
@@ -51,10 +52,10 @@ impl Model for Params {
     ghost Value = { ParamsState };
 
     ghost view = { λ a. record (params_of a.active a.passive a.arwl a.prwl a.ka a.kp a.shuffle_ttl)
-        { refill = a.refill } };
+        { refill = a.refill; scale = a.scale } };
 
     ghost invariant = { λ a. AreWithinLimits (record (params_of a.active a.passive a.arwl a.prwl a.ka a.kp
-        a.shuffle_ttl) { refill = a.refill }) };
+        a.shuffle_ttl) { refill = a.refill; scale = a.scale }) };
 
     ghost inverse = { λ p. record {
       active = p.active;
@@ -65,11 +66,13 @@ impl Model for Params {
       kp = p.kp;
       shuffle_ttl = p.shuffle_ttl;
       refill = p.refill;
+      scale = p.scale;
     } };
 }
 
 impl Params {
-    /// The parameters, with the profile's rule at DISCONNECT. BadParams (21) if one is out of its limits.
+    /// The parameters, with the profile's rule at DISCONNECT, of worlds of the profile's scale. BadParams (21) if one is
+    /// out of its limits.
     pub fn new(
         active: u32,
         passive: u32,
@@ -104,6 +107,7 @@ impl Params {
             kp,
             shuffle_ttl,
             refill: Refill::Never,
+            scale: Scale::Profile,
         })
     }
 
@@ -119,6 +123,20 @@ impl Params {
         ensures { result ≡ self.now.refill }
     {
         self.refill
+    }
+
+    /// The same parameters, of worlds of this scale.
+    pub fn with_scale(self, scale: Scale) -> Params
+        ensures { result ≡ record self { scale = scale } }
+    {
+        Params { scale, ..self }
+    }
+
+    /// How large a world of nodes with these parameters may grow.
+    pub fn scale(&self) -> Scale
+        ensures { result ≡ self.now.scale }
+    {
+        self.scale
     }
 
     /// How many members the active view may have: 1 to 16.

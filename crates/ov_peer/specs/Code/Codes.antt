@@ -3,6 +3,8 @@ use Rattle.std.specs.Prelude.{◌≡◌, ℕ, Bool, true, false, List, Option, S
 use Rattle.std.specs.Coded.{Coded, code_by, coded×, coded_ℕ, coded_bool, coded_list, coded_option}
 use Rattle.ov_ids.specs.declared.refill_rule.Refill.{Refill}
 use Rattle.ov_ids.specs.declared.refill_rule.Refill.TheVariants.{Never, Alone, Always}
+use Rattle.ov_ids.specs.declared.world_scale.Scale.{Scale}
+use Rattle.ov_ids.specs.declared.world_scale.Scale.TheVariants.{Profile, Large}
 use Rattle.ov_ids.specs.ParamsState.{ParamsState}
 use Rattle.ov_views.specs.ViewsState.{ViewsState}
 use Rattle.ov_views.specs.NeighborRows.{AttemptState}
@@ -30,12 +32,27 @@ rule_back Always = refl
 abbrev rule_code : Coded Refill
 rule_code = code_by (Option Bool) (coded_option coded_bool) rule_cases rule_of rule_back
 
+abbrev is_large : Scale → Bool
+is_large Profile = false
+is_large Large = true
+
+abbrev scale_of : Bool → Scale
+scale_of false = Profile
+scale_of true = Large
+
+pub scale_back : (s : Scale) → scale_of (is_large s) ≡ s
+scale_back Profile = refl
+scale_back Large = refl
+
+abbrev scale_code : Coded Scale
+scale_code = code_by Bool coded_bool is_large scale_of scale_back
+
 abbrev params_code : Coded ParamsState
 params_code =
-    code_by (ℕ × (ℕ × (ℕ × (ℕ × (ℕ × (ℕ × (ℕ × Refill)))))))
+    code_by (ℕ × (ℕ × (ℕ × (ℕ × (ℕ × (ℕ × (ℕ × (Refill × Scale))))))))
     (coded× coded_ℕ (coded× coded_ℕ (coded× coded_ℕ (coded× coded_ℕ (coded× coded_ℕ (coded× coded_ℕ
-    (coded× coded_ℕ rule_code)))))))
-    (λ l. (l.active, (l.passive, (l.arwl, (l.prwl, (l.ka, (l.kp, (l.shuffle_ttl, l.refill))))))))
+    (coded× coded_ℕ (coded× rule_code scale_code))))))))
+    (λ l. (l.active, (l.passive, (l.arwl, (l.prwl, (l.ka, (l.kp, (l.shuffle_ttl, (l.refill, l.scale)))))))))
     (λ p. record {
       active = p.0;
       passive = p.1.0;
@@ -44,7 +61,8 @@ params_code =
       ka = p.1.1.1.1.0;
       kp = p.1.1.1.1.1.0;
       shuffle_ttl = p.1.1.1.1.1.1.0;
-      refill = p.1.1.1.1.1.1.1;
+      refill = p.1.1.1.1.1.1.1.0;
+      scale = p.1.1.1.1.1.1.1.1;
     })
     (λ _. refl)
 
