@@ -93,7 +93,7 @@ graph_words = codes "node" ∷ codes "link" ∷ []
 
 -- the names of the lines of a scenario that set something for lines after them
 abbrev pub setting_names : List (List ℕ)
-setting_names = codes "params" ∷ codes "seed" ∷ codes "refill" ∷ codes "words" ∷ []
+setting_names = codes "params" ∷ codes "seed" ∷ codes "refill" ∷ codes "scale" ∷ codes "words" ∷ []
 
 -- the words that a scenario begins with: of its settings, of a birth and of sections
 abbrev pub scenario_words : List (List ℕ)

@@ -15,7 +15,9 @@ use memchr::memmem;
 const GRAPH_WORDS: [&str; 2] = ["node", "link"];
 
 /// The words that a scenario begins with: of its settings, of a birth and of sections.
-const SCENARIO_WORDS: [&str; 6] = ["params", "seed", "refill", "words", "boot", "together"];
+const SCENARIO_WORDS: [&str; 7] = [
+    "params", "seed", "refill", "scale", "words", "boot", "together",
+];
 
 /// What the bytes of a file look like.
 #[derive(Clone, Copy, Debug, PartialEq, Eq)]
