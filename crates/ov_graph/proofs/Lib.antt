@@ -2,4 +2,3 @@ pub mod EvenTest
 pub mod BitRows
 pub mod GraphValues
 pub mod PlaceLists
-pub mod ShapeOfGraph

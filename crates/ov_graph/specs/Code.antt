@@ -4,4 +4,3 @@ pub mod Listed
 pub mod Dispatched
 pub mod Shifts
 pub mod Tests
-pub mod Found

@@ -7,10 +7,5 @@ pub mod Faults
 pub mod Changes
 pub mod Row
 pub mod Neighbours
-pub mod Sums
-pub mod Distances
 pub mod Components
-pub mod ShortestPaths
-pub mod Clustering
-pub mod Degrees
 pub mod Code

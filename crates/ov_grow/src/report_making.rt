@@ -7,7 +7,7 @@ ghost use Rattle.ov_run_meaning.specs.Subjects.{AnalysisJudged};
 ghost use Rattle.ov_grow.specs.Recordings.{all_of};
 
 use ov_even::analyse_group_alone;
-use ov_net::MOST_ENTRIES;
+use ov_net::LONGEST_JOURNAL;
 use ov_snap::{Core, CoreFault, Report, Snapshot};
 use std::alloc::Global;
 
@@ -21,7 +21,7 @@ pub(crate) fn report_of(alloc: Global, core: &Core, moment: u32) -> Result<Repor
     ensures answer { IfOk result (λ r. IsAnswer r.graph r.members r.cert) }
     ensures refused { IfErr result (IsRefusedBy out_of_memory (AnalysisJudged core.now (all_of moment))) }
 {
-    prove!(core.world().journal().len() <= MOST_ENTRIES);
+    prove!(core.world().journal().len() <= LONGEST_JOURNAL);
     if core.report(moment).is_some() {
         return Err(CoreFault::AlreadyFiled);
     }

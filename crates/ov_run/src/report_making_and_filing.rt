@@ -16,7 +16,7 @@ use ov_crew::{OpenGate, analyse_group_watched};
 use ov_even::Unwatched;
 use ov_hall::HallName;
 use ov_ids::{NodeId, Seq, Workers};
-use ov_net::MOST_ENTRIES;
+use ov_net::LONGEST_JOURNAL;
 use ov_run_meaning::{filed_report, members_of, report_line};
 use ov_scenario::Subject;
 use ov_snap::{Core, CoreFault, Report, Snapshot};
@@ -79,7 +79,7 @@ fn begin(core: &Core, subject: &Subject) -> Result<Snapshot, CoreFault>
     ensures sound { IsSound core.now }
     ensures refused { IfErr result (IsRefusedBy out_of_memory (AnalysisJudged core.now subject.now)) }
 {
-    prove!(core.world().journal().len() <= MOST_ENTRIES);
+    prove!(core.world().journal().len() <= LONGEST_JOURNAL);
     match &subject.group {
         Some(ids) => core.begin_group(subject.moment, ids.as_slice()),
         None => core.begin(subject.moment),

@@ -19,11 +19,11 @@ use crate::line_run_outcome::LineOutcome;
 use crate::refusal::Refusal;
 use crate::report_of_subject::filed_report;
 use crate::run_fault::RunFault;
-use ov_certfile::to_text_group;
+use ov_certfile::to_large_text;
 use ov_ids::{NodeId, OutOfMemory};
 use ov_io::{Sink, WriteFault};
 use ov_lists::BlockList;
-use ov_net::{Entry, MOST_ENTRIES, NetFault, Packet, World};
+use ov_net::{Entry, NetFault, Packet, World};
 use ov_peer::Peer;
 use ov_scenario::{Look, Subject};
 use ov_snap::{Core, CoreFault, Report};
@@ -153,7 +153,6 @@ fn write_certificate<W: Write>(
     let Some(report) = filed_report(core, subject) else {
         return Ok(LineOutcome::Refused(Refusal::Core(CoreFault::NoSuchMoment)));
     };
-    prove!(core.world().journal().len() <= MOST_ENTRIES);
     match file_text(alloc, report) {
         Ok(text) => write_done(text.as_bytes(), sink),
         Err(OutOfMemory) => Ok(LineOutcome::Refused(Refusal::Core(CoreFault::OutOfMemory))),
@@ -162,13 +161,12 @@ fn write_certificate<W: Write>(
 
 /// The certificate file of a report, and a line feed.
 fn file_text(alloc: Global, report: &Report) -> Result<String, OutOfMemory>
-    requires { report.now.moment ≤ last_moment }
     ensures { IfOk result (λ text. string_bytes text
         ≡ file_text report.now.cert report.now.graph report.now.members report.now.moment) }
 {
     let checked = report.checked();
     let (cert, graph, group) = (checked.cert(), checked.graph(), checked.members());
-    let mut text = to_text_group(alloc, cert, graph, group, report.moment())?;
+    let mut text = to_large_text(alloc, cert, graph, group, report.moment())?;
     text.push_str("\n")?;
     Ok(text)
 }

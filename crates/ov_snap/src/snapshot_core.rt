@@ -22,7 +22,7 @@ use crate::reports_by_moment_and_group::Reports;
 use ov_cert::SharedGraph;
 use ov_even::GroupDesk;
 use ov_ids::{NodeId, OutOfMemory, Params};
-use ov_net::{Entry, Event, MOST_ENTRIES, NetFault, World};
+use ov_net::{Entry, Event, NetFault, World};
 use ov_words::{WORDS_PER_EVENT, Words};
 use std::alloc::Global;
 use std::marker::Model;
@@ -142,7 +142,7 @@ impl Core {
             (λ f. IsRefusal self.old.world.net (length self.old.world.journal) told.Snapshot f) }
         ensures err { OnErr result (self.new ≡ self.old) }
     {
-        if self.world.journal().len() >= MOST_ENTRIES {
+        if self.world.journal().len() >= self.world.params().scale().most_entries() {
             return Err(NetFault::TooManyEntries);
         }
         let graph = self.links_now()?;
@@ -154,7 +154,7 @@ impl Core {
     }
 
     /// The links that both ends hold now. If they are those of the last snapshot, its graph is shared, and otherwise
-    /// the world's is copied. If no change was told since that snapshot, the graphs need not be compared.
+    /// they are made. If no change was told since that snapshot, the graphs need not be compared.
     fn links_now(&self) -> Result<SharedGraph, OutOfMemory>
         ensures { IfOk result (λ g. AreLinks self.now.world.journal (length self.now.world.journal) g) }
     {
@@ -162,8 +162,10 @@ impl Core {
             if last.moment >= self.world.links_since() {
                 return last.graph.share();
             }
-            if last.graph.is_same(self.world.graph()) {
-                return last.graph.share();
+            if let Some(graph) = self.world.kept_graph() {
+                if last.graph.is_same(graph) {
+                    return last.graph.share();
+                }
             }
         }
         SharedGraph::new(*self.snapshots.allocator(), self.world.links()?)

@@ -12,12 +12,12 @@ use Rattle.ov_ids.proofs.Members.{same_ascending}
 use Rattle.ov_articulations.specs.Articulations.{AreArticulations, HasArticulations}
 use Rattle.ov_graph.specs.Links.{LinkGraph, AreNeighbours}
 use Rattle.ov_graph.specs.Paths.{node_at}
-use Rattle.ov_graph.specs.Clustering.{HaveCommon, IsClustering, IsCoefficient, share_of_pairs}
+use Rattle.ov_shape.specs.Clustering.{HaveCommon, IsClustering, IsCoefficient, share_of_pairs}
 use Rattle.ov_graph.specs.Components.{HasLargest, IsComponent, IsLargest}
-use Rattle.ov_graph.specs.Degrees.{AreAscendingDegrees, AreDegrees, IsDegree, IsQuartile, quarters}
-use Rattle.ov_graph.specs.Distances.{IsDistance}
-use Rattle.ov_graph.specs.ShortestPaths.{HasDiameter, HasMeanPath, IsDistanceSum, IsLongest}
-use Rattle.ov_graph.specs.Sums.{IsSum}
+use Rattle.ov_shape.specs.Degrees.{AreAscendingDegrees, AreDegrees, IsDegree, IsQuartile, quarters}
+use Rattle.ov_shape.specs.Distances.{IsDistance}
+use Rattle.ov_shape.specs.ShortestPaths.{HasDiameter, HasMeanPath, IsDistanceSum, IsLongest}
+use Rattle.ov_shape.specs.Sums.{IsSum}
 use Rattle.ov_sweep_rows.specs.declared.phase_shape.PhaseShape.{PhaseShape}
 use Rattle.ov_sweep_rows.specs.declared.four_decimals.FourDecimals.{FourDecimals}
 use Rattle.ov_sweep.specs.Rows.{IsShapeOf}

@@ -15,10 +15,10 @@ use Rattle.ov_grow.specs.declared.message_cost.MessageCost.{MessageCost}
 use Rattle.ov_grow.specs.declared.phase_moment_and_deliveries.PhaseEnd.{PhaseEnd}
 use Rattle.ov_grow.specs.Replay.{Replays}
 use Rattle.ov_articulations.specs.Articulations.{HasArticulations}
-use Rattle.ov_graph.specs.Clustering.{IsClustering}
+use Rattle.ov_shape.specs.Clustering.{IsClustering}
 use Rattle.ov_graph.specs.Components.{HasLargest}
-use Rattle.ov_graph.specs.Degrees.{IsQuartile}
-use Rattle.ov_graph.specs.ShortestPaths.{HasDiameter, HasMeanPath}
+use Rattle.ov_shape.specs.Degrees.{IsQuartile}
+use Rattle.ov_shape.specs.ShortestPaths.{HasDiameter, HasMeanPath}
 use Rattle.ov_sweep_rows.specs.Rows.{place_of}
 use Rattle.ov_sweep_rows.specs.declared.measures.Measures.{Measures}
 use Rattle.ov_sweep_rows.specs.declared.phase_costs.PhaseCosts.{PhaseCosts}

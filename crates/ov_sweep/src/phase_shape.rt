@@ -3,8 +3,9 @@ ghost use Rattle.ov_graph.specs.Links.{HasNode, IsSmall};
 ghost use Rattle.ov_sweep.specs.Rows.{IsShapeOf};
 
 use ov_articulations::articulation_points;
-use ov_graph::{Graph, shape_of};
+use ov_graph::Graph;
 use ov_ids::OutOfMemory;
+use ov_shape::shape_of;
 use ov_sweep_rows::{FourDecimals, PhaseShape};
 use std::alloc::Global;
 

@@ -15,7 +15,7 @@ use crate::phase_shape::phase_shape;
 use ov_grow::{GrowFault, LoggedGrowth, MessageCost, PhaseEnd, grow_logged};
 use ov_grow_options::GrowOptions;
 use ov_ids::OutOfMemory;
-use ov_net::MOST_ENTRIES;
+use ov_net::LONGEST_JOURNAL;
 use ov_snap::{Core, Report};
 use ov_sweep_rows::{Measures, PhaseCosts, PhaseRow, PhaseShape, Row};
 use std::alloc::Global;
@@ -92,7 +92,7 @@ fn row_after(
     ensures { IfOk result (λ p. (s : Growth) → AreCosts s costs.now
         → IsToldOf measures s core.now phase broadcasts p) }
 {
-    prove!(core.world().journal().len() <= MOST_ENTRIES);
+    prove!(core.world().journal().len() <= LONGEST_JOURNAL);
     match core.report(phase.moment) {
         Some(report) => {
             let costs = costs_asked(measures.costs, costs)?;

@@ -1,9 +1,9 @@
 use Rattle.std.proofs.Common.{ℕ, Option, sym, subst}
 use Rattle.ov_articulations.specs.Articulations.{HasArticulations}
-use Rattle.ov_graph.specs.Clustering.{IsClustering}
+use Rattle.ov_shape.specs.Clustering.{IsClustering}
 use Rattle.ov_graph.specs.Components.{HasLargest}
-use Rattle.ov_graph.specs.Degrees.{IsQuartile}
-use Rattle.ov_graph.specs.ShortestPaths.{HasDiameter, HasMeanPath}
+use Rattle.ov_shape.specs.Degrees.{IsQuartile}
+use Rattle.ov_shape.specs.ShortestPaths.{HasDiameter, HasMeanPath}
 use Rattle.ov_sweep.proofs.phase_shape.phase_shape.Goals as goal
 
 pub returns : goal.returns

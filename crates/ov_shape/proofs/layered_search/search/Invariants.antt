@@ -1,0 +1,13 @@
+-- What was found so far, and how many nodes may still come.
+use Rattle.std.proofs.Common.{◌-◌, length}
+use Rattle.ov_graph.specs.Paths.{node_at}
+use Rattle.ov_shape.proofs.ShapeOfGraph.Searching.{IsSearching}
+use Rattle.ov_shape.proofs.layered_search.search.Given as goal
+
+abbrev pub invariant-layers : goal.invariant-layers
+invariant-layers l = record {
+  found : IsSearching l.graph (node_at l.graph l.place) l.front l.found.row l.found.count l.found.total l.found.far;
+}
+
+abbrev pub decreases-layers : goal.decreases-layers
+decreases-layers l = length l.graph.nodes - l.found.count

@@ -1,0 +1,2 @@
+-- What a search from one node found.
+pub mod Found
