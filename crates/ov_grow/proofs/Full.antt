@@ -12,6 +12,9 @@ use Rattle.ov_wire.specs.Messages.{most_payload}
 use Rattle.ov_grow.specs.Broadcasts.{TimerRuns}
 use Rattle.ov_grow.proofs.Living.{one_state}
 use Rattle.ov_ids.specs.FaultOrder.{HoldsThen, Passed}
+use Rattle.ov_ids.specs.Scales.{most_born_at}
+use Rattle.ov_ids.specs.declared.world_scale.Scale.TheVariants.{Profile}
+use Rattle.ov_ids.proofs.Scales.{born_within}
 use Rattle.ov_ids.proofs.Stepping.{step_passes}
 use Rattle.ov_wire.specs.declared.message.Message.{Message}
 use Rattle.ov_peer.specs.PeerState.{PeerState}
@@ -176,20 +179,20 @@ not_born (Some m) none = absurd (none (λ same. absurd cc))
 
 -- a birth is refused at most for its places for packets, if the id is new, there is room for a node, and the contact
 -- lives
-birth_full : (w : Net) (f : NetFault) → map.len w.nodes < most_world_nodes → BirthLast w (Some f)
+birth_full : (w : Net) (f : NetFault) → map.len w.nodes < most_world_nodes w.params → BirthLast w (Some f)
     → f ≡ TooManyPackets
 birth_full w f room judged =
     failed_some (HasPlaces w) TooManyPackets f
-    (step_passes (map.len w.nodes < most_world_nodes) TooManyNodes (PlacesLast w) (Some f) room judged)
+    (step_passes (map.len w.nodes < most_world_nodes w.params) TooManyNodes (PlacesLast w) (Some f) room judged)
 
-first_full : (w : Net) (id : ℕ) (f : NetFault) → map.get w.nodes id ≡ None → map.len w.nodes < most_world_nodes
+first_full : (w : Net) (id : ℕ) (f : NetFault) → map.get w.nodes id ≡ None → map.len w.nodes < most_world_nodes w.params
     → EventJudged w (event.Boot id None) (Some f) → f ≡ TooManyPackets
 first_full w id f fresh room judged =
     birth_full w f room (step_passes (map.get w.nodes id ≡ None) UsedId (ContactThen w None (BirthLast w)) (Some f)
     fresh judged)
 
 next_full : (w : Net) (id contact : ℕ) (p : PeerState) (f : NetFault) → map.get w.nodes id ≡ None
-    → map.len w.nodes < most_world_nodes → LivesAs w contact p
+    → map.len w.nodes < most_world_nodes w.params → LivesAs w contact p
     → EventJudged w (event.Boot id (Some contact)) (Some f) → f ≡ TooManyPackets
 next_full w id contact p f fresh room lives judged =
     birth_full w f room
@@ -206,17 +209,19 @@ pub first_born_full : (b : Growing) (id : ℕ) (fault : GrowFault) → id ≡ 1 
     → IsRefusedAct (act.Boot id None) b fault → IsFull fault
 first_born_full b id fault one born (f, is, refused) =
     let w = b.recording.core.world in
-    let room : map.len w.net.nodes < most_world_nodes = omega (arith, born.count) in
+    let room : map.len w.net.nodes < most_world_nodes w.net.params =
+    omega (arith, born.count, (born_within w.net.params.scale).0) in
     subst IsFull (sym is) (refused_full w.net (length w.journal) (event.Boot id None) f
     (first_full w.net id f (id_is_new 0 id (growth_of b) born one) room) refused)
 
 -- and so is the next one, by a contact that was born before
 pub next_born_full : (b : Growing) (n id contact : ℕ) (fault : GrowFault) → AreBorn n (growth_of b) → id ≡ n + 1
-    → 1 ≤ contact → contact ≤ n → n < most_world_nodes
+    → 1 ≤ contact → contact ≤ n → n < most_born_at Profile
     → IsRefusedAct (act.Boot id (Some contact)) b fault → IsFull fault
 next_born_full b n id contact fault born is least most few (f, same, refused) =
     let w = b.recording.core.world in
-    let room : map.len w.net.nodes < most_world_nodes = omega (arith, born.count, few) in
+    let room : map.len w.net.nodes < most_world_nodes w.net.params =
+    omega (arith, born.count, few, (born_within w.net.params.scale).0) in
     let (p, lives) = born.live contact least most in
     subst IsFull (sym same) (refused_full w.net (length w.journal) (event.Boot id (Some contact)) f
     (next_full w.net id contact p f (id_is_new n id (growth_of b) born is) room lives) refused)

@@ -1,18 +1,15 @@
 -- Which nodes live, and which crashed.
-use Rattle.std.proofs.Common.{◌≡◌, ◌≢◌, ℕ, Bool, true, false, IsTrue, ◌↔◌, List, length, Option, Some}
+use Rattle.std.proofs.Common.{◌≡◌, ◌≢◌, ℕ, Bool, true, false, IsTrue, ◌↔◌, List, Option, Some}
 use Rattle.std.proofs.Common.{None, refl, sym, subst, ◌∙◌}
 use Rattle.std.specs.Prelude.{not, IfSome}
 use Rattle.std.specs.FinMap as map
 use Rattle.std.specs.FinSet as set
 use Rattle.ov_ids.specs.declared.id.MsgId.{MsgId}
 use Rattle.ov_grow.specs.Broadcasts.{TimerRuns}
-use Rattle.ov_ids.specs.Members.{Has, Ascends}
-use Rattle.ov_graph.specs.Links.{LinkGraph}
 use Rattle.ov_peer.specs.PeerState.{PeerState}
-use Rattle.ov_net.specs.Journal.{AreLinks}
-use Rattle.ov_net.specs.Net.{Net, LivesAs, IsGone}
+use Rattle.ov_net.specs.Net.{AreLiveNodes, Net, LivesAs, IsGone}
 use Rattle.ov_net.specs.Refusals.{IsBorn}
-use Rattle.ov_net.specs.World.{Stands}
+use Rattle.ov_net.specs.World.{WorldState}
 use Rattle.ov_net.specs.declared.member.Member.{Member}
 use Rattle.ov_net.specs.declared.member.Member.TheVariants.{Live, Gone}
 use Rattle.ov_grow.specs.Growth.{Growth, AreLive, IsLive}
@@ -21,14 +18,11 @@ use Rattle.ov_grow.specs.Growth.{Growth, AreLive, IsLive}
 pub one_state : (p q : PeerState) → Some (Live p) ≡ Some (Live q) → p ≡ q
 one_state p q same = cc
 
--- the nodes of the graph of now are those that live
-pub live_nodes : (s : Growth) (g : LinkGraph) (ids : List ℕ) → Stands s.world
-    → AreLinks s.world.journal (length s.world.journal) g → ids ≡ g.nodes → AreLive s ids
-live_nodes s g ids stands links same = record {
-  ascend = subst (λ xs. Ascends xs) (sym same) links.graph.nodes_ascend;
-  live = λ a has. (stands.tells.live a).0 ((links.nodes a).0 (subst (λ xs. Has xs a) same has));
-  each = λ a lives. subst (λ xs. Has xs a) (sym same) ((links.nodes a).1 ((stands.tells.live a).1 lives));
-}
+-- the live nodes of the world are those of the overlay
+pub live_nodes : (s : Growth) (w : WorldState) (ids : List ℕ) → w ≡ s.world → AreLiveNodes w.net ids → AreLive s ids
+live_nodes s w ids same nodes =
+    let here = subst (λ (world : WorldState). AreLiveNodes world.net ids) same nodes in
+    record { ascend = here.ascend; live = λ a has. (here.each a).0 has; each = λ a lives. (here.each a).1 lives }
 
 -- a node that was born and does not live has crashed
 crashed_or_not : (w : Net) (a : ℕ) (m : Option Member) (live : Bool) → map.get w.nodes a ≡ m → m ≢ None

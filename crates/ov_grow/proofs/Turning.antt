@@ -3,8 +3,9 @@ use Rattle.std.proofs.Common.{◌≡◌, ◌<◌, ◌≤◌, ◌+◌, ℕ, zero,
 use Rattle.std.proofs.Common.{Some, refl, sym, ap, subst, ◌∙◌, inl, inr, ◌⊎◌, arith, length-append}
 use Rattle.std.specs.Prelude.{MatchBool, slice_get}
 use Rattle.std.proofs.lemmas.Option.{none-some, slice_get_cases}
+use Rattle.ov_ids.proofs.Scales.{entries_within}
 use Rattle.ov_ids.proofs.Stepping.{step_none}
-use Rattle.ov_net.specs.Limits.{most_entries}
+use Rattle.ov_net.specs.Limits.{longest_of_any, most_entries}
 use Rattle.ov_net.specs.Refusals.{EventJudged}
 use Rattle.ov_net.specs.declared.fault.NetFault.TheVariants.{TooManyEntries}
 use Rattle.ov_script.specs.Acts.{event_of}
@@ -21,10 +22,10 @@ use Rattle.ov_grow.specs.declared.phase_rules.PhaseRules.{PhaseRules}
 abbrev pub entries : Growth → ℕ
 entries s = length s.world.journal
 
--- the journal is longer, and not too long
+-- the journal is longer, and not longer than any may be
 pub record Longer (s u : Growth) : Type 0 where
   pub more : entries s < entries u
-  pub most : entries u ≤ most_entries
+  pub most : entries u ≤ longest_of_any
 
 -- it has the same length or is longer
 abbrev pub AsLong : Growth → Growth → Type 0
@@ -43,10 +44,12 @@ as_long_by s t u (inr a) b = inr (longer_by s t u a b)
 
 pub does_longer : (s u : Growth) (what : Act) → Does s what u → Longer s u
 does_longer s u what d =
-    let room = step_none (entries s < most_entries) TooManyEntries (EventJudged s.world.net (event_of what)) d.judged in
+    let params = s.world.net.params in
+    let room =
+    step_none (entries s < most_entries params) TooManyEntries (EventJudged s.world.net (event_of what)) d.judged in
     let more : entries u ≡ entries s + 1 =
     ap length d.step.journal ∙ length-append s.world.journal (d.entry ∷ []) in
-    record { more = omega (arith, more); most = omega (arith, more, room.0) }
+    record { more = omega (arith, more); most = omega (arith, more, room.0, (entries_within params.scale).1) }
 
 -- only choices were drawn, so the journal is the same
 pub longer_from : (s t u : Growth) → t.world ≡ s.world → Longer t u → Longer s u

@@ -1,6 +1,7 @@
 ghost use Rattle.std.specs.Prelude.{◌≡◌, ◌<◌, ◌≤◌, ◌↔◌, length, IfErr, IfOk, OnOk, IsTrue};
 ghost use Rattle.std.specs.FinMap as map;
-ghost use Rattle.ov_net.specs.Limits.{most_packets};
+ghost use Rattle.ov_ids.specs.Scales.{most_packets_at};
+ghost use Rattle.ov_ids.specs.declared.world_scale.Scale.TheVariants.{Large};
 ghost use Rattle.ov_net.specs.Net.{IsGone};
 ghost use Rattle.ov_grow.specs.Replay.{Replays};
 ghost use Rattle.ov_script.specs.WrittenLines.{comment_line};
@@ -62,9 +63,10 @@ impl Growing {
     }
 
     /// How many packets are on their way.
+    #[tactic(auto, using(ov_ids::proofs::Scales::packets_within))]
     pub(crate) fn packets(&self) -> usize
         ensures value { result ≡ length self.now.recording.core.world.net.packets }
-        ensures few { result ≤ most_packets }
+        ensures few { result ≤ most_packets_at Large }
     {
         self.world().packets().len()
     }
@@ -73,8 +75,7 @@ impl Growing {
     pub(crate) fn live(&self) -> Result<Vec<NodeId>, OutOfMemory>
         ensures { IfOk result (λ ids. AreLive (growth_of self.now) ids.items) }
     {
-        let _journal = self.world().journal();
-        Ok(self.world().graph().nodes().to_vec(self.alloc)?)
+        Ok(self.world().live_nodes()?)
     }
 
     /// Whether a node lives.

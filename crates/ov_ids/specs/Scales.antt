@@ -1,5 +1,5 @@
 -- How large a world may grow, by its scale, and the words for scales in scenario files: chosen here.
-use Rattle.std.specs.Prelude.{ℕ, ◌^◌, List, [], ◌∷◌, codes, nat_eq, Option}
+use Rattle.std.specs.Prelude.{ℕ, List, [], ◌∷◌, codes, nat_eq, Option}
 use Rattle.std.specs.List.{find}
 use Rattle.std.specs.Cmp.Lexicographic.{pointwise}
 use Rattle.ov_ids.specs.Limits.{longest_journal}

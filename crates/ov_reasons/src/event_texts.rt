@@ -1,5 +1,5 @@
-use ov_ids::NodeId;
-use ov_net::{Event, MOST_ENTRIES, MOST_PACKETS, MOST_WORLD_NODES, NetFault, STEP_PACKETS, World};
+use ov_ids::{NodeId, Scale};
+use ov_net::{Event, NetFault, STEP_PACKETS, World};
 use ov_peer::MOST_BROADCASTS;
 use ov_wire::MOST_PAYLOAD;
 use std::alloc::AllocError;
@@ -18,15 +18,9 @@ pub(crate) fn push_event_reason(
         NetFault::CrashedNode => push_node(text, "node ", met(event), " crashed"),
         NetFault::NotCrashed => push_node(text, "node ", reported(event), " did not crash"),
         NetFault::NoSuchPacket => push_no_packet(text, world, event),
-        NetFault::TooManyPackets => push_full_bag(text, world.packets().len()),
-        NetFault::TooManyNodes => write!(
-            text,
-            "{MOST_WORLD_NODES} nodes were born, as many as may be"
-        ),
-        NetFault::TooManyEntries => write!(
-            text,
-            "the journal has {MOST_ENTRIES} entries, as many as it may have"
-        ),
+        NetFault::TooManyPackets => push_full_bag(text, world),
+        NetFault::TooManyNodes => push_all_born(text, world.params().scale()),
+        NetFault::TooManyEntries => push_full_journal(text, world.params().scale()),
         NetFault::TooManyMessages => {
             push_node(text, "node ", acting(event), " has made ")?;
             write!(text, "{MOST_BROADCASTS} broadcasts, as many as it may")
@@ -100,9 +94,25 @@ fn push_no_packet(text: &mut String, world: &World, event: &Event) -> Result<(),
     )
 }
 
+/// Appends that as many nodes were born as may be in a world of this scale.
+fn push_all_born(text: &mut String, scale: Scale) -> Result<(), AllocError> {
+    let most = scale.most_born();
+    write!(text, "{most} nodes were born, as many as may be")
+}
+
+/// Appends that the journal is full in a world of this scale.
+fn push_full_journal(text: &mut String, scale: Scale) -> Result<(), AllocError> {
+    let most = scale.most_entries();
+    write!(
+        text,
+        "the journal has {most} entries, as many as it may have"
+    )
+}
+
 /// Appends that too few places for packets are free.
-fn push_full_bag(text: &mut String, count: usize) -> Result<(), AllocError> {
-    let (free, most) = (STEP_PACKETS, MOST_PACKETS);
+fn push_full_bag(text: &mut String, world: &World) -> Result<(), AllocError> {
+    let count = world.packets().len();
+    let (free, most) = (STEP_PACKETS, world.params().scale().most_packets());
     write!(
         text,
         "the bag has {count} packets, and {free} of its {most} places must be free"

@@ -2,8 +2,7 @@
 ghost use Rattle.std.specs.Prelude.{◌≡◌, ◌⊎◌, ◌≤◌, ◌<◌, ◌+◌, IfOk, IfErr, OnOk, OnErr, IsErrOf, length, string_bytes};
 ghost use Rattle.std.specs.Io.KnownBytes.{Appends};
 ghost use Rattle.ov_io.specs.Device.{AppendsPrefixOf, most_faults, write_faults as sink_faults, write_number};
-ghost use Rattle.ov_certfile.specs.Forms.{last_moment};
-ghost use Rattle.ov_net.specs.Limits.{most_packets};
+ghost use Rattle.ov_ids.specs.Limits.{number_limit};
 ghost use Rattle.ov_net.specs.Net.{LivesAs};
 ghost use Rattle.ov_peer.specs.PeerState.{PeerState};
 ghost use Rattle.ov_run_meaning.specs.Accepting.{HidesCertificate, HidesNode, RefusesLook};
@@ -179,7 +178,7 @@ fn write_packets<W: Write>(
     sink: &mut Sink<W>,
 ) -> Result<LineOutcome, RunFault>
     requires faults { sink.old.faults < most_faults }
-    requires few { length packets.now.items ≤ most_packets }
+    requires few { length packets.now.items < number_limit }
     ensures outcome { IfOk result (λ outcome. outcome ≡ LineOutcome.Accepted) }
     ensures prints { OnOk result (Writes (PrintsPackets 0 packets.now.items)
         (W.contents sink.old.writer) (W.contents sink.new.writer)) }

@@ -1,5 +1,5 @@
 ghost use Rattle.std.specs.Prelude.{◌≡◌, IfOk, option_map};
-ghost use Rattle.ov_graph.specs.Links.{HasNode, IsSmall};
+ghost use Rattle.ov_graph.specs.Links.{HasNode};
 ghost use Rattle.ov_sweep.specs.Rows.{IsShapeOf};
 
 use ov_articulations::articulation_points;
@@ -9,14 +9,13 @@ use ov_shape::shape_of;
 use ov_sweep_rows::{FourDecimals, PhaseShape};
 use std::alloc::Global;
 
-/// The shape of a graph, which must have a node, and at most 1,024 of them. OutOfMemory (99) is returned if a number is past 32 bits, or if an
+/// The shape of a graph, which must have a node. OutOfMemory (99) is returned if a number is past 32 bits, or if an
 /// allocation is refused.
 pub(crate) fn phase_shape(alloc: Global, graph: &Graph) -> Result<PhaseShape, OutOfMemory>
     requires some { HasNode graph.now }
-    requires small { IsSmall graph.now }
     ensures { IfOk result (IsShapeOf graph.now) }
 {
-    let Some(shape) = shape_of(graph) else {
+    let Some(shape) = shape_of(alloc, graph)? else {
         return Err(OutOfMemory);
     };
     Ok(PhaseShape {

@@ -1,5 +1,5 @@
 ghost use Rattle.std.specs.Prelude.{IfErr, IfOk};
-ghost use Rattle.ov_graph.specs.Links.{HasNode, IsSmall};
+ghost use Rattle.ov_graph.specs.Links.{HasNode};
 ghost use Rattle.ov_snap.specs.CoreState.{HasReportOfAll};
 ghost use Rattle.ov_snap.specs.ReportState.{ReportState};
 ghost use Rattle.ov_grow.specs.Growth.{Growth};
@@ -15,7 +15,6 @@ use crate::phase_shape::phase_shape;
 use ov_grow::{GrowFault, LoggedGrowth, MessageCost, PhaseEnd, grow_logged};
 use ov_grow_options::GrowOptions;
 use ov_ids::OutOfMemory;
-use ov_net::LONGEST_JOURNAL;
 use ov_snap::{Core, Report};
 use ov_sweep_rows::{Measures, PhaseCosts, PhaseRow, PhaseShape, Row};
 use std::alloc::Global;
@@ -92,7 +91,6 @@ fn row_after(
     ensures { IfOk result (λ p. (s : Growth) → AreCosts s costs.now
         → IsToldOf measures s core.now phase broadcasts p) }
 {
-    prove!(core.world().journal().len() <= LONGEST_JOURNAL);
     match core.report(phase.moment) {
         Some(report) => {
             let costs = costs_asked(measures.costs, costs)?;
@@ -113,14 +111,13 @@ fn costs_asked(asked: bool, costs: &[MessageCost]) -> Result<Option<PhaseCosts>,
     Ok(Some(phase_costs(costs)?))
 }
 
-/// The shape of a report's graph, if it is asked for. The graph must have a node, and at most 1,024 of them.
+/// The shape of a report's graph, if it is asked for. The graph must have a node.
 fn shape_asked(
     alloc: Global,
     asked: bool,
     report: &Report,
 ) -> Result<Option<PhaseShape>, OutOfMemory>
     requires some { HasNode report.now.graph }
-    requires small { IsSmall report.now.graph }
     ensures { IfOk result (IsAsked asked (IsShapeOf report.now.graph)) }
 {
     if !asked {

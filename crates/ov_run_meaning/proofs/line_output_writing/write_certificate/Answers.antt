@@ -1,19 +1,8 @@
--- The file of the report was written, or a prefix of it. The moment of a report is one of the journal.
-use Rattle.std.proofs.Common.{◌≡◌, ◌∙◌, ap, length, arith}
-use Rattle.ov_net.specs.World.{WorldState}
-use Rattle.ov_snap.proofs.Moments.{moment_within}
+-- The file of the report was written, or a prefix of it.
+use Rattle.std.proofs.Common.{◌∙◌}
 use Rattle.ov_run_meaning.specs.Accepting.{HidesCertificate, ShowsCertificate}
 use Rattle.ov_run_meaning.proofs.Writing.Outcomes.{begun, done}
 use Rattle.ov_run_meaning.proofs.line_output_writing.write_certificate.Goals as goal
-
-pub file_text-requires : goal.file_text-requires
-file_text-requires g c =
-    let long : length c.journal.result.now ≡ length c.args.core.now.world.journal =
-    ap length c.journal.ensures.value ∙ ap (λ (w : WorldState). length w.journal) c.world.ensures.value in
-    let within =
-    moment_within c.args.core.now.world.journal c.in-Some.report.now.moment c.in-Some.ensures.exact.moment in
-    let few = c.if-prove.false in
-    omega (arith, long, within, few)
 
 pub returns-in-Ok-clause-outcome : goal.returns-in-Ok-clause-outcome
 returns-in-Ok-clause-outcome g c =

@@ -1,5 +1,6 @@
 use Rattle.std.proofs.Common.{◌≡◌, ◌<◌, ◌≤◌, ◌+◌, ◌-◌, ◌∙◌, suc, Some, refl, sym, arith, subst}
-use Rattle.ov_net.specs.Limits.{most_world_nodes}
+use Rattle.ov_ids.specs.Scales.{most_born_at}
+use Rattle.ov_ids.specs.declared.world_scale.Scale.TheVariants.{Profile}
 use Rattle.ov_script.specs.declared.recordable_event.Act.TheVariants as act
 use Rattle.ov_grow.specs.Growth.{Does}
 use Rattle.ov_grow.specs.Turns.{TurnsUpTo}
@@ -110,7 +111,7 @@ returns-in_err-act-clause-full c =
     let contact : c.new-in-loop-id.result ≡ 1 + c.one_of.result = c.new-in-loop-id.ensures in
     let least : 1 ≤ c.new-in-loop-id.result = omega (arith, contact) in
     let most : c.new-in-loop-id.result ≤ id - 1 = omega (arith, contact, c.one_of.ensures.below) in
-    let few : id - 1 < most_world_nodes = omega (arith, c.requires.few) in
+    let few : id - 1 < most_born_at Profile = omega (arith, c.requires.few) in
     passes_on IsFull c.from_residual-in_err-act.result fault c.from_residual-in_err-act.ensures.1
     (next_born_full v (id - 1) c.new.result c.new-in-loop-id.result fault born (c.new.ensures ∙ before) least most few
     c.in_err-act.ensures.judged)

@@ -1,5 +1,5 @@
 use Rattle.std.proofs.Common.{◌-◌, length, take}
-use Rattle.ov_net.specs.Limits.{most_entries}
+use Rattle.ov_net.specs.Limits.{longest_of_any}
 use Rattle.ov_grow.specs.Growth.{AreLive}
 use Rattle.ov_grow.specs.Phases.{ReportCrashes}
 use Rattle.ov_grow.specs.Code.Standing.{HasCrashed, HaveNone, growth_of}
@@ -15,4 +15,4 @@ invariant-loop-found l = record {
 }
 
 abbrev pub decreases-loop-found : goal.decreases-loop-found
-decreases-loop-found l = most_entries - length l.self.recording.core.world.journal
+decreases-loop-found l = longest_of_any - length l.self.recording.core.world.journal

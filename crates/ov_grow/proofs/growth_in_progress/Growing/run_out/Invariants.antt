@@ -1,5 +1,5 @@
 use Rattle.std.proofs.Common.{◌-◌, length}
-use Rattle.ov_net.specs.Limits.{most_entries}
+use Rattle.ov_net.specs.Limits.{longest_of_any}
 use Rattle.ov_grow.specs.Turns.{RunOut}
 use Rattle.ov_grow.proofs.Going.{IsOn}
 use Rattle.ov_grow.proofs.growth_in_progress.Growing.run_out.Given as goal
@@ -8,4 +8,4 @@ abbrev pub invariant-loop-self : goal.invariant-loop-self
 invariant-loop-self l = IsOn (RunOut l.rules) (RunOut l.rules) l.initial.self l.self
 
 abbrev pub decreases-loop-self : goal.decreases-loop-self
-decreases-loop-self l = most_entries - length l.self.recording.core.world.journal
+decreases-loop-self l = longest_of_any - length l.self.recording.core.world.journal
