@@ -11,7 +11,7 @@ use Rattle.ov_certfile.specs.Keys.{has_just, said}
 use Rattle.ov_certfile.specs.declared.version.Version.{Version}
 use Rattle.ov_certfile.specs.declared.version.Version.TheVariants.{One, Two, Three}
 
--- the highest moment in versions 1 and 2: no journal has an entry of a higher number
+-- the highest moment in versions 1 and 2: no journal of the profile's scale has an entry of a higher number
 abbrev pub last_moment : ℕ
 last_moment = longest_journal
 

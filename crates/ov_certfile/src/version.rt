@@ -10,7 +10,7 @@ use ov_ids::NUMBER_LIMIT;
 /// The highest number of nodes in a file of version 1.
 const MOST_NODES_OF_ONE: usize = 256;
 
-/// The highest moment in a file of version 1 or 2: no journal has more entries. (Chosen here.)
+/// The highest moment in a file of version 1 or 2: no journal of the profile's scale has more entries. (Chosen here.)
 pub const LAST_MOMENT: u64 = 65_536;
 
 /// The version of a file. Its number is the value at the key `version`.
