@@ -12,8 +12,6 @@ use Rattle.ov_wire.specs.Messages.{most_payload}
 use Rattle.ov_grow.specs.Broadcasts.{TimerRuns}
 use Rattle.ov_grow.proofs.Living.{one_state}
 use Rattle.ov_ids.specs.FaultOrder.{HoldsThen, Passed}
-use Rattle.ov_ids.specs.Scales.{most_born_at}
-use Rattle.ov_ids.specs.declared.world_scale.Scale.TheVariants.{Profile}
 use Rattle.ov_ids.proofs.Scales.{born_within}
 use Rattle.ov_ids.proofs.Stepping.{step_passes}
 use Rattle.ov_wire.specs.declared.message.Message.{Message}
@@ -216,12 +214,11 @@ first_born_full b id fault one born (f, is, refused) =
 
 -- and so is the next one, by a contact that was born before
 pub next_born_full : (b : Growing) (n id contact : ℕ) (fault : GrowFault) → AreBorn n (growth_of b) → id ≡ n + 1
-    → 1 ≤ contact → contact ≤ n → n < most_born_at Profile
+    → 1 ≤ contact → contact ≤ n → n < most_world_nodes b.recording.core.world.net.params
     → IsRefusedAct (act.Boot id (Some contact)) b fault → IsFull fault
 next_born_full b n id contact fault born is least most few (f, same, refused) =
     let w = b.recording.core.world in
-    let room : map.len w.net.nodes < most_world_nodes w.net.params =
-    omega (arith, born.count, few, (born_within w.net.params.scale).0) in
+    let room : map.len w.net.nodes < most_world_nodes w.net.params = omega (arith, born.count, few) in
     let (p, lives) = born.live contact least most in
     subst IsFull (sym same) (refused_full w.net (length w.journal) (event.Boot id (Some contact)) f
     (next_full w.net id contact p f (id_is_new n id (growth_of b) born is) room lives) refused)

@@ -2,7 +2,7 @@
 use Rattle.std.proofs.Common.{◌≡◌, ◌≢◌, ℕ, zero, suc, ◌+◌, Bool, true, false, cond, List, Option, Some, None, refl, sym}
 use Rattle.std.proofs.Common.{[], ◌∷◌, ◌≤◌, ap, subst, ◌∙◌, inl, inr, arith, length}
 use Rattle.std.proofs.lemmas.Bool.{cases_eq}
-use Rattle.std.specs.Prelude.{MatchBool, is_some, remove}
+use Rattle.std.specs.Prelude.{MatchBool, if◌then◌else◌, is_some, nat_lt, remove}
 use Rattle.std.specs.Ordering.{eq_by_cmp, nat_cmp}
 use Rattle.std.specs.FinMap as map
 use Rattle.std.specs.Cmp.{nat_cmp_total}
@@ -12,7 +12,10 @@ use Rattle.ov_peer.specs.PeerState.{PeerState}
 use Rattle.ov_peer.specs.declared.input_and_output.Delivery.{Delivery}
 use Rattle.ov_peer.specs.declared.input_and_output.Input.{Input}
 use Rattle.ov_peer.specs.declared.input_and_output.Input.TheVariants as input
+use Rattle.ov_ids.specs.Scales.{most_born_at}
 use Rattle.ov_ids.specs.declared.id.MsgId.{MsgId}
+use Rattle.ov_ids.specs.declared.world_scale.Scale.TheVariants.{Profile, Large}
+use Rattle.ov_net.specs.Limits.{most_world_nodes}
 use Rattle.ov_net.specs.Net.{Net, LivesAs}
 use Rattle.ov_net.specs.NetStep.{LiveTakesInput, Received, TakesInput}
 use Rattle.ov_net.specs.declared.journal_entry_and_changes.Change.{Change}
@@ -27,12 +30,15 @@ use Rattle.ov_net.proofs.Journal.Outcomes.{same_live}
 use Rattle.ov_net.proofs.Steps.Places.{has_at, has_remove, inserted_cases, inserted_here}
 use Rattle.ov_script.specs.declared.recordable_event.Act.TheVariants as act
 use Rattle.ov_grow.specs.Choices.{IsRandomOrder, later, one_of}
+use Rattle.ov_grow_options.specs.Limits.{most_nodes}
+use Rattle.ov_grow.specs.Growing.{scale_for}
 use Rattle.ov_grow.specs.Growth.{Growth, Does, IsLive}
 use Rattle.ov_grow.specs.Rounds.{AreLiveInOrder}
 use Rattle.ov_grow.specs.Turns.{Arrives, IsDelivered, MayBeRepeated, SenderIsTold, Turn, TurnsUpTo}
-use Rattle.ov_grow.specs.Code.Standing.{AllLive, AreBorn, BornIn}
+use Rattle.ov_grow.specs.Code.Standing.{AllLive, AreBorn, BornIn, MayBear}
 use Rattle.ov_grow.specs.declared.phase_rules.PhaseRules.{PhaseRules}
 use Rattle.ov_grow.proofs.Made.{MakesNone, none_made}
+use Rattle.ov_grow.proofs.SameParams.{does_params}
 use Rattle.ov_grow.proofs.Turning.{whose_same}
 
 -- who lives goes on living, nobody is born, as many were born, and nobody has made a broadcast more
@@ -43,8 +49,9 @@ pub record KeepsNodes (m n : map.FinMap nat_cmp Member) : Type 0 where
   pub made : (a : ℕ) (q : PeerState) → map.get n a ≡ Some (Live q)
       → (p : PeerState) × (map.get m a ≡ Some (Live p)) × (q.tree.made ≤ p.tree.made)
 
--- the same of where growing stands, and the journal has more entries
+-- the same of where growing stands, the parameters are the same, and the journal has more entries
 pub record Keeps (s u : Growth) : Type 0 where
+  pub params : u.world.net.params ≡ s.world.net.params
   pub nodes : KeepsNodes s.world.net.nodes u.world.net.nodes
   pub more : List Entry
   pub journal : u.world.journal ≡ s.world.journal ++ more
@@ -68,6 +75,7 @@ nodes_trans m n k one two = record {
 
 pub keeps_same : (s u : Growth) → u.world ≡ s.world → Keeps s u
 keeps_same s u same = record {
+  params = ap (λ w. w.net.params) same;
   nodes = same_nodes s.world.net.nodes u.world.net.nodes (ap (λ w. w.net.nodes) same);
   more = [];
   journal = ap (λ w. w.journal) same ∙ sym (append-nil s.world.journal);
@@ -75,6 +83,7 @@ keeps_same s u same = record {
 
 pub keeps_trans : (s t u : Growth) → Keeps s t → Keeps t u → Keeps s u
 keeps_trans s t u one two = record {
+  params = two.params ∙ one.params;
   nodes = nodes_trans s.world.net.nodes t.world.net.nodes u.world.net.nodes one.nodes two.nodes;
   more = one.more ++ two.more;
   journal = two.journal
@@ -82,7 +91,12 @@ keeps_trans s t u one two = record {
 }
 
 did_keeps : (s u : Growth) (what : Act) → Does s what u → KeepsNodes s.world.net.nodes u.world.net.nodes → Keeps s u
-did_keeps s u what did nodes = record { nodes = nodes; more = did.entry ∷ []; journal = did.step.journal }
+did_keeps s u what did nodes = record {
+  params = does_params s u what did;
+  nodes = nodes;
+  more = did.entry ∷ [];
+  journal = did.step.journal;
+}
 
 pub lives_still : (here : Bool) (p q : PeerState) (o : Option Member) → o ≡ Some (Live p)
     → (x : PeerState) × (cond here (Some (Live q)) o ≡ Some (Live x))
@@ -251,6 +265,22 @@ born_keeps n s u keeps born = record {
 
 pub born_turns : (rules : PhaseRules) (pace n : ℕ) (s u : Growth) → TurnsUpTo rules pace s u → AreBorn n s → AreBorn n u
 born_turns rules pace n s u turns = born_keeps n s u (turns_keep rules pace s u turns)
+
+-- as many nodes as an overlay may be grown with may be born in a world of the scale that they need
+pub room_for : (n : ℕ) → n ≤ most_nodes → n ≤ most_born_at (scale_for n)
+room_for n most = by (nat_lt (most_born_at Profile) n) refl
+  where
+    by : (b : Bool) → nat_lt (most_born_at Profile) n ≡ b → n ≤ most_born_at (if b then Large else Profile)
+    by true is = most
+    by false is = grind (arith, nat_tests)
+
+-- turns and births leave how many may be born
+pub bear_turns : (rules : PhaseRules) (pace n : ℕ) (s u : Growth) → TurnsUpTo rules pace s u → MayBear n s → MayBear n u
+bear_turns rules pace n s u turns may =
+    subst (λ p. n ≤ most_world_nodes p) (sym (turns_keep rules pace s u turns).params) may
+
+pub bear_more : (n : ℕ) (s u : Growth) (what : Act) → Does s what u → MayBear n s → MayBear n u
+bear_more n s u what did may = subst (λ p. n ≤ most_world_nodes p) (sym (does_params s u what did)) may
 
 -- nobody was born yet
 pub none_born : (s : Growth) → s.world.net.nodes ≡ map.empty → AreBorn 0 s

@@ -25,6 +25,7 @@ pub mod NoBroadcast
 pub mod NoPhase
 pub mod NoGrowth
 pub mod Full
+pub mod SameParams
 pub mod Keeping
 pub mod LookingOn
 pub mod Made

@@ -1,6 +1,10 @@
 -- How an overlay is grown, that its options alone decide what is written, and that a log changes nothing else. Chosen
 -- here.
-use Rattle.std.specs.Prelude.{◌≡◌, ◌⊎◌, ℕ, Bool, if◌then◌else◌, List, [], Some, None}
+use Rattle.std.specs.Prelude.{◌≡◌, ◌⊎◌, ℕ, nat_lt, Bool, if◌then◌else◌, List, [], Some, None}
+use Rattle.ov_ids.specs.ParamsState.{ParamsState}
+use Rattle.ov_ids.specs.Scales.{most_born_at}
+use Rattle.ov_ids.specs.declared.world_scale.Scale.{Scale}
+use Rattle.ov_ids.specs.declared.world_scale.Scale.TheVariants.{Profile, Large}
 use Rattle.ov_net.specs.World.{WorldState, opening_world}
 use Rattle.ov_script.specs.Scripts.{opening}
 use Rattle.ov_grow_options.specs.CommandLine.{command_line}
@@ -13,12 +17,20 @@ use Rattle.ov_grow.specs.declared.fault.GrowFault.{GrowFault}
 use Rattle.ov_grow.specs.declared.fault.GrowFault.TheVariants.{OutOfMemory}
 use Rattle.ov_grow.specs.declared.phase_moment_and_deliveries.PhaseEnd.{PhaseEnd}
 
+-- the scale of a world in which so many nodes are born: the profile's, if as many may be born there
+abbrev pub scale_for : ℕ → Scale
+scale_for nodes = if nat_lt (most_born_at Profile) nodes then Large else Profile
+
+-- the parameters of the nodes of an overlay, and the scale that as many nodes need
+abbrev pub params_for : GrowOptions → ParamsState
+params_for o = record o.params { scale = scale_for o.nodes }
+
 -- where growing begins: with the command as a comment, the parameters and the seed, and a world in which nothing
 -- happened. No log of broadcasts is kept
 abbrev pub beginning : GrowOptions → Growth
 beginning o = record {
-  text = opening (command_line o) o.params o.seed;
-  world = opening_world o.params;
+  text = opening (command_line o) (params_for o) o.seed;
+  world = opening_world (params_for o);
   choices = choices_of o.seed;
   log = None;
 }

@@ -6,7 +6,7 @@ ghost use Rattle.ov_net.specs.Net.{IsGone};
 ghost use Rattle.ov_grow.specs.Replay.{Replays};
 ghost use Rattle.ov_script.specs.WrittenLines.{comment_line};
 ghost use Rattle.ov_grow.specs.Growth.{AreLive, Does, IsLive, Writes};
-ghost use Rattle.ov_grow.specs.Growing.{begins};
+ghost use Rattle.ov_grow.specs.Growing.{begins, params_for, scale_for};
 ghost use Rattle.ov_grow.specs.BroadcastLog.{made_by, next_id};
 ghost use Rattle.ov_script.specs.Acts.{event_of};
 ghost use Rattle.ov_grow.specs.Code.Standing.{Goes, IsNoWay, IsRefusedAct, growth_of};
@@ -17,7 +17,7 @@ use crate::core_recorded_as_script::{Recorded, Recording};
 use crate::fault::GrowFault;
 use crate::random_choices::Choices;
 use ov_grow_options::GrowOptions;
-use ov_ids::{MsgId, NodeId, OutOfMemory};
+use ov_ids::{MsgId, NodeId, OutOfMemory, Params, Scale};
 use ov_net::World;
 use ov_script::Act;
 use std::alloc::Global;
@@ -42,9 +42,11 @@ impl Growing {
     ) -> Result<Growing, OutOfMemory>
         ensures begins { IfOk result (λ g. growth_of g ≡ begins logged options.now) }
         ensures unborn { IfOk result (λ g. g.recording.core.world.net.nodes ≡ map.empty) }
+        ensures params { IfOk result (λ g. g.recording.core.world.net.params ≡ params_for options.now) }
     {
         let heading = options.to_string(alloc)?;
-        let recording = Recording::new(alloc, options.params, options.seed, heading.as_str())?;
+        let params = params_for(options);
+        let recording = Recording::new(alloc, params, options.seed, heading.as_str())?;
         let choices = Choices::new(options.seed);
         let log = BroadcastLog::new(alloc, logged);
         Ok(Growing {
@@ -158,4 +160,21 @@ impl Growing {
         } = self;
         recording.finish()
     }
+}
+
+/// The parameters of the nodes of an overlay, and the scale that as many nodes need: the profile's for up to 256 nodes.
+fn params_for(options: &GrowOptions) -> Params
+    ensures { result ≡ params_for options.now }
+{
+    options.params.with_scale(scale_for(options.nodes.get()))
+}
+
+/// The scale of a world in which so many nodes are born: the profile's, if as many may be born there.
+fn scale_for(nodes: u32) -> Scale
+    ensures { result ≡ scale_for nodes }
+{
+    if nodes as usize > Scale::Profile.most_born() {
+        return Scale::Large;
+    }
+    Scale::Profile
 }

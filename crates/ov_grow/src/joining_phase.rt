@@ -1,9 +1,9 @@
 ghost use Rattle.std.specs.Prelude.{◌≡◌, ◌-◌, IfErr, OnOk};
 ghost use Rattle.std.specs.FinMap.{empty};
-ghost use Rattle.ov_grow_options.specs.Limits.{MayBeGrown};
 ghost use Rattle.ov_grow.specs.Faults.{IsFull};
+ghost use Rattle.ov_grow.specs.Growing.{params_for};
 ghost use Rattle.ov_grow.specs.Phases.{Births, Join, joining, turns_between};
-ghost use Rattle.ov_grow.specs.Code.Standing.{AreBorn, Goes, IsNoWay, growth_of};
+ghost use Rattle.ov_grow.specs.Code.Standing.{AreBorn, Goes, IsNoWay, MayBear, growth_of};
 
 use crate::fault::GrowFault;
 use crate::growth_in_progress::Growing;
@@ -18,7 +18,8 @@ const MOST_TURNS: u32 = 1000;
 impl Growing {
     /// Nodes join. None may be born before.
     pub(crate) fn join(&mut self, options: &GrowOptions) -> Result<(), GrowFault>
-        requires { self.old.recording.core.world.net.nodes ≡ empty }
+        requires unborn { self.old.recording.core.world.net.nodes ≡ empty }
+        requires params { self.old.recording.core.world.net.params ≡ params_for options.now }
         ensures goes { OnOk result (Goes (Join options.now) self.old self.new) }
         ensures refused { IfErr result (IsNoWay (Join options.now) self.old) }
         ensures full { IfErr result IsFull }
@@ -32,7 +33,7 @@ impl Growing {
 
     /// The nodes from 2 on are born, and there are turns before each birth. Only node 1 may be born before.
     fn births(&mut self, nodes: u32, pace: u32, rules: &PhaseRules) -> Result<(), GrowFault>
-        requires few { MayBeGrown nodes }
+        requires few { MayBear nodes (growth_of self.old) }
         requires born { AreBorn 1 (growth_of self.old) }
         ensures goes { OnOk result (Goes (Births rules.now pace 2 (nodes - 1)) self.old self.new) }
         ensures refused { IfErr result (IsNoWay (Births rules.now pace 2 (nodes - 1)) self.old) }

@@ -8,6 +8,7 @@ use Rattle.ov_peer.specs.PeerState.{PeerState}
 use Rattle.ov_even.specs.Answer.{IsAnswer}
 use Rattle.ov_plum.specs.PlumState.{most_broadcasts}
 use Rattle.ov_net.specs.Journal as journal
+use Rattle.ov_net.specs.Limits.{most_world_nodes}
 use Rattle.ov_net.specs.Net.{Net, IsGone, LivesAs}
 use Rattle.ov_net.specs.Refusals.{IsRefusal}
 use Rattle.ov_net.specs.declared.fault.NetFault.{NetFault}
@@ -92,6 +93,10 @@ pub record BornIn (n : ℕ) (nodes : map.FinMap nat_cmp Member) : Type 0 where
 -- the same of where growing stands
 abbrev pub AreBorn : ℕ → Growth → Type 0
 AreBorn n s = BornIn n s.world.net.nodes
+
+-- so many nodes may be born in all
+abbrev pub MayBear : ℕ → Growth → Type 0
+MayBear n s = n ≤ most_world_nodes s.world.net.params
 
 -- no node has made more broadcasts than so many
 abbrev pub HaveMade : ℕ → Growth → Type 0

@@ -1,6 +1,5 @@
 use Rattle.std.proofs.Common.{◌≡◌, ◌<◌, ◌≤◌, ◌+◌, ◌-◌, ◌∙◌, suc, Some, refl, sym, arith, subst}
-use Rattle.ov_ids.specs.Scales.{most_born_at}
-use Rattle.ov_ids.specs.declared.world_scale.Scale.TheVariants.{Profile}
+use Rattle.ov_net.specs.Limits.{most_world_nodes}
 use Rattle.ov_script.specs.declared.recordable_event.Act.TheVariants as act
 use Rattle.ov_grow.specs.Growth.{Does}
 use Rattle.ov_grow.specs.Turns.{TurnsUpTo}
@@ -10,7 +9,7 @@ use Rattle.ov_grow.specs.declared.growth_in_progress.Growing.{Growing}
 use Rattle.ov_grow.proofs.Going.{IsOn, chosen, no_way_by, on_all, on_begun, on_nowhere, passes_on}
 use Rattle.ov_grow.specs.Faults.{IsFull}
 use Rattle.ov_grow.proofs.Full.{next_born_full}
-use Rattle.ov_grow.proofs.Keeping.{born_turns, one_born}
+use Rattle.ov_grow.proofs.Keeping.{bear_more, bear_turns, born_turns, one_born}
 use Rattle.ov_grow.proofs.NoJoin.{birth_next, births_begin, births_left}
 use Rattle.ov_grow.proofs.Ways.{births_end, births_more}
 use Rattle.ov_grow.proofs.growth_in_progress.Growing.births.Goals as goal
@@ -24,6 +23,7 @@ loop-id-init c =
       subst (λ k. IsOn (Births r p 2 (c.args.nodes - 1)) (Births r p 2 k) b b) (sym all)
           (on_begun (Births r p 2 (c.args.nodes - 1)) b),
       c.requires.born,
+      c.requires.few,
     )
 
 pub returns-in_err-turns-clause-refused : goal.returns-in_err-turns-clause-refused
@@ -94,6 +94,9 @@ loop-id-preserved c =
       subst (λ k. AreBorn k (growth_of w)) after
           (one_born (id - 1) c.new.result (Some c.new-in-loop-id.result) (growth_of v) (growth_of w) born
           (c.new.ensures ∙ before) c.in_ok-act.ensures.goes.way),
+      bear_more c.args.nodes (growth_of v) (growth_of w) (act.Boot c.new.result (Some c.new-in-loop-id.result))
+          c.in_ok-act.ensures.goes.way (bear_turns r p c.args.nodes (growth_of s) (growth_of t)
+          c.in_ok-turns.ensures.goes.way c.loop-id.invariant.2),
     )
 
 pub returns-in_err-act-clause-full : goal.returns-in_err-act-clause-full
@@ -111,7 +114,9 @@ returns-in_err-act-clause-full c =
     let contact : c.new-in-loop-id.result ≡ 1 + c.one_of.result = c.new-in-loop-id.ensures in
     let least : 1 ≤ c.new-in-loop-id.result = omega (arith, contact) in
     let most : c.new-in-loop-id.result ≤ id - 1 = omega (arith, contact, c.one_of.ensures.below) in
-    let few : id - 1 < most_born_at Profile = omega (arith, c.requires.few) in
+    let may = bear_turns r p c.args.nodes (growth_of s) (growth_of t) c.in_ok-turns.ensures.goes.way
+    c.loop-id.invariant.2 in
+    let few : id - 1 < most_world_nodes (growth_of v).world.net.params = omega (arith, may) in
     passes_on IsFull c.from_residual-in_err-act.result fault c.from_residual-in_err-act.ensures.1
     (next_born_full v (id - 1) c.new.result c.new-in-loop-id.result fault born (c.new.ensures ∙ before) least most few
     c.in_err-act.ensures.judged)
