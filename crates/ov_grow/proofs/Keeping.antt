@@ -37,6 +37,7 @@ use Rattle.ov_grow.specs.Rounds.{AreLiveInOrder}
 use Rattle.ov_grow.specs.Turns.{Arrives, IsDelivered, MayBeRepeated, SenderIsTold, Turn, TurnsUpTo}
 use Rattle.ov_grow.specs.Code.Standing.{AllLive, AreBorn, BornIn, MayBear}
 use Rattle.ov_grow.specs.declared.phase_rules.PhaseRules.{PhaseRules}
+use Rattle.std.proofs.lemmas.Bool.Decides.{nat_tests}
 use Rattle.ov_grow.proofs.Made.{MakesNone, none_made}
 use Rattle.ov_grow.proofs.SameParams.{does_params}
 use Rattle.ov_grow.proofs.Turning.{whose_same}
