@@ -40,7 +40,8 @@ fn boot_by_all<N: HallName + Send + Sync, R: Threads + Wait + Abort + Sync>(
     };
     let passes = boot_by_each(rt, &hall, passes)?;
     let whole = hall.unite(passes);
-    assert_eq!(rt; whole.core().world().graph().nodes().len(), 64);
+    let live = whole.core().world().live_nodes()?;
+    assert_eq!(rt; live.len(), 64);
     let all = whole.close();
     assert!(rt; are_own(all.core.world().journal(), &all.entry_drivers));
     Ok(())
