@@ -4,9 +4,11 @@ ghost use Rattle.ov_fans.specs.Pieces.{IsPiece, IsGood};
 ghost use Rattle.ov_fans.specs.Cuts.{IsRight, IsParted};
 ghost use Rattle.ov_fans.specs.Theorems.{IsNoCut};
 
+use crate::group_by_places_in_graph::SettlerGroup;
 use crate::piece::Piece;
 use crate::piece_result::{Parting, Settled};
 use crate::settler_of_width::WideSettler;
+use ov_flow::FlowRoom;
 use ov_graph::Graph;
 use ov_graph::bit_rows::{ALL_WORDS, WORDS};
 use ov_ids::{NodeId, OutOfMemory};
@@ -24,7 +26,7 @@ pub struct Settler<'g> {
 #[derive(Drop)]
 enum Kept<'g> {
     Few(WideSettler<'g, WORDS>),
-    Many(WideSettler<'g, ALL_WORDS>),
+    Many(Box<WideSettler<'g, ALL_WORDS>>),
 }
 
 impl<'g> Model for Settler<'g> {
@@ -54,7 +56,9 @@ impl<'g> Settler<'g> {
             });
         }
         prove!(graph.nodes().len() <= Graph::MOST_OF_ANY);
-        let many = WideSettler::new(alloc, graph, group)?;
+        let group = SettlerGroup::new(alloc, graph, group)?;
+        let room = FlowRoom::new(alloc, graph.nodes().len())?;
+        let many = Box::new(alloc, WideSettler::in_room(alloc, group, room))?;
         Ok(Settler {
             kept: Kept::Many(many),
         })

@@ -15,7 +15,7 @@ use crate::piece::Piece;
 use crate::piece_net::{aim_for, is_linked_pair};
 use crate::piece_result::{Found, Parting, Settled};
 use crate::short_paths::has_short_paths;
-use ov_flow::{CutRows, Flow};
+use ov_flow::{CutRows, Flow, FlowRoom};
 use ov_graph::Graph;
 use ov_ids::{NodeId, OutOfMemory};
 use ov_split::SplitNet;
@@ -53,9 +53,25 @@ impl<'g, const W: usize> WideSettler<'g, W> {
         ensures { IfOk result (λ s. s ≡ record { graph = graph.now; members = group.now }) }
     {
         let group = SettlerGroup::new(alloc, graph, group)?;
-        let net = SplitNet::new(graph, None, group.place_in_graph(1), [0; W]);
-        let flow = Flow::new(alloc, net)?;
-        Ok(WideSettler { group, flow, alloc })
+        let room = FlowRoom::new(alloc, graph.nodes().len())?;
+        Ok(WideSettler::in_room(alloc, group, room))
+    }
+
+    /// Settles pieces of this graph and group, with the search's buffers in this room.
+    pub(crate) fn in_room(
+        alloc: Global,
+        group: SettlerGroup<'g, W>,
+        room: FlowRoom<W>,
+    ) -> WideSettler<'g, W>
+        requires { room ≡ length group.graph.nodes }
+        ensures { result ≡ group.entry }
+    {
+        let net = SplitNet::new(group.graph(), None, group.place_in_graph(1), [0; W]);
+        WideSettler {
+            group,
+            flow: Flow::in_room(net, room),
+            alloc,
+        }
     }
 
     /// Settles a piece. See `Settler::settle`.

@@ -3,15 +3,15 @@ ghost use Rattle.std.specs.Prelude.{◌≡◌, ◌<◌, [], length, false, IfOk,
 ghost use Rattle.ov_split.specs.SplitNetState.{SplitNetState};
 ghost use Rattle.ov_split.specs.Places.{net_by_place};
 ghost use Rattle.ov_flow.specs.Code.Reached.{IsTreeOf};
-ghost use Rattle.ov_flow.specs.Code.Held.{IsReady, HasWorkRoom, IsWorkOf, IsSame, IsLonger, IsAtEnd};
+ghost use Rattle.ov_flow.specs.Code.Held.{IsReady, HasWorkRoom, IsFreshRoom, IsWorkOf, IsSame, IsLonger, IsAtEnd};
 
 use crate::layered_walks::take_more;
-use crate::layers::{Layers, new_layers};
+use crate::layers::{LayerRoom, Layers, layers_in, new_layer_room};
 use crate::one_link_paths::take_direct;
 use crate::path_search::search;
 use crate::path_table::replace_paths;
 use crate::place_table::PlaceTable;
-use crate::search_tree::{Tree, new_tree};
+use crate::search_tree::{Tree, TreeRoom, new_tree_room, tree_in};
 use crate::two_link_paths::take_two_links;
 use crate::walk_augmentation::{Hop, walk_back};
 use ov_split::SplitNet;
@@ -29,19 +29,47 @@ pub(crate) struct Work<const W: usize> {
     pub layers: Layers<W>,
 }
 
-/// Allocates the buffers for nets with this many places. No path is held.
-pub(crate) fn new_work<const W: usize>(alloc: Global, places: usize) -> Result<Work<W>, AllocError>
-    ensures work { IfOk result (λ w. (n : SplitNetState) → length n.graph.nodes ≡ places → IsWorkOf n w) }
-    ensures empty { IfOk result (λ w. w.ends.items ≡ []) }
+/// What the buffers allocate. It is small, whatever `W` is, so that it may be the value of a `Result`.
+#[derive(Drop)]
+pub(crate) struct WorkRoom<const W: usize> {
+    pub tree: TreeRoom,
+    pub hops: Vec<Hop>,
+    pub from: PlaceTable,
+    pub next: PlaceTable,
+    pub ends: Vec<u16>,
+    pub layers: LayerRoom<W>,
+}
+
+/// Allocates the room of the buffers for nets with this many places.
+pub(crate) fn new_work_room<const W: usize>(
+    alloc: Global,
+    places: usize,
+) -> Result<WorkRoom<W>, AllocError>
+    ensures { IfOk result (IsFreshRoom places) }
 {
-    Ok(Work {
-        tree: new_tree(alloc, places)?,
+    Ok(WorkRoom {
+        tree: new_tree_room(alloc, places)?,
         hops: Vec::with_capacity(alloc, places)?,
         from: PlaceTable::new(alloc, places)?,
         next: PlaceTable::new(alloc, places)?,
         ends: Vec::with_capacity(alloc, places)?,
-        layers: new_layers(alloc, places)?,
+        layers: new_layer_room(alloc, places)?,
     })
+}
+
+/// Buffers in this room. No path is held.
+pub(crate) fn work_in<const W: usize>(room: WorkRoom<W>) -> Work<W>
+    ensures work { (n : SplitNetState) → IsFreshRoom (length n.graph.nodes) room.entry → IsWorkOf n result }
+    ensures empty { room.entry.ends.items ≡ [] → result.ends.items ≡ [] }
+{
+    Work {
+        tree: tree_in(room.tree),
+        hops: room.hops,
+        from: room.from,
+        next: room.next,
+        ends: room.ends,
+        layers: layers_in(room.layers),
+    }
 }
 
 /// Drops all paths that are held.

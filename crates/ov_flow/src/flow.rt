@@ -3,8 +3,9 @@ ghost use Rattle.ov_graph.specs.Paths.{node_at};
 ghost use Rattle.ov_split.specs.SplitNetState.{IsFanOf};
 ghost use Rattle.ov_flow.specs.Flow.{FlowState, IsFullBy, IsAugmentation, ArePlaces};
 
-use crate::augmenting_paths::{Work, augment, new_work, settle};
+use crate::augmenting_paths::{Work, augment, settle, work_in};
 use crate::flat_paths::{PlacePaths, write_paths};
+use crate::flow_room::FlowRoom;
 use crate::search_result::{Augmentation, CutRows, stuck_at};
 use ov_ids::OutOfMemory;
 use ov_split::SplitNet;
@@ -39,8 +40,21 @@ impl<'g, const W: usize> Flow<'g, W> {
     pub fn new(alloc: Global, net: SplitNet<'g, W>) -> Result<Flow<'g, W>, OutOfMemory>
         ensures { IfOk result (λ f. f ≡ record { net = net.entry; held = 0 }) }
     {
-        let work = new_work(alloc, net.places())?;
-        Ok(Flow { net, work, alloc })
+        let room = FlowRoom::new(alloc, net.places())?;
+        Ok(Flow::in_room(net, room))
+    }
+
+    /// Makes the buffers for searches of this net, and of others of its graph, in room that is there. No path is held.
+    pub fn in_room(net: SplitNet<'g, W>, room: FlowRoom<W>) -> Flow<'g, W>
+        requires { room ≡ length net.graph.nodes }
+        ensures { result ≡ record { net = net.entry; held = 0 } }
+    {
+        prove!(net.places() == room.work.from.len());
+        Flow {
+            net,
+            alloc: room.alloc,
+            work: work_in(room.work),
+        }
     }
 
     /// How many paths are held.

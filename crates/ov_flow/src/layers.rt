@@ -27,17 +27,32 @@ pub(crate) struct Layers<const W: usize> {
     pub onward: PlaceTable,
 }
 
-/// No layers, with room for `MOST_LAYERS`, for nets with this many places.
-pub(crate) fn new_layers<const W: usize>(
+/// What layers allocate.
+#[derive(Drop)]
+pub(crate) struct LayerRoom<const W: usize> {
+    pub links: Vec<[u64; W]>,
+    pub onward: PlaceTable,
+}
+
+/// Room for `MOST_LAYERS` layers, for nets with this many places.
+pub(crate) fn new_layer_room<const W: usize>(
     alloc: Global,
     places: usize,
-) -> Result<Layers<W>, AllocError> {
-    Ok(Layers {
+) -> Result<LayerRoom<W>, AllocError> {
+    Ok(LayerRoom {
         links: Vec::with_capacity(alloc, MOST_LAYERS)?,
-        backs: [0; W],
-        visited: [0; W],
         onward: PlaceTable::new(alloc, places)?,
     })
+}
+
+/// No layers, in this room.
+pub(crate) fn layers_in<const W: usize>(room: LayerRoom<W>) -> Layers<W> {
+    Layers {
+        links: room.links,
+        backs: [0; W],
+        visited: [0; W],
+        onward: room.onward,
+    }
 }
 
 /// Writes the layers of a search that found a target. The walk to this target is taken already, so its nodes are

@@ -5,7 +5,7 @@ ghost use Rattle.ov_split.specs.SplitNetState.{SplitNetState};
 ghost use Rattle.ov_split.specs.Code.Residual.{Table};
 ghost use Rattle.ov_split.specs.Places.{net_by_place};
 ghost use Rattle.ov_flow.specs.Code.Reached.{IsStepBy, IsGrown, IsMore, IsClean};
-ghost use Rattle.ov_flow.specs.Code.Held.{IsReady, HasTreeRoom, HasNodeRoom};
+ghost use Rattle.ov_flow.specs.Code.Held.{IsReady, IsRoomFor, HasTreeRoom, HasNodeRoom};
 
 use ov_graph::bit_rows::{has, put};
 use ov_split::SplitNet;
@@ -22,17 +22,36 @@ pub(crate) struct Tree<const W: usize> {
     pub seen: [u64; W],
 }
 
-/// An empty tree with room for this many nodes.
-pub(crate) fn new_tree<const W: usize>(alloc: Global, room: usize) -> Result<Tree<W>, AllocError>
-    ensures { IfOk result (HasTreeRoom room) }
+/// What a tree allocates.
+#[derive(Drop)]
+pub(crate) struct TreeRoom {
+    pub order: Vec<u16>,
+    pub parents: Vec<u16>,
+    pub ways: Vec<Option<u16>>,
+}
+
+/// Room for this many nodes.
+pub(crate) fn new_tree_room(alloc: Global, nodes: usize) -> Result<TreeRoom, AllocError>
+    ensures { IfOk result (IsRoomFor nodes) }
 {
-    Ok(Tree {
-        order: Vec::with_capacity(alloc, room)?,
-        parents: Vec::with_capacity(alloc, room)?,
-        ways: Vec::with_capacity(alloc, room)?,
+    Ok(TreeRoom {
+        order: Vec::with_capacity(alloc, nodes)?,
+        parents: Vec::with_capacity(alloc, nodes)?,
+        ways: Vec::with_capacity(alloc, nodes)?,
+    })
+}
+
+/// An empty tree in this room.
+pub(crate) fn tree_in<const W: usize>(room: TreeRoom) -> Tree<W>
+    ensures { (nodes : ℕ) → IsRoomFor nodes room → HasTreeRoom nodes result }
+{
+    Tree {
+        order: room.order,
+        parents: room.parents,
+        ways: room.ways,
         reached: [0; W],
         seen: [0; W],
-    })
+    }
 }
 
 /// The set without places.

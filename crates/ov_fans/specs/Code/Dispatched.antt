@@ -5,4 +5,4 @@ use Rattle.ov_fans.specs.declared.piece_solver.Kept.TheVariants.{Few, Many}
 
 abbrev pub settler_of : Kept → SettlerState
 settler_of (Few s) = s
-settler_of (Many s) = s
+settler_of (Many s) = s.value

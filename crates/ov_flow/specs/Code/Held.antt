@@ -1,5 +1,5 @@
 -- The paths that are held between two searches, and the buffers of a search.
-use Rattle.std.specs.Prelude.{◌≡◌, ℕ, ◌+◌, ◌*◌, ◌<◌, ◌≤◌, length, vec_len, vec_capacity, Some}
+use Rattle.std.specs.Prelude.{◌≡◌, ℕ, ◌+◌, ◌*◌, ◌<◌, ◌≤◌, [], length, vec_len, vec_capacity, Some, None}
 use Rattle.ov_ids.specs.Members.{Has}
 use Rattle.ov_graph.specs.Links.{Linked}
 use Rattle.ov_graph.specs.Row.{word_bits}
@@ -10,7 +10,9 @@ use Rattle.ov_split.specs.Placed.{IsPlaced}
 use Rattle.ov_flow.specs.Code.Reached.{IsGrown, IsSwept}
 use Rattle.ov_flow.specs.Code.Walked.{table_of}
 use Rattle.ov_flow.specs.declared.search_tree.Tree.{Tree}
+use Rattle.ov_flow.specs.declared.search_tree.TreeRoom.{TreeRoom}
 use Rattle.ov_flow.specs.declared.augmenting_paths.Work.{Work}
+use Rattle.ov_flow.specs.declared.augmenting_paths.WorkRoom.{WorkRoom}
 
 -- the net can be searched by place, and sets of W words have room for its places
 pub record IsReady (W : ℕ) (n : SplitNetState) : Type 0 where
@@ -20,6 +22,10 @@ pub record IsReady (W : ℕ) (n : SplitNetState) : Type 0 where
 -- the tree has room for this many nodes
 abbrev pub HasTreeRoom : {W : ℕ} → ℕ → Tree W → Type 0
 HasTreeRoom wide t = (wide ≤ vec_capacity t.order) × (wide ≤ vec_capacity t.parents) × (wide ≤ vec_capacity t.ways)
+
+-- a tree in this room has room for this many nodes
+abbrev pub IsRoomFor : ℕ → TreeRoom → Type 0
+IsRoomFor wide t = (wide ≤ vec_capacity t.order) × (wide ≤ vec_capacity t.parents) × (wide ≤ vec_capacity t.ways)
 
 -- the tree has room for one more node
 abbrev pub HasNodeRoom : {W : ℕ} → Tree W → Type 0
@@ -42,6 +48,16 @@ Holds n w = IsFlow (net_by_place n) (table_of w.from) w.ends.items
 pub record IsWorkOf {W : ℕ} (n : SplitNetState) (w : Work W) : Type 0 where
   pub room : HasWorkRoom (length n.graph.nodes) w
   pub flow : Holds n w
+
+-- each table has `wide` places, each other list has room for as many items, and no path is held
+pub record IsFreshRoom {W : ℕ} (wide : ℕ) (r : WorkRoom W) : Type 0 where
+  pub from : length r.from ≡ wide
+  pub next : length r.next ≡ wide
+  pub tree : IsRoomFor wide r.tree
+  pub hops : wide ≤ vec_capacity r.hops
+  pub ends : wide ≤ vec_capacity r.ends
+  pub no_end : r.ends.items ≡ []
+  pub no_place : (v : ℕ) → table_of r.from v ≡ None
 
 -- the same, but the table may have cycles beside the paths
 pub record IsOpenWorkOf {W : ℕ} (n : SplitNetState) (w : Work W) : Type 0 where
