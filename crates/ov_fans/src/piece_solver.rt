@@ -22,7 +22,8 @@ pub struct Settler<'g> {
     kept: Kept<'g>,
 }
 
-/// With sets of places that are as wide as a graph of up to 1,024 nodes asks, or as any graph does.
+/// With sets of places that are as wide as a graph of up to 1,024 nodes asks, or as any graph does. The wide sets take 28
+/// KB together, so they lie in a box.
 #[derive(Drop)]
 enum Kept<'g> {
     Few(WideSettler<'g, WORDS>),

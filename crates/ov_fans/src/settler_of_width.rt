@@ -57,7 +57,8 @@ impl<'g, const W: usize> WideSettler<'g, W> {
         Ok(WideSettler::in_room(alloc, group, room))
     }
 
-    /// Settles pieces of this graph and group, with the search's buffers in this room.
+    /// Settles pieces of this graph and group, with the search's buffers in this room. Nothing here fails, since a
+    /// `Result` round wide sets would move all of them on the stack.
     pub(crate) fn in_room(
         alloc: Global,
         group: SettlerGroup<'g, W>,
