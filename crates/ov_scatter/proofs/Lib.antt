@@ -1,5 +1,5 @@
 pub mod Matched
 pub mod Keyed
 pub mod Sorted
-pub mod Upward
+pub mod Above
 pub mod Copied

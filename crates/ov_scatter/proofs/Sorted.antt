@@ -1,95 +1,87 @@
--- Pairs that are sorted, of which each is left once.
-use Rattle.std.proofs.Common.{◌≡◌, ◌∙◌, ◌↔◌, ◌<◌, ◌&&◌, inl, inr, List, [], ◌∷◌, ℕ, zero, suc, Bool, true, false}
-use Rattle.std.proofs.Common.{sym, ap, ap₂, subst, refl, arith, eqb-true, nat_cmp, nat_eq, Ordering, Less, Equal, Greater}
-use Rattle.std.proofs.lemmas.Cmp.{nat_cmp_total, by_ranked, on_total, ranked, then_total, nat_eq_equiv, on_equiv, and_equiv}
+-- Lists that are sorted.
+use Rattle.std.proofs.Common.{◌≡◌, ◌∙◌, ◌↔◌, ◌<◌, ◌≤◌, ◌+◌, inl, inr, List, [], ◌∷◌, ℕ, zero, suc, sym, subst}
+use Rattle.std.proofs.Common.{refl, arith, eqb-true, length, nat_cmp, nat_eq, Less, Equal, Greater}
+use Rattle.std.proofs.lemmas.Cmp.{nat_cmp_total, by_ranked, ranked, nat_eq_equiv}
 use Rattle.std.proofs.lemmas.List.Kept.{Contains-dedup, Contains-from_dedup, IsStrictlySortedBy-dedup}
-use Rattle.std.proofs.lemmas.List.Sorted.{Contains-permutation, IsPermutation-sym}
+use Rattle.std.proofs.lemmas.List.Sorted.{Contains-permutation, IsPermutation-sym, length_permutation}
 use Rattle.std.proofs.lemmas.Map.Keys.{sorted_head, sorted_tail}
-use Rattle.std.specs.Cmp.{IsEquivalence, IsTotalOrder, both_tied, unsigned_ties}
+use Rattle.std.specs.Cmp.{unsigned_ties}
 use Rattle.std.specs.List.{Contains, dedup}
 use Rattle.std.specs.List.Sorted.{IsPermutation, IsSorted, IsStrictlySortedBy}
-use Rattle.std.specs.Ordering.{eq_by_cmp, ordering_then}
-use Rattle.ov_ids.specs.Members.{Has, Ordered}
+use Rattle.ov_ids.specs.Members.{Has, Ascends}
 use Rattle.ov_ids.proofs.Members.{all_from_members, all_member, has_place}
-use Rattle.ov_graph.specs.Links.{Precedes}
+use Rattle.ov_scatter.specs.Code.Keys.{IsOrder}
 
--- how the code compares two pairs
-abbrev pub order : ℕ × ℕ → ℕ × ℕ → Ordering
-order l m = ordering_then (nat_cmp l.0 m.0) (nat_cmp l.1 m.1)
+-- ---- members, as the kit says them
 
-abbrev pub same : ℕ × ℕ → ℕ × ℕ → Bool
-same l m = nat_eq l.0 m.0 && nat_eq l.1 m.1
-
-order_total : IsTotalOrder order
-order_total = then_total (on_total (λ (l : ℕ × ℕ). l.0) nat_cmp_total) (on_total (λ (l : ℕ × ℕ). l.1) nat_cmp_total)
-
-same_ties : (l m : ℕ × ℕ) → same l m ≡ eq_by_cmp order l m
-same_ties l m =
-    both_tied (nat_eq l.0 m.0) (nat_eq l.1 m.1) (nat_cmp l.0 m.0) (nat_cmp l.1 m.1) (unsigned_ties l.0 m.0)
-    (unsigned_ties l.1 m.1)
-
-same_equiv : IsEquivalence same
-same_equiv = and_equiv (on_equiv (λ (l : ℕ × ℕ). l.0) nat_eq_equiv) (on_equiv (λ (l : ℕ × ℕ). l.1) nat_eq_equiv)
-
--- pairs that count as the same are
-same_is : (l m : ℕ × ℕ) → same l m ≡ true → l ≡ m
-same_is l m e =
-    ap₂ (λ (x y : ℕ). (x, y)) (eqb-true l.0 m.0 (first (nat_eq l.0 m.0) (nat_eq l.1 m.1) e))
-    (eqb-true l.1 m.1 (second (nat_eq l.0 m.0) (nat_eq l.1 m.1) e))
-  where
-    first : (s t : Bool) → (s && t) ≡ true → s ≡ true
-    first true t e = refl
-    first false t e = e
-
-    second : (s t : Bool) → (s && t) ≡ true → t ≡ true
-    second true t e = e
-    second false t e = absurd (cc)
-
--- the pair that comes first precedes the other
-less_precedes : (l m : ℕ × ℕ) → order l m ≡ Less → Precedes l m
-less_precedes l m e =
-    by_ranked (l.0 < m.0) (l.0 ≡ m.0) (m.0 < l.0) (nat_cmp l.0 m.0) (ranked l.0 m.0 (nat_cmp l.0 m.0) refl)
-    (λ o p. inl p)
-    (λ o p. inr (p, second (sym (ap (λ x. ordering_then x (nat_cmp l.1 m.1)) o) ∙ e)))
-    (λ o p. let f : Greater ≡ Less = sym (ap (λ x. ordering_then x (nat_cmp l.1 m.1)) o) ∙ e in absurd (cc))
-  where
-    second : nat_cmp l.1 m.1 ≡ Less → l.1 < m.1
-    second e =
-        by_ranked (l.1 < m.1) (l.1 ≡ m.1) (m.1 < l.1) (nat_cmp l.1 m.1) (ranked l.1 m.1 (nat_cmp l.1 m.1) refl)
-        (λ o p. p)
-        (λ o p. let f : Equal ≡ Less = sym o ∙ e in absurd (cc))
-        (λ o p. let f : Greater ≡ Less = sym o ∙ e in absurd (cc))
-
-strict : (ls : List (ℕ × ℕ)) → IsStrictlySortedBy order ls → Ordered Precedes ls
-strict [] up = tt
-strict (l ∷ ls) up = (
-  all_from_members (Precedes l) ls
-      (λ m h. less_precedes l m (all_member (λ m. order l m ≡ Less) ls m (sorted_head order l ls up) h)),
-  strict ls (sorted_tail order l ls up),
-)
-
-pub in_order : (sorted new : List (ℕ × ℕ)) → IsSorted order sorted → new ≡ dedup same sorted → Ordered Precedes new
-in_order sorted new up is =
-    subst (Ordered Precedes) (sym is) (strict (dedup same sorted) (IsStrictlySortedBy-dedup order_total same_ties sorted up))
-
--- members, as the kit says them
-has_contains : (ls : List (ℕ × ℕ)) (l : ℕ × ℕ) → Has ls l → Contains ls l
-has_contains [] l h = absurd h
-has_contains (m ∷ ls) l h = elim h [
+has_contains : {X : Type 0} (xs : List X) (x : X) → Has xs x → Contains xs x
+has_contains [] x h = absurd h
+has_contains (y ∷ xs) x h = elim h [
   | inl e ↦ (zero, omega arith, e)
-  | inr k ↦ let r = has_contains ls l k in let low = r.1 in (suc r.0, omega (arith, low), r.2)
+  | inr k ↦ let r = has_contains xs x k in let low = r.1 in (suc r.0, omega (arith, low), r.2)
 ]
 
-contains_has : (ls : List (ℕ × ℕ)) (l : ℕ × ℕ) → Contains ls l → Has ls l
-contains_has ls l c = subst (Has ls) c.2 (has_place ls c.0 l c.1)
+contains_has : {X : Type 0} (xs : List X) (x : X) → Contains xs x → Has xs x
+contains_has xs x c = subst (Has xs) c.2 (has_place xs c.0 x c.1)
 
-pub same_members : (old sorted new : List (ℕ × ℕ)) → IsPermutation old sorted → new ≡ dedup same sorted
-    → (l : ℕ × ℕ) → Has new l ↔ Has old l
-same_members old sorted new moved is l = (
-  (λ h. contains_has old l (Contains-permutation sorted old l (IsPermutation-sym old sorted moved)
-      (Contains-from_dedup same sorted l
-      (has_contains (dedup same sorted) l (subst (λ ls. Has ls l) is h))))),
-  (λ h. subst (λ ls. Has ls l) (sym is) (contains_has (dedup same sorted) l
-      (Contains-dedup same_equiv same_is sorted l
-      (Contains-permutation old sorted l moved (has_contains old l h))))),
+-- a list in another order has the same members
+pub has_moved : {X : Type 0} (old new : List X) → IsPermutation old new → (x : X) → Has new x ↔ Has old x
+has_moved old new moved x = (
+  (λ h. contains_has old x (Contains-permutation new old x (IsPermutation-sym old new moved) (has_contains new x h))),
+  (λ h. contains_has new x (Contains-permutation old new x moved (has_contains old x h))),
 )
+
+-- ---- places
+
+pub order_moved : (n : ℕ) (old new : List (ℕ × ℕ)) → IsPermutation old new → IsOrder n old → IsOrder n new
+order_moved n old new moved s = record {
+  count = length_permutation old new moved ∙ s.count;
+  within = λ e h. s.within e ((has_moved old new moved e).0 h);
+  all = λ p low. let some = s.all p low in (some.0, (has_moved old new moved (some.0, p)).1 some.1);
+}
+
+-- ---- ids that are sorted, each left once
+
+less_below : (a b : ℕ) → nat_cmp a b ≡ Less → a < b
+less_below a b e =
+    by_ranked (a < b) (a ≡ b) (b < a) (nat_cmp a b) (ranked a b (nat_cmp a b) refl)
+    (λ o p. p)
+    (λ o p. let f : Equal ≡ Less = sym o ∙ e in absurd (cc))
+    (λ o p. let f : Greater ≡ Less = sym o ∙ e in absurd (cc))
+
+strict : (xs : List ℕ) → IsStrictlySortedBy nat_cmp xs → Ascends xs
+strict [] up = tt
+strict (x ∷ xs) up = (
+  all_from_members (λ y. x < y) xs
+      (λ y h. less_below x y (all_member (λ y. nat_cmp x y ≡ Less) xs y (sorted_head nat_cmp x xs up) h)),
+  strict xs (sorted_tail nat_cmp x xs up),
+)
+
+pub in_order : (sorted new : List ℕ) → IsSorted nat_cmp sorted → new ≡ dedup nat_eq sorted → Ascends new
+in_order sorted new up is =
+    subst Ascends (sym is)
+    (strict (dedup nat_eq sorted) (IsStrictlySortedBy-dedup nat_cmp_total unsigned_ties sorted up))
+
+pub same_members : (old sorted new : List ℕ) → IsPermutation old sorted → new ≡ dedup nat_eq sorted
+    → (x : ℕ) → Has new x ↔ Has old x
+same_members old sorted new moved is x = (
+  (λ h. (has_moved old sorted moved x).0 (contains_has sorted x
+      (Contains-from_dedup nat_eq sorted x (has_contains (dedup nat_eq sorted) x (subst (λ xs. Has xs x) is h))))),
+  (λ h. subst (λ xs. Has xs x) (sym is) (contains_has (dedup nat_eq sorted) x
+      (Contains-dedup nat_eq_equiv eqb-true sorted x
+      (has_contains sorted x ((has_moved old sorted moved x).1 h))))),
+)
+
+-- ids that ascend, from `low` on and below `end`, are no more than there are numbers between
+pub few_between : (xs : List ℕ) (low end : ℕ) → low ≤ end → Ascends xs → ((x : ℕ) → Has xs x → (low ≤ x) × (x < end))
+    → length xs + low ≤ end
+few_between [] low end le up within = omega (arith, le)
+few_between (x ∷ xs) low end le up within =
+    let at = within x (inl refl) in
+    let above = at.0 in
+    let below = at.1 in
+    let rest = few_between xs (suc x) end (omega (arith, below)) up.1
+    (λ y h. (next y (all_member (λ y. x < y) xs y up.0 h), (within y (inr h)).1)) in omega (arith, above, rest)
+  where
+    next : (y : ℕ) → x < y → suc x ≤ y
+    next y l = omega (arith, l)
