@@ -1,8 +1,10 @@
 -- The command that grows an overlay with given options.
 use Rattle.std.specs.Prelude.{ℕ, Bool, false, List, [], ◌∷◌, ◌++◌, Option, Some, None, codes, decimal, option_map}
-use Rattle.std.specs.Prelude.{if◌then◌else◌}
+use Rattle.std.specs.Prelude.{if◌then◌else◌, not, ◌&&◌}
+use Rattle.std.specs.List.{filter}
 use Rattle.std.specs.Str.{bytes_eq}
 use Rattle.ov_ids.specs.RefillNames.{refill_name}
+use Rattle.ov_grow_options.specs.Options.{default_options}
 use Rattle.ov_grow_options.specs.declared.option_table.OptionRow.{OptionRow}
 use Rattle.ov_grow_options.specs.declared.options.GrowOptions.{GrowOptions}
 use Rattle.ov_grow_options.specs.declared.options.Order.{Order}
@@ -49,17 +51,40 @@ option_values o =
 abbrev pub NamedOption : Type 0
 NamedOption = List ℕ × Option (List ℕ)
 
+-- the names of the options of growing, in the order of their table
+abbrev pub option_names : List (List ℕ)
+option_names =
+    codes "nodes" ∷ codes "active" ∷ codes "passive" ∷ codes "arwl" ∷ codes "prwl" ∷ codes "ka" ∷ codes "kp"
+    ∷ codes "ttl" ∷ codes "refill" ∷ codes "seed" ∷ codes "loss-join" ∷ codes "loss" ∷ codes "repeat" ∷ codes "order"
+    ∷ codes "pace" ∷ codes "rounds" ∷ codes "crash" ∷ codes "crash-cut" ∷ codes "heal" ∷ codes "broadcasts"
+    ∷ codes "sequential" ∷ codes "sender" ∷ codes "detect" ∷ []
+
+-- the text of a value, if it has one
+abbrev pub text_of_value : Shown → Option (List ℕ)
+text_of_value Nothing = None
+text_of_value Name = None
+text_of_value (Number number) = Some (decimal number)
+text_of_value (Rule rule) = Some (refill_name rule)
+text_of_value (Turn order) = Some (order_name order)
+
+-- options of these names, whose defaults are these values, one for each
+unfoldable pub options_named : List (List ℕ) → List Shown → List NamedOption
+options_named [] values = []
+options_named (name ∷ names) [] = []
+options_named (name ∷ names) (value ∷ values) = (name, text_of_value value) ∷ options_named names values
+
 -- the options of growing, in the order of their table
 abbrev pub named_options : List NamedOption
-named_options =
-    (codes "nodes", Some (codes "100")) ∷ (codes "active", Some (codes "5")) ∷ (codes "passive", Some (codes "30"))
-    ∷ (codes "arwl", Some (codes "6")) ∷ (codes "prwl", Some (codes "3")) ∷ (codes "ka", Some (codes "3"))
-    ∷ (codes "kp", Some (codes "4")) ∷ (codes "ttl", Some (codes "4")) ∷ (codes "refill", Some (codes "never"))
-    ∷ (codes "seed", Some (codes "0")) ∷ (codes "loss-join", Some (codes "0")) ∷ (codes "loss", Some (codes "0"))
-    ∷ (codes "repeat", Some (codes "0")) ∷ (codes "order", Some (codes "random")) ∷ (codes "pace", None)
-    ∷ (codes "rounds", Some (codes "3")) ∷ (codes "crash", Some (codes "0")) ∷ (codes "crash-cut", None)
-    ∷ (codes "heal", Some (codes "2")) ∷ (codes "broadcasts", Some (codes "0")) ∷ (codes "sequential", None)
-    ∷ (codes "sender", None) ∷ (codes "detect", None) ∷ []
+named_options = options_named option_names (option_values default_options)
+
+-- the option of this name tells settings of a sweep apart: each does but the seed, and `--crash-cut`, which is a value
+-- of `--crash`
+abbrev pub is_of_setting : List ℕ → Bool
+is_of_setting name = not (bytes_eq name (codes "seed")) && not (bytes_eq name (codes "crash-cut"))
+
+-- the names of the options that tell settings apart, in the order of their table
+abbrev pub setting_names : List (List ℕ)
+setting_names = filter is_of_setting option_names
 
 -- what a row of the table says of both
 abbrev pub name_and_default : OptionRow → NamedOption

@@ -1,7 +1,8 @@
 //! The options of growing: one table, by which arguments are read, help lists them and tips tell of them.
 
 ghost use Rattle.std.specs.Prelude.{◌≡◌, map};
-ghost use Rattle.ov_grow_options.specs.CommandLine.{is_default, name_and_default, named_options};
+ghost use Rattle.ov_grow_options.specs.CommandLine.{is_default, is_of_setting, name_and_default};
+ghost use Rattle.ov_grow_options.specs.CommandLine.{named_options};
 
 use crate::{MOST_NODES, MOST_OF_HUNDRED, MOST_ROUNDS, MOST_SHARE, MOST_TURNS};
 use ov_ids::{LONGEST_WALK, MOST_ACTIVE, MOST_PASSIVE, MOST_SAMPLED};
@@ -109,7 +110,9 @@ impl OptionRow {
 
     /// Whether it tells settings of a sweep apart: each option does but the seed, and `--crash-cut`, which is a value
     /// of `--crash`.
-    pub fn is_of_setting(&self) -> bool {
+    pub fn is_of_setting(&self) -> bool
+        ensures { result ≡ is_of_setting self.now.name.now }
+    {
         self.name != SEED.name && self.name != CRASH_CUT
     }
 

@@ -14,3 +14,4 @@ pub mod Refusing
 pub mod RoundTrip
 pub mod OneRow
 pub mod Unrefused
+pub mod Settings

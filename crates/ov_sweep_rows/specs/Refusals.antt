@@ -1,5 +1,5 @@
 -- Why a text of rows is refused.
-use Rattle.std.specs.Prelude.{◌≡◌, ◌≢◌, ◌⊎◌, ℕ, List, [], ◌∷◌, ◌++◌, length, take, drop, ⊤, Option, option_map}
+use Rattle.std.specs.Prelude.{◌≡◌, ◌≢◌, ◌<◌, ◌⊎◌, ℕ, List, [], ◌∷◌, ◌++◌, length, take, drop, ⊤, Option, option_map}
 use Rattle.std.specs.Prelude.{Some, None, slice_get, IsSome}
 use Rattle.std.specs.List.{filter}
 use Rattle.csv.specs.Machine.{next_record}
@@ -7,6 +7,7 @@ use Rattle.csv.specs.Reading.{Reached, default_config, strip_bom}
 use Rattle.csv.specs.declared.parser.State.{State}
 use Rattle.csv.specs.declared.parser.State.TheVariants as st
 use Rattle.ov_ids.specs.ParamsState.{AreWithinLimits, ParamsState}
+use Rattle.ov_sweep_rows.specs.declared.header_slips.HeaderSlip.{HeaderSlip}
 use Rattle.ov_sweep_rows.specs.declared.row.Row.{Row}
 use Rattle.ov_sweep_rows.specs.declared.row_form.RowForm.{RowForm}
 use Rattle.ov_sweep_rows.specs.declared.row_fault.FieldFault.{FieldFault}
@@ -42,6 +43,13 @@ pub record IsFieldFault (rows_have : RowForm) (fields : List (List ℕ)) (field 
   pub taken : form_at rows_have field.place ≡ Some field.takes
   pub lacks : LacksForm rows_have fields field.place field.takes
   pub first : IsSome (cells_read (take field.place (forms rows_have)) (take field.place fields))
+
+-- Fields part from the header of some form: before this place both have the same names, and this is the name that the
+-- header has there, if it goes on.
+pub record IsSlipOf (fields : List (List ℕ)) (slip : HeaderSlip) : Type 0 where
+  pub rows_have : RowForm
+  pub named : option_map column_name slip.column ≡ slice_get (columns rows_have) slip.place
+  pub alike : (i : ℕ) → i < slip.place → text_at fields i ≡ text_at (columns rows_have) i
 
 -- a text begins with the header of this form and records that say rows, or are the header once more; a record of these
 -- fields comes next

@@ -2,7 +2,7 @@ ghost use Rattle.std.specs.Prelude.{◌≡◌, ◌<◌, ◌↔◌, IsTrue, Some,
 ghost use Rattle.ov_sweep_rows.specs.Rows.{phase_name};
 ghost use Rattle.ov_sweep_rows.specs.Writing.{asks_further, has_costs, has_shape};
 
-use crate::{DeliveredShare, PhaseCosts, PhaseShape};
+use crate::{DeliveredShare, Measures, PhaseCosts, PhaseShape};
 use ov_grow_options::GrowOptions;
 
 /// The phases after each of which a run is looked at.
@@ -52,18 +52,18 @@ impl Row {
         options.sequential || options.sender.is_some() || options.detect
     }
 
-    /// Whether it is known of each phase what its broadcasts cost.
-    pub(crate) fn has_costs(&self) -> bool
-        ensures { result ≡ has_costs self.now }
+    /// What is measured of each phase: what its broadcasts cost, its shape.
+    pub(crate) fn measured(&self) -> Measures
+        ensures costs { result.costs ≡ has_costs self.now }
+        ensures shape { result.shape ≡ has_shape self.now }
     {
-        self.phases.iter().all(|phase| phase.costs.is_some())
-    }
-
-    /// Whether the shape after each phase is known.
-    pub(crate) fn has_shape(&self) -> bool
-        ensures { result ≡ has_shape self.now }
-    {
-        self.phases.iter().all(|phase| phase.shape.is_some())
+        let mut costs = true;
+        let mut shape = true;
+        for phase in &self.phases {
+            costs &= phase.costs.is_some();
+            shape &= phase.shape.is_some();
+        }
+        Measures { costs, shape }
     }
 
     /// What the run came to after a phase.

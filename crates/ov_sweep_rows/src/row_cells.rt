@@ -1,5 +1,5 @@
 //! The cells of a row, group by group, each in the order of its columns.
-ghost use Rattle.std.specs.Prelude.{◌≡◌, IfSome, Some};
+ghost use Rattle.std.specs.Prelude.{◌≡◌, ◌++◌, IfSome, Some};
 ghost use Rattle.ov_grow_options.specs.Limits.{MayBeGrown};
 ghost use Rattle.ov_ids.specs.ParamsState.{AreWithinLimits};
 ghost use Rattle.ov_sweep_rows.specs.Cells.{cell_text, crash_cell, decimals_cell, flag_cell};
@@ -55,7 +55,9 @@ pub(crate) fn further_cells(options: &GrowOptions) -> [Cell; 3]
 }
 
 /// The cells of all options of a setting: those of its columns, and then those of the further options.
-pub fn option_cells(options: &GrowOptions) -> [Cell; 21] {
+pub fn option_cells(options: &GrowOptions) -> [Cell; 21]
+    ensures { result ≡ cells_of.setting_cells options.now ++ cells_of.further_cells options.now }
+{
     let mut cells = [Cell::Empty; 21];
     let (settings, further) = cells.split_at_mut(18);
     settings.copy_from_slice(&setting_cells(options));

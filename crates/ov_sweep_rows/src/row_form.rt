@@ -1,6 +1,5 @@
 ghost use Rattle.std.specs.Prelude.{◌≡◌};
-ghost use Rattle.std.specs.List.{list_all, list_any};
-ghost use Rattle.ov_sweep_rows.specs.Writing.{asks_further, form_of_rows, form_with, has_costs, has_shape};
+ghost use Rattle.ov_sweep_rows.specs.Writing.{form_of_rows, form_with};
 
 use crate::{Measures, Row};
 
@@ -77,31 +76,15 @@ impl RowForm {
     pub fn of_rows(rows: &[Row]) -> RowForm
         ensures { result ≡ form_of_rows rows.now }
     {
-        let measures = Measures {
-            costs: !rows.is_empty() && all_priced(rows),
-            shape: !rows.is_empty() && all_shaped(rows),
-        };
-        RowForm::with(measures, any_further(rows))
+        let mut costs = !rows.is_empty();
+        let mut shape = !rows.is_empty();
+        let mut further = false;
+        for row in rows {
+            let measured = row.measured();
+            costs &= measured.costs;
+            shape &= measured.shape;
+            further |= row.asks_further();
+        }
+        RowForm::with(Measures { costs, shape }, further)
     }
-}
-
-/// Whether it is known of each row what its broadcasts cost.
-fn all_priced(rows: &[Row]) -> bool
-    ensures { result ≡ list_all has_costs rows.now }
-{
-    rows.iter().all(|row| row.has_costs())
-}
-
-/// Whether the shapes of each row are known.
-fn all_shaped(rows: &[Row]) -> bool
-    ensures { result ≡ list_all has_shape rows.now }
-{
-    rows.iter().all(|row| row.has_shape())
-}
-
-/// Whether a row asks for a further option.
-fn any_further(rows: &[Row]) -> bool
-    ensures { result ≡ list_any asks_further rows.now }
-{
-    rows.iter().any(|row| row.asks_further())
 }

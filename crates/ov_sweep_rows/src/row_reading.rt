@@ -51,7 +51,7 @@ fn rows_in(alloc: Global, text: &[u8]) -> Result<Vec<Row>, RowFault>
 }
 
 /// The records of a text, the first of which is one like the others.
-fn records_of(alloc: Global, text: &[u8]) -> ByteRecordsIntoIter<&[u8]>
+pub(crate) fn records_of(alloc: Global, text: &[u8]) -> ByteRecordsIntoIter<&[u8]>
     ensures { IsUnread text.now result.rdr result.left }
 {
     ReaderBuilder::new()
@@ -190,7 +190,7 @@ fn read_cells(alloc: Global, columns: &[Column], fields: &ByteRecord) -> Result<
 }
 
 /// The text in the column at this place; it is empty behind the last.
-fn text_at(fields: &ByteRecord, place: usize) -> &[u8]
+pub(crate) fn text_at(fields: &ByteRecord, place: usize) -> &[u8]
     ensures { result.now ≡ text_at (fields_of fields.now) place }
 {
     match fields.get(place) {
