@@ -5,9 +5,9 @@ use Rattle.std.specs.Prelude.{ℕ, ◌≤◌}
 abbrev pub IsWithin : ℕ → ℕ → ℕ → Type 0
 IsWithin low high number = (low ≤ number) × (number ≤ high)
 
--- the most nodes that may join
+-- the most nodes that may join: as many as may be born in a large world
 abbrev pub most_nodes : ℕ
-most_nodes = 256
+most_nodes = 32768
 
 -- so many nodes may join
 abbrev pub MayBeGrown : ℕ → Type 0

@@ -42,8 +42,8 @@ impl<const LOW: u32, const HIGH: u32> Within<LOW, HIGH> {
     }
 }
 
-/// The most nodes that an overlay is grown with. (Chosen here.)
-pub const MOST_NODES: u32 = 256;
+/// The most nodes that an overlay is grown with: as many as may be born in a large world. (Chosen here.)
+pub const MOST_NODES: u32 = 32_768;
 
 /// The most times of 100: each time.
 pub const MOST_OF_HUNDRED: u32 = 100;

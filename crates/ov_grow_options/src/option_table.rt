@@ -174,7 +174,7 @@ pub static OPTIONS: [OptionRow; OPTION_COUNT] = [
         limits: Some((1, MOST_NODES as u64)),
         words: &[],
         usual: Some("100"),
-        help: "1 to 256: how many nodes join",
+        help: "1 to 32768: how many nodes join",
     },
     OptionRow {
         name: "active",

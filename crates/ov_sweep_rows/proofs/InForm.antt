@@ -7,7 +7,8 @@ use Rattle.std.proofs.lemmas.List.{length-map}
 use Rattle.std.proofs.lemmas.Option.{slice_get-map}
 use Rattle.csv.specs.Writing.{default_writer, row_text}
 use Rattle.ov_grow_options.specs.declared.options.GrowOptions.{GrowOptions}
-use Rattle.ov_ids.specs.ParamsState.{AreWithinLimits}
+use Rattle.ov_ids.specs.ParamsState.{AreWithinLimits, ParamsState}
+use Rattle.ov_ids.specs.declared.world_scale.Scale.TheVariants.{Profile}
 use Rattle.ov_sweep_rows.specs.declared.cell.Cell.{Cell}
 use Rattle.ov_sweep_rows.specs.declared.cell.Cell.TheVariants as cell
 use Rattle.ov_sweep_rows.specs.declared.row.PhaseRow.{PhaseRow}
@@ -90,6 +91,22 @@ nothing_more f row = record {
   learned = λ e. flag_off f.further row.options.detect e;
   unpriced = λ e. each_changed f (λ p. p.costs ≡ None) row.phases (λ p. none_asked f.costs p.costs e);
   shapeless = λ e. each_changed f (λ p. p.shape ≡ None) row.phases (λ p. none_asked f.shape p.shape e);
+  unscaled = refl;
+}
+
+-- parameters are within their limits whatever the scale of the world is
+in_any_world : (p : ParamsState) → AreWithinLimits p → AreWithinLimits (record p { scale = Profile })
+in_any_world p within = record {
+  active_low = within.active_low;
+  active_high = within.active_high;
+  passive_low = within.passive_low;
+  passive_high = within.passive_high;
+  arwl_high = within.arwl_high;
+  prwl_high = within.prwl_high;
+  ka_high = within.ka_high;
+  kp_high = within.kp_high;
+  shuffle_ttl_low = within.shuffle_ttl_low;
+  shuffle_ttl_high = within.shuffle_ttl_high;
 }
 
 -- the fields of a row that was written say what of it its form has columns for
@@ -106,7 +123,7 @@ line_said f row text made is line back three within = record {
         ∙ sym (length-map (table f) (λ row. row.0));
     said = back ∙ ap Some (is ∙ sym (cells_same f row));
     three = length-map row.phases (phase_in_form f) ∙ three;
-    within = within;
+    within = in_any_world row.options.params within;
     no_more = nothing_more f row;
   };
   line = line;

@@ -139,8 +139,9 @@ one_phase a b e costs shape =
 
 one_options : (o p : GrowOptions)
     → setting_cells o ++ (cell.Number o.seed ∷ []) ≡ setting_cells p ++ (cell.Number p.seed ∷ [])
-    → o.sequential ≡ p.sequential → o.sender ≡ p.sender → o.detect ≡ p.detect → o ≡ p
-one_options o p e sequential sender detect =
+    → o.params.scale ≡ p.params.scale → o.sequential ≡ p.sequential → o.sender ≡ p.sender → o.detect ≡ p.detect
+    → o ≡ p
+one_options o p e scale sequential sender detect =
     let pace = one_number o.pace p.pace (ap (λ cs. get_or cs 13 cell.Empty) e) in
     let crash = one_crash o.crash p.crash (ap (λ cs. get_or cs 15 cell.Empty) e) in
     let params : o.params ≡ p.params = λ i. record {
@@ -152,6 +153,7 @@ one_options o p e sequential sender detect =
       kp = ap (number_at 6) e i;
       shuffle_ttl = ap (number_at 7) e i;
       refill = ap (λ cs. rule_in (get_or cs 8 cell.Empty)) e i;
+      scale = scale i;
     } in
     λ i. record {
       nodes = ap (number_at 0) e i;
@@ -272,7 +274,8 @@ same_row f o p a b c x y z e first second =
     (λ t. one_number o.sender p.sender (ap (λ cs. get_or cs 1 cell.Empty) (more t))) first.chosen second.chosen in
     let detect = either_flag f.further o.detect p.detect
     (λ t. one_flag o.detect p.detect (ap (λ cs. get_or cs 2 cell.Empty) (more t))) first.learned second.learned in
-    let same_o = one_options o p options sequential sender detect in
+    let same_o = one_options o p options (first.unscaled ∙ sym second.unscaled) sequential sender
+    detect in
     let same_a = one_phase a x settle
     (either_same f.costs a.costs x.costs (λ t. (of_costs t).0) (λ t. first.unpriced t 0 a (omega arith))
     (λ t. second.unpriced t 0 x (omega arith)))

@@ -3,6 +3,7 @@ use Rattle.std.specs.Prelude.{◌≡◌, ℕ, Bool, true, not, ◌&&◌, ◌||�
 use Rattle.std.specs.Prelude.{All, None, IfSome, IsSome, is_some, if◌then◌else◌}
 use Rattle.std.specs.List.{list_all, list_any}
 use Rattle.csv.specs.Writing.{default_writer, row_text}
+use Rattle.ov_ids.specs.declared.world_scale.Scale.TheVariants.{Profile}
 use Rattle.ov_grow_options.specs.Limits.{MayBeGrown}
 use Rattle.ov_grow_options.specs.declared.options.GrowOptions.{GrowOptions}
 use Rattle.ov_sweep_rows.specs.declared.row.PhaseRow.{PhaseRow}
@@ -44,6 +45,7 @@ phase_in_form rows_have p = record p {
 -- what of options rows of this form have columns for
 abbrev pub options_in_form : RowForm → GrowOptions → GrowOptions
 options_in_form rows_have o = record o {
+  params = record o.params { scale = Profile };
   sequential = rows_have.further && o.sequential;
   sender = if rows_have.further then o.sender else None;
   detect = rows_have.further && o.detect;

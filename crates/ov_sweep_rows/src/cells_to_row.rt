@@ -3,6 +3,7 @@
 ghost use Rattle.std.specs.Prelude.{◌≡◌, ◌∷◌, ◌++◌, [], IfNone, IfSome, None, Some, length, take};
 ghost use Rattle.std.specs.Prelude.{drop};
 ghost use Rattle.std.specs.Prelude.{true, false};
+ghost use Rattle.ov_ids.specs.declared.world_scale.Scale.TheVariants.{Profile};
 ghost use Rattle.ov_grow_options.specs.Limits.{most_nodes, most_turns};
 ghost use Rattle.ov_ids.specs.ParamsState.{AreWithinLimits, ParamsState};
 ghost use Rattle.ov_sweep_rows.specs.Cells.{cell_at, crash_cell, decimals_cell, flag_cell};
@@ -101,6 +102,7 @@ fn params_with(cells: &[Cell]) -> Option<Params>
         → EqualFrom cells.now 1 (parameter_cells p)) }
     ensures rule { IfSome result (λ p. IsRefill (cell_at cells.now 8) → told.Refill p.refill ≡ cell_at cells.now 8) }
     ensures within { IfSome result AreWithinLimits }
+    ensures unscaled { IfSome result (λ p. p.scale ≡ Profile) }
     ensures none { IfNone result (TakeFrom cells.now 1 parameter_forms
         → (p : ParamsState) → EqualFrom cells.now 1 (parameter_cells p) → AreWithinLimits p → ⊥) }
 {

@@ -109,7 +109,7 @@ impl Display for RowFault {
 impl Display for FieldForm {
     fn fmt<W: Write>(&self, f: &mut Formatter<W>) -> Result {
         f.write_str(match self {
-            FieldForm::Nodes => "a number from 1 to 256",
+            FieldForm::Nodes => "a number from 1 to 32768",
             FieldForm::Params => "a number from 1 to 15, after parameters within their limits",
             FieldForm::Refill => "never, alone or always",
             FieldForm::Chance => "a number from 0 to 100",
@@ -123,7 +123,7 @@ impl Display for FieldForm {
             FieldForm::Decimals => "a number with four decimal digits",
             FieldForm::DecimalsOrNothing => "a number with four decimal digits, or empty",
             FieldForm::Flag => "0 or 1",
-            FieldForm::Sender => "a number from 1 to 256, or empty",
+            FieldForm::Sender => "a number from 1 to 32768, or empty",
         })
     }
 }

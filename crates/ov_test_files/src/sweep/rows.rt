@@ -144,8 +144,8 @@ static FURTHER_CHANGED: [(&str, &str, &str); 4] = [
     (",1,17,0", ",2,17,0", "line 2: sequential must be 0 or 1"),
     (
         ",1,17,0",
-        ",1,257,0",
-        "line 2: sender must be a number from 1 to 256, or empty",
+        ",1,32769,0",
+        "line 2: sender must be a number from 1 to 32768, or empty",
     ),
     (",0,,1", ",0,,", "line 3: detect must be 0 or 1"),
     (
@@ -171,13 +171,13 @@ fn other_further_options_are_refused(rt: HostRuntime) -> Result<(), Fail> {
 static CHANGED: [(&str, &str, &str); 13] = [
     (
         "100,5,",
-        "257,5,",
-        "line 3: nodes must be a number from 1 to 256",
+        "32769,5,",
+        "line 3: nodes must be a number from 1 to 32768",
     ),
     (
         "100,5,",
         ",5,",
-        "line 3: nodes must be a number from 1 to 256",
+        "line 3: nodes must be a number from 1 to 32768",
     ),
     (
         ",4,4,never,",

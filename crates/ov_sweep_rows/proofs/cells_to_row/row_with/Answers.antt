@@ -1,4 +1,4 @@
-use Rattle.std.proofs.Common.{◌≡◌, ◌++◌, [], None, arith, refl, subst, sym}
+use Rattle.std.proofs.Common.{◌≡◌, ◌++◌, ◌∙◌, [], None, ap, arith, refl, subst, sym}
 use Rattle.ov_ids.specs.ParamsState.{AreWithinLimits, ParamsState}
 use Rattle.ov_sweep_rows.specs.Cells.{further_cells, phase_cells}
 use Rattle.ov_sweep_rows.specs.Columns.{if_asked}
@@ -72,6 +72,7 @@ returns-in-Some-clause-no_more c =
           c.phase_with-in-Some-2.result (first.unpriced e) (second.unpriced e) (third.unpriced e);
       shapeless = λ e. all_three (λ p. p.shape ≡ None) c.phase_with.result c.phase_with-in-Some.result
           c.phase_with-in-Some-2.result (first.shapeless e) (second.shapeless e) (third.shapeless e);
+      unscaled = ap (λ (p : ParamsState). p.scale) c.options_with.ensures.params ∙ c.in-Some.ensures.unscaled;
     }
 
 pub returns-in-None-clause-none : goal.returns-in-None-clause-none
