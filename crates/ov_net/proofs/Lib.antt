@@ -4,3 +4,4 @@ pub mod Messages
 pub mod Links
 pub mod OneStep
 mod Standing
+mod Keeping

@@ -6,6 +6,8 @@ use Rattle.std.specs.Cmp.{nat_cmp_total}
 use Rattle.std.specs.FinMap as map
 use Rattle.std.specs.Ordering.{nat_cmp}
 use Rattle.ov_ids.specs.ParamsState.{ParamsState}
+use Rattle.ov_ids.specs.Scales.{most_born_at}
+use Rattle.ov_ids.specs.declared.world_scale.Scale.TheVariants.{Profile}
 use Rattle.ov_ids.specs.Members.{Has}
 use Rattle.ov_ids.proofs.Members.{has_append_cases, has_append_left, has_append_right}
 use Rattle.ov_ids.proofs.Stepping.{step_none}
@@ -18,6 +20,7 @@ use Rattle.ov_peer.specs.declared.input_and_output.Input.TheVariants as input
 use Rattle.ov_net.specs.Code.Codes.{world_of}
 use Rattle.ov_net.specs.Code.Effects.{AreEffects, HaveRoom, IsAfter, NamedNodeChanges, packets_after}
 use Rattle.ov_net.specs.Code.LinkChanges.{AreChanged, Gains, MayGain, newborn_of}
+use Rattle.ov_net.specs.Code.WorldGraph.{IsMutual}
 use Rattle.ov_net.specs.Journal.{AreLinks, changes_of}
 use Rattle.ov_net.specs.Limits.{most_world_nodes, most_packets, most_entries}
 use Rattle.ov_net.specs.Net.{Net, LivesAs}
@@ -36,7 +39,7 @@ use Rattle.ov_net.specs.declared.member.Member.{Member}
 use Rattle.ov_net.specs.declared.member.Member.TheVariants as member
 use Rattle.ov_net.proofs.Journal.Outcomes.{Outcome, outcome, not_none}
 use Rattle.ov_net.proofs.Journal.Telling.{own_begun, own_kept, tells_begun, tells_kept}
-use Rattle.ov_net.proofs.Links.Kept.{IsMutual, by_views, by_journal, few_keys, few_live, mutual_after}
+use Rattle.ov_net.proofs.Links.Kept.{by_views, by_journal, few_keys, few_live, mutual_after}
 use Rattle.ov_net.proofs.Messages.Tracing.{traced_begun, traced_kept}
 use Rattle.ov_net.proofs.Steps.EventEffects.{contact_next}
 
@@ -79,14 +82,14 @@ received_nodes w a message (Some member.Gone) words u changes delivery e h = sam
 received_nodes w a message None words u changes delivery e h = same_nodes w u w.packets h.0
 
 fewer_than : (contact : Option ℕ) (w : Net) → ContactThen w contact (BirthLast w) None
-    → map.len w.nodes < most_world_nodes
+    → map.len w.nodes < most_world_nodes w.params
 fewer_than contact w h =
     let birth = contact_next w contact (BirthLast w) h in
-    (step_none (map.len w.nodes < most_world_nodes) TooManyNodes (PlacesLast w) birth).0
+    (step_none (map.len w.nodes < most_world_nodes w.params) TooManyNodes (PlacesLast w) birth).0
 
 few_nodes : (w : Net) (event : Event) (words : List ℕ) (u : Net) (changes : List Change) (delivery : Option Delivery)
     → EventJudged w event None → Happens w event words u changes delivery
-    → map.len w.nodes ≤ most_world_nodes → map.len u.nodes ≤ most_world_nodes
+    → map.len w.nodes ≤ most_world_nodes w.params → map.len u.nodes ≤ most_world_nodes w.params
 few_nodes w (Boot a contact) words u changes delivery judged h few =
     let room = fewer_than contact w (step_none _ UsedId (ContactThen w contact (BirthLast w)) judged).1 in
     let same : map.len u.nodes ≡ map.len (map.insert w.nodes a (member.Live h.2.0)) =
@@ -112,6 +115,29 @@ few_nodes w (Timer a id) words u changes delivery judged h few =
     let same = live_nodes w a (input.Timer id) words u changes delivery h in omega (arith, same, few)
 few_nodes w Snapshot words u changes delivery judged h few =
     let same = same_nodes w u w.packets h.0 in omega (arith, same, few)
+
+received_params : (w : Net) (a : ℕ) (message : Message) (m : Option Member) (words : List ℕ) (u : Net)
+    (changes : List Change) (delivery : Option Delivery) → Received w a message m words u changes delivery
+    → u.params ≡ w.params
+received_params w a message (Some (member.Live p)) words u changes delivery h = ap (λ (x : Net). x.params) h.4
+received_params w a message (Some member.Gone) words u changes delivery h = ap (λ (x : Net). x.params) h.0
+received_params w a message None words u changes delivery h = ap (λ (x : Net). x.params) h.0
+
+-- no event changes the parameters
+same_params : (w : Net) (event : Event) (words : List ℕ) (u : Net) (changes : List Change) (delivery : Option Delivery)
+    → Happens w event words u changes delivery → u.params ≡ w.params
+same_params w (Boot a contact) words u changes delivery h = ap (λ (x : Net). x.params) h.2.4
+same_params w (Deliver i) words u changes delivery h =
+    received_params (record w { packets = remove w.packets i }) h.0.0 h.0.1 (map.get w.nodes h.0.0) words u changes
+    delivery h.2
+same_params w (Lose i) words u changes delivery h = ap (λ (x : Net). x.params) h.2.0
+same_params w (Repeat i) words u changes delivery h = ap (λ (x : Net). x.params) h.2.0
+same_params w (Crash a) words u changes delivery h = ap (λ (x : Net). x.params) h.2
+same_params w (CrashReport a crashed) words u changes delivery h = ap (λ (x : Net). x.params) h.1.2.4
+same_params w (Shuffle a) words u changes delivery h = ap (λ (x : Net). x.params) h.2.4
+same_params w (Broadcast a payload) words u changes delivery h = ap (λ (x : Net). x.params) h.2.4
+same_params w (Timer a id) words u changes delivery h = ap (λ (x : Net). x.params) h.2.4
+same_params w Snapshot words u changes delivery h = ap (λ (x : Net). x.params) h.0
 
 numbered_more : (journal : List Entry) (k : ℕ) (e : Entry)
     → ((i : ℕ) (x : Entry) → slice_get journal i ≡ Some x → x.number ≡ k + i + 1) → e.number ≡ k + length journal + 1
@@ -148,14 +174,18 @@ stands_new params nodes packets journal n p j =
 
 stands_kept : (c : WorldState) (event : Event) (words : List ℕ) (u : Net) (e : Entry) → Stands c
     → MayHappen c.net (length c.journal) event → NetStep c.net event words u e
-    → e.number ≡ length c.journal + 1 → length u.packets ≤ most_packets
+    → e.number ≡ length c.journal + 1 → length u.packets ≤ most_packets c.net.params
     → Stands (record { net = u; journal = c.journal ++ e ∷ [] })
 stands_kept c event words u e s judged step number few =
-    let j = step_none (length c.journal < most_entries) TooManyEntries (EventJudged c.net event) judged in
+    let j = step_none (length c.journal < most_entries c.net.params) TooManyEntries (EventJudged c.net event) judged in
+    let same = sym (same_params c.net event words u e.changes e.delivery step.2) in
+    let longer : length (c.journal ++ e ∷ []) ≤ most_entries c.net.params =
+    omega (arith, j.0, length-append c.journal (e ∷ [])) in
     record {
-      nodes = few_nodes c.net event words u e.changes e.delivery j.1 step.2 s.nodes;
-      packets = few;
-      entries = omega (arith, j.0, length-append c.journal (e ∷ []));
+      nodes = subst (λ (p : ParamsState). map.len u.nodes ≤ most_world_nodes p) same
+          (few_nodes c.net event words u e.changes e.delivery j.1 step.2 s.nodes);
+      packets = subst (λ (p : ParamsState). length u.packets ≤ most_packets p) same few;
+      entries = subst (λ (p : ParamsState). length (c.journal ++ e ∷ []) ≤ most_entries p) same longer;
       numbered = λ i x at.
           let r = numbered_more c.journal 0 e (λ k y h. let n = s.numbered k y h in omega (arith, n))
           (omega (arith, number)) i x at in omega (arith, r);
@@ -181,7 +211,7 @@ stands_next seen c event words b e u journal same s judged_of effects_of few_of 
     subst (λ d. Happens seen.net event words u e.changes d) (sym entry.3)
     (subst (λ x. Happens seen.net event words u x b.delivery) (sym entry.2) happens) in
     let next = stands_kept seen event words u e s judged (entry.0, entry.1, told) entry.4
-    (subst (λ (v : List (ℕ × Message)). length v ≤ most_packets) (sym after.packets) few) in
+    (subst (λ (v : List (ℕ × Message)). length v ≤ most_packets seen.net.params) (sym after.packets) few) in
     subst (λ (k : List Entry). Stands (record { net = u; journal = k })) (sym j) next
 
 -- and the event is a step of the world
@@ -201,7 +231,7 @@ pub one_longer : (journal : List Entry) (e : Entry) → length (journal ++ e ∷
 one_longer journal e = length-append journal (e ∷ [])
 
 -- what an event does to the nodes, by its effects
-outcome_next : (seen c : WorldState) (event : Event) (words : List ℕ) (b : Effects) (nodes : map.FinMap nat_cmp Member)
+pub outcome_next : (seen c : WorldState) (event : Event) (words : List ℕ) (b : Effects) (nodes : map.FinMap nat_cmp Member)
     → seen ≡ c → AreEffects c.net event words b → NamedNodeChanges b.node seen.net.nodes nodes
     → Outcome (map.get seen.net.nodes) (map.get nodes) (newborn_of event) b.changes
 outcome_next seen c event words b nodes same effects changed =
@@ -230,17 +260,21 @@ graph_after seen c event words b nodes g k same s are effects changed gains grap
   graph = graph;
 }
 
--- the graph is small, and the newborn node of an event that may happen is not in it, and has room
+-- the graph of a world of the profile's scale is small, and the newborn node of an event that may happen is not in it,
+-- and has room
 pub may_gain : (seen c : WorldState) (event : Event) (g : LinkGraph) → seen ≡ c → Stands seen
-    → AreLinks seen.journal (length seen.journal) g → MayHappen c.net (length c.journal) event
-    → MayGain (newborn_of event) g
-may_gain seen c event g same s are judged =
-    by event (step_none (length seen.journal < most_entries) TooManyEntries (EventJudged seen.net event)
+    → seen.net.params.scale ≡ Profile → AreLinks seen.journal (length seen.journal) g
+    → MayHappen c.net (length c.journal) event → MayGain (newborn_of event) g
+may_gain seen c event g same s profile are judged =
+    by event (step_none (length seen.journal < most_entries seen.net.params) TooManyEntries (EventJudged seen.net event)
     (subst (λ (x : WorldState). MayHappen x.net (length x.journal) event) (sym same) judged)).1
   where
+    most : most_world_nodes seen.net.params ≡ 256
+    most = ap most_born_at profile
+
     small : IsSmall g
     small = let few = few_live seen.net.nodes g (by_views seen g s.tells are) in
-        let nodes = s.nodes in omega (arith, few, nodes)
+        let nodes = s.nodes in omega (arith, few, nodes, most)
 
     by : (e : Event) → EventJudged seen.net e None → MayGain (newborn_of e) g
     by (Boot a contact) j =
@@ -250,7 +284,7 @@ may_gain seen c event g same s are judged =
         let is = by_views seen g s.tells are in
         let few = few_live w.nodes g is in (
           (λ i. let l = (is.nodes a).0 i in not_none (member.Live l.0) (map.get w.nodes a) l.1 r.0),
-          omega (arith, room, few),
+          omega (arith, room, few, most),
         )
     by (Deliver i) j = small
     by (Lose i) j = small
@@ -295,7 +329,7 @@ has_earlier (e ∷ journal) (suc m) change h =
     ]
 
 -- who was alive at a moment was born, so these are no more than may be born
-pub few_at_each_moment : (c : WorldState) → Stands c → HasFewNodes c.journal
+pub few_at_each_moment : (c : WorldState) → Stands c → HasFewNodes c.net.params c.journal
 few_at_each_moment c s m g links =
     let few = few_keys g.nodes c.net.nodes links.graph.nodes_ascend
     (λ a i none. s.tells.unborn a (Born a) none (has_earlier c.journal m (Born a) ((links.nodes a).0 i).0) refl) in

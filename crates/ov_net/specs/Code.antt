@@ -2,4 +2,5 @@
 pub mod Refusals
 pub mod Effects
 pub mod LinkChanges
+pub mod WorldGraph
 pub mod Codes

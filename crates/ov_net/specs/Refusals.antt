@@ -40,7 +40,7 @@ IsBorn w a = map.get w.nodes a ≢ None
 
 -- there is room for the packets of one step
 abbrev pub HasPlaces : Net → Type 0
-HasPlaces w = length w.packets + step_packets ≤ most_packets
+HasPlaces w = length w.packets + step_packets ≤ most_packets w.params
 
 -- node a may broadcast once more
 abbrev pub MayBroadcast : Net → ℕ → Type 0
@@ -66,7 +66,7 @@ PlacesLast w answer = HoldsThen (HasPlaces w) TooManyPackets Passed answer
 -- there must be room for one more node, else TooManyNodes, and then for the packets of one step, else TooManyPackets;
 -- no other refusal follows
 abbrev pub BirthLast : Net → Option NetFault → Type 0
-BirthLast w answer = HoldsThen (map.len w.nodes < most_world_nodes) TooManyNodes (PlacesLast w) answer
+BirthLast w answer = HoldsThen (map.len w.nodes < most_world_nodes w.params) TooManyNodes (PlacesLast w) answer
 
 -- the first applicable refusal of each event but those of `StepJudged`, or None if there is none
 abbrev pub EventJudged : Net → Event → Option NetFault → Type 0
@@ -90,7 +90,7 @@ EventJudged w Snapshot answer = Passed answer
 -- the first applicable refusal of an event when the journal has this many entries, or None if there is none. That the
 -- journal is full is the first refusal of every event
 abbrev pub StepJudged : Net → ℕ → Event → Option NetFault → Type 0
-StepJudged w entries event answer = HoldsThen (entries < most_entries) TooManyEntries (EventJudged w event) answer
+StepJudged w entries event answer = HoldsThen (entries < most_entries w.params) TooManyEntries (EventJudged w event) answer
 
 -- no refusal applies to the event
 abbrev pub MayHappen : Net → ℕ → Event → Type 0

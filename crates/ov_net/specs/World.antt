@@ -59,14 +59,15 @@ pub record Traced (c : WorldState) : Type 0 where
 -- the invariant of every world: it keeps the limits, its entries are numbered from 1, each node is stored under its
 -- own id, the journal says who is alive and whom each node holds, and messages can be traced
 pub record Stands (c : WorldState) : Type 0 where
-  pub nodes : map.len c.net.nodes ≤ most_world_nodes
-  pub packets : length c.net.packets ≤ most_packets
-  pub entries : length c.journal ≤ most_entries
+  pub nodes : map.len c.net.nodes ≤ most_world_nodes c.net.params
+  pub packets : length c.net.packets ≤ most_packets c.net.params
+  pub entries : length c.journal ≤ most_entries c.net.params
   pub numbered : (i : ℕ) (e : Entry) → slice_get c.journal i ≡ Some e → e.number ≡ i + 1
   pub own : HaveOwnIds c.net
   pub tells : TellsViews c
   pub traced : Traced c
 
 -- at no moment were more nodes alive than may ever be born
-abbrev pub HasFewNodes : List Entry → Type 0
-HasFewNodes journal = (m : ℕ) (g : LinkGraph) → AreLinks journal m g → length g.nodes ≤ most_world_nodes
+abbrev pub HasFewNodes : ParamsState → List Entry → Type 0
+HasFewNodes params journal =
+    (m : ℕ) (g : LinkGraph) → AreLinks journal m g → length g.nodes ≤ most_world_nodes params

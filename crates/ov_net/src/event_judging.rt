@@ -8,7 +8,7 @@ ghost use Rattle.ov_net.specs.declared.event.Event.TheVariants.{CrashReport, Shu
 use crate::event::Event;
 use crate::fault::NetFault;
 use crate::member::Member;
-use crate::world::{MOST_ENTRIES, MOST_PACKETS, MOST_WORLD_NODES, STEP_PACKETS, World};
+use crate::world::{STEP_PACKETS, World};
 use ov_ids::{MsgId, NodeId};
 use ov_peer::{MOST_BROADCASTS, Peer};
 use ov_wire::MOST_PAYLOAD;
@@ -20,7 +20,7 @@ impl World {
         ensures ok { OnOk result (MayHappen self.now.net (length self.now.journal) event.now) }
         ensures err { IfErr result (λ f. StepJudged self.now.net (length self.now.journal) event.now (Some f)) }
     {
-        if self.journal.len() >= MOST_ENTRIES {
+        if self.journal.len() >= self.params.scale().most_entries() {
             return Err(NetFault::TooManyEntries);
         }
         self.judge_event(event)
@@ -62,7 +62,7 @@ impl World {
     fn judge_places(&self) -> Result<(), NetFault>
         ensures { PlacesLast self.now.net (fault_in result) }
     {
-        if self.packets.len() + STEP_PACKETS > MOST_PACKETS {
+        if self.packets.len() + STEP_PACKETS > self.params.scale().most_packets() {
             return Err(NetFault::TooManyPackets);
         }
         Ok(())
@@ -82,11 +82,11 @@ impl World {
         self.judge_birth()
     }
 
-    /// Refuses if 256 nodes were born (13), or there is no room for packets.
+    /// Refuses if as many nodes were born as may be (13), 256 or 32,768 in a large world, or there is no room for packets.
     fn judge_birth(&self) -> Result<(), NetFault>
         ensures { BirthLast self.now.net (fault_in result) }
     {
-        if self.nodes.len() >= MOST_WORLD_NODES {
+        if self.nodes.len() >= self.params.scale().most_born() {
             return Err(NetFault::TooManyNodes);
         }
         self.judge_places()

@@ -16,16 +16,16 @@ pub enum NetFault {
     /// The node crashed.
     #[error("the node crashed")]
     CrashedNode,
-    /// 256 nodes were born, the most that may be born.
+    /// As many nodes were born as may be: 256, or 32,768 in a large world.
     #[error("too many nodes were born")]
     TooManyNodes,
     /// There is no packet at this place.
     #[error("there is no packet at this place")]
     NoSuchPacket,
-    /// Fewer than 64 of the 65,536 places for packets are free. A step may send 64.
+    /// Fewer than 64 of the places for packets are free: of 65,536, or of 1,048,576 in a large world. A step may send 64.
     #[error("too few places for packets are free")]
     TooManyPackets,
-    /// The journal has 65,536 entries, the most that it may have.
+    /// The journal has as many entries as it may have: 65,536, or 16,777,216 in a large world.
     #[error("the journal is full")]
     TooManyEntries,
     /// The node that is reported did not crash.

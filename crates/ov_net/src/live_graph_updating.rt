@@ -111,7 +111,7 @@ fn unlink_if_linked(graph: &mut Graph, node: NodeId, other: NodeId)
 }
 
 /// Whether a node is alive and holds another one in its active view.
-fn holds(nodes: &Nodes, node: NodeId, other: NodeId) -> bool
+pub(crate) fn holds(nodes: &Nodes, node: NodeId, other: NodeId) -> bool
     ensures { IsTrue result ↔ Holds nodes.now node other }
 {
     match nodes.get(node) {

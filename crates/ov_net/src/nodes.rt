@@ -1,7 +1,9 @@
-ghost use Rattle.std.specs.Prelude.{◌≡◌, OnOk, OnErr, Some, IfSome, is_some, nat_eq, slice_get};
+ghost use Rattle.std.specs.Prelude.{◌≡◌, ◌↔◌, ◌++◌, ℕ, IfOk, OnOk, OnErr, Some, IfSome, is_some, nat_eq, slice_get};
 ghost use Rattle.std.specs.Option.{option_copied};
 ghost use Rattle.std.specs.FinMap as map;
 ghost use Rattle.indexmap.specs.IndexMap.{get, keys, values};
+ghost use Rattle.ov_ids.specs.Members.{Has, Ascends};
+ghost use Rattle.ov_net.specs.Code.LinkChanges.{IsLive, id_if_live};
 ghost use Rattle.ov_net.specs.Code.Effects.{CanChange, NodeChanges};
 ghost use Rattle.ov_net.specs.declared.planned_effects.NodeChange.TheVariants.{Follows};
 
@@ -76,6 +78,17 @@ impl Nodes {
         }
     }
 
+    /// The live nodes, ascending.
+    pub(crate) fn live_ids(&self, alloc: Global) -> Result<Vec<NodeId>, OutOfMemory>
+        ensures ascend { IfOk result (λ ids. Ascends ids.items) }
+        ensures each { IfOk result (λ ids. (a : ℕ) → Has ids.items a ↔ IsLive self.now a) }
+    {
+        let mut ids = live_by_birth(alloc, &self.members)?;
+        ids.sort_unstable();
+        ids.dedup();
+        Ok(ids)
+    }
+
     /// Has the live node with this id follow a plan, which is one for it. Out of memory, nothing changes.
     #[inline(always)]
     pub(crate) fn follow(&mut self, id: NodeId, plan: BoxedPlan) -> Result<(), OutOfMemory>
@@ -100,4 +113,32 @@ impl Nodes {
         self.members.insert(id, member)?;
         Ok(())
     }
+}
+
+/// The ids of the live ones among nodes, in the order of their births.
+fn live_by_birth(
+    alloc: Global,
+    members: &IndexMap<NodeId, Member>,
+) -> Result<Vec<NodeId>, OutOfMemory>
+    ensures { IfOk result (λ ids. (a : ℕ)
+        → Has ids.items a ↔ IsLive (map.from_entries members.now.entries) a) }
+{
+    let mut ids = Vec::new(alloc);
+    for place in 0..members.len() {
+        match members.get_index(place) {
+            Some((id, member)) => add_if_live(&mut ids, *id, member)?,
+            None => unreachable!(),
+        }
+    }
+    Ok(ids)
+}
+
+/// Appends the id of a node, if it is alive.
+fn add_if_live(ids: &mut Vec<NodeId>, id: NodeId, member: &Member) -> Result<(), OutOfMemory>
+    ensures { OnOk result (ids.new.items ≡ ids.old.items ++ id_if_live id member.now) }
+{
+    if let Member::Live(_) = member {
+        ids.push(id)?;
+    }
+    Ok(())
 }

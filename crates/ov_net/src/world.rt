@@ -1,14 +1,16 @@
 ghost use Rattle.std.specs.Prelude.{◌≡◌, ◌≢◌, ◌≤◌, ◌<◌, ◌+◌, ◌++◌, ◌⊎◌, [], ◌∷◌, ◌↔◌, length, vec_len, vec_capacity};
-ghost use Rattle.std.specs.Prelude.{IfOk, IfErr, IfSome, IfNone, OnOk, OnErr, IsTrue};
+ghost use Rattle.std.specs.Prelude.{IfOk, IfErr, IfSome, IfNone, IsSome, OnOk, OnErr, IsTrue};
 ghost use Rattle.ov_graph.specs.Links.{IsGraph};
+ghost use Rattle.ov_ids.specs.declared.world_scale.Scale.TheVariants.{Profile};
 ghost use Rattle.ov_peer.specs.PeerState.{PeerState};
 ghost use Rattle.ov_net.specs.Code.Effects.{AreEffects, HaveRoom, IsWithin, entry_of, taking};
 ghost use Rattle.ov_net.specs.Code.Effects.{NamedCanChange, NamedNodeChanges};
 ghost use Rattle.ov_net.specs.Code.LinkChanges.{Gains, MayGain, newborn_of};
+ghost use Rattle.ov_net.specs.Code.WorldGraph.{AreBothKept, IfKept};
 ghost use Rattle.ov_net.specs.Journal.{AreLinks, AreSameSince, DeliversOnce};
 ghost use Rattle.ov_net.specs.declared.journal_entry_and_changes.Entry.{Entry as EntryOf};
-ghost use Rattle.ov_net.specs.Limits.{most_packets, most_entries};
-ghost use Rattle.ov_net.specs.Net.{LivesAs};
+ghost use Rattle.ov_net.specs.Limits.{most_packets, longest_of_any};
+ghost use Rattle.ov_net.specs.Net.{AreLiveNodes, LivesAs};
 ghost use Rattle.ov_net.specs.NetStep.{NetStep};
 ghost use Rattle.ov_net.specs.Refusals.{MayHappen, IsBorn, IsRefusal};
 ghost use Rattle.ov_net.specs.World.{HasFewNodes, Stands, opening_world};
@@ -16,7 +18,8 @@ ghost use Rattle.ov_net.specs.World.{HasFewNodes, Stands, opening_world};
 use crate::event::Event;
 use crate::fault::NetFault;
 use crate::journal_entry_and_changes::Entry;
-use crate::live_graph_updating::{add_newborn, change_graph, remove_newborn};
+use crate::kept_graph::KeptGraph;
+use crate::links_by_views::graph_by_views;
 use crate::member::Member;
 use crate::nodes::Nodes;
 use crate::packet::Packet;
@@ -29,26 +32,21 @@ use ov_words::Words;
 use std::alloc::Global;
 use std::marker::Model;
 
-/// The most nodes that may ever be born in a world. Chosen here.
-pub const MOST_WORLD_NODES: usize = 256;
-
-/// The most packets that may be on their way. Chosen here.
-pub const MOST_PACKETS: usize = 65_536;
-
 /// The most packets that one step may send. This many places must be free before it.
 pub const STEP_PACKETS: usize = 64;
 
-/// The most entries that the journal may have. Chosen here.
-pub const MOST_ENTRIES: usize = 65_536;
+/// The most entries that any journal may have: that of a large world. Chosen here.
+pub const LONGEST_JOURNAL: usize = 16_777_216;
 
-/// A world of nodes, and its journal. Contracts see it as a `WorldState`.
+/// A world of nodes, and its journal. The scale of its parameters says how large it may grow. Contracts see it as a
+/// `WorldState`.
 pub struct World {
     pub(crate) alloc: Global,
     pub(crate) params: Params,
     pub(crate) nodes: Nodes,
     pub(crate) packets: BlockList<Packet>,
     pub(crate) journal: Vec<Entry>,
-    pub(crate) graph: Graph,
+    pub(crate) graph: KeptGraph,
     /// The number of the last entry that told a change, or 0.
     pub(crate) since: u32,
 }
@@ -78,11 +76,11 @@ impl Model for World {
 
     ghost view = { λ a. world_of a.params a.nodes a.packets.items a.journal.items };
 
-    ghost use Rattle.std.specs.Prelude.{length};
-    ghost use Rattle.ov_net.specs.Journal.{AreLinks, AreSameSince};
+    ghost use Rattle.ov_net.specs.Code.WorldGraph.{KeepsLinks};
+    ghost use Rattle.ov_net.specs.Journal.{AreSameSince};
 
     ghost invariant = { λ a. Stands (world_of a.params a.nodes a.packets.items a.journal.items)
-        × AreLinks a.journal.items (length a.journal.items) a.graph
+        × KeepsLinks a.params a.journal.items a.graph
         × AreSameSince a.journal.items a.since };
 }
 
@@ -97,36 +95,72 @@ impl World {
             nodes: Nodes::new(alloc),
             packets: BlockList::new(alloc),
             journal: Vec::new(alloc),
-            graph: Graph::empty(alloc),
+            graph: KeptGraph::opening(alloc, params.scale()),
             since: 0,
         }
     }
 
     /// The entries of all events so far, in order. They say who is alive and whom each node holds in its active view.
-    /// Each delivery in them is of a broadcast, and no node delivers one twice. At no moment were more than 256 nodes
-    /// alive. Contracts also say the invariant of a world here.
+    /// Each delivery in them is of a broadcast, and no node delivers one twice. At no moment were more nodes alive than
+    /// may be born in a world of this scale: 256, or 32,768 in a large one. Contracts also say the invariant of a world
+    /// here.
     pub fn journal(&self) -> &[Entry]
         ensures value { result.now ≡ self.now.journal }
         ensures stands { Stands self.now }
         ensures once { DeliversOnce self.now.journal }
-        ensures few { HasFewNodes self.now.journal }
+        ensures few { HasFewNodes self.now.net.params self.now.journal }
+        ensures counted { length result.now ≤ longest_of_any }
     {
         &self.journal
     }
 
-    /// The graph of the links that both ends hold now. Its nodes are the live ones. Two of them are linked if each
-    /// holds the other in its active view. Chosen here.
-    pub fn graph(&self) -> &Graph
-        ensures { AreLinks self.now.journal (length self.now.journal) result.now }
+    /// The parameters of the nodes. Their scale says how large the world may grow.
+    pub fn params(&self) -> &Params
+        ensures { result.now ≡ self.now.net.params }
     {
-        &self.graph
+        &self.params
     }
 
-    /// A copy of the graph of the links that both ends hold now, or out of memory (99).
+    /// The graph of the links that both ends hold now, in a world of the profile's scale. Its nodes are the live ones.
+    /// Two of them are linked if each holds the other in its active view. Chosen here.
+    pub fn graph(&self) -> &Graph
+        requires profile { self.now.net.params.scale ≡ Profile }
+        ensures { AreLinks self.now.journal (length self.now.journal) result.now }
+    {
+        match &self.graph {
+            KeptGraph::Kept(graph) => graph,
+            KeptGraph::Unkept => unreachable!(),
+        }
+    }
+
+    /// The graph of the links that both ends hold now, if the world keeps it from event to event. A world of the
+    /// profile's scale does, and a large one does not.
+    pub fn kept_graph(&self) -> Option<&Graph>
+        ensures some { IfSome result (λ g. AreLinks self.now.journal (length self.now.journal) g.now) }
+        ensures profile { IsSome result ↔ self.now.net.params.scale ≡ Profile }
+    {
+        match &self.graph {
+            KeptGraph::Kept(graph) => Some(graph),
+            KeptGraph::Unkept => None,
+        }
+    }
+
+    /// The graph of the links that both ends hold now, or out of memory (99). It is a copy of the graph that the world
+    /// keeps. A large world keeps none, and it is made of the views of all live nodes.
     pub fn links(&self) -> Result<Graph, OutOfMemory>
         ensures { IfOk result (λ g. AreLinks self.now.journal (length self.now.journal) g) }
     {
-        self.graph.copy()
+        match &self.graph {
+            KeptGraph::Kept(graph) => graph.copy(),
+            KeptGraph::Unkept => graph_by_views(self.alloc, &self.nodes),
+        }
+    }
+
+    /// The live nodes, ascending, or out of memory (99).
+    pub fn live_nodes(&self) -> Result<Vec<NodeId>, OutOfMemory>
+        ensures { IfOk result (λ ids. AreLiveNodes self.now.net ids.items) }
+    {
+        self.nodes.live_ids(self.alloc)
     }
 
     /// The number of the entry since which the links are the same ones, or 0 if they were never others. Chosen here: it
@@ -137,10 +171,10 @@ impl World {
         self.since
     }
 
-    /// The packets on their way, the oldest first. There are at most 65,536.
+    /// The packets on their way, the oldest first. There are at most 65,536, or 1,048,576 in a large world.
     pub fn packets(&self) -> &BlockList<Packet>
         ensures value { result.now.items ≡ self.now.net.packets }
-        ensures few { length self.now.net.packets ≤ most_packets }
+        ensures few { length self.now.net.packets ≤ most_packets self.now.net.params }
     {
         &self.packets
     }
@@ -252,7 +286,7 @@ impl World {
             packets.len(),
             &entry.event,
         )?;
-        change_graph(&mut self.graph, &self.nodes, entry.changes.as_slice());
+        self.graph.change(&self.nodes, entry.changes.as_slice());
         update_packets(&mut self.packets, taken, packets);
         self.since = since_after(self.since, &entry);
         self.journal.push_reserved(entry);
@@ -265,7 +299,7 @@ impl World {
 #[inline(always)]
 fn reserve_and_change(
     nodes: &mut Nodes,
-    graph: &mut Graph,
+    graph: &mut KeptGraph,
     packets: &mut BlockList<Packet>,
     journal: &mut Vec<Entry>,
     node: Option<(NodeId, NodeChange)>,
@@ -273,11 +307,11 @@ fn reserve_and_change(
     event: &Event,
 ) -> Result<(), OutOfMemory>
     requires change { NamedCanChange node nodes.old }
-    requires graph { IsGraph graph.old }
-    requires newborn { MayGain (newborn_of event.now) graph.old }
+    requires graph { IfKept IsGraph graph.old }
+    requires newborn { IfKept (MayGain (newborn_of event.now)) graph.old }
     ensures ok { OnOk result (NamedNodeChanges node nodes.old nodes.new) }
-    ensures gains { OnOk result (Gains (newborn_of event.now) graph.old graph.new) }
-    ensures graph { OnOk result (IsGraph graph.new) }
+    ensures gains { OnOk result (AreBothKept (Gains (newborn_of event.now)) graph.old graph.new) }
+    ensures graph { OnOk result (IfKept IsGraph graph.new) }
     ensures err { OnErr result (nodes.new ≡ nodes.old) }
     ensures same { OnErr result (graph.new ≡ graph.old) }
     ensures packets { packets.new.items ≡ packets.old.items }
@@ -295,24 +329,24 @@ fn reserve_and_change(
 #[inline(always)]
 fn change_nodes(
     nodes: &mut Nodes,
-    graph: &mut Graph,
+    graph: &mut KeptGraph,
     event: &Event,
     node: Option<(NodeId, NodeChange)>,
 ) -> Result<(), OutOfMemory>
     requires change { NamedCanChange node nodes.old }
-    requires graph { IsGraph graph.old }
-    requires newborn { MayGain (newborn_of event.now) graph.old }
+    requires graph { IfKept IsGraph graph.old }
+    requires newborn { IfKept (MayGain (newborn_of event.now)) graph.old }
     ensures ok { OnOk result (NamedNodeChanges node nodes.old nodes.new) }
-    ensures gains { OnOk result (Gains (newborn_of event.now) graph.old graph.new) }
-    ensures graph { OnOk result (IsGraph graph.new) }
+    ensures gains { OnOk result (AreBothKept (Gains (newborn_of event.now)) graph.old graph.new) }
+    ensures graph { OnOk result (IfKept IsGraph graph.new) }
     ensures err { OnErr result (nodes.new ≡ nodes.old) }
     ensures same { OnErr result (graph.new ≡ graph.old) }
 {
-    add_newborn(graph, event)?;
+    graph.add_newborn(event)?;
     match change_named_node(nodes, node) {
         Ok(()) => Ok(()),
         Err(error) => {
-            remove_newborn(graph, event);
+            graph.remove_newborn(event);
             Err(error)
         }
     }
@@ -336,7 +370,7 @@ fn reserve(
 
 /// The number of the next entry.
 fn next_number(journal: &[Entry]) -> u32
-    requires { length journal.now < most_entries }
+    requires { length journal.now < longest_of_any }
     ensures { result ≡ length journal.now + 1 }
 {
     journal.len() as u32 + 1

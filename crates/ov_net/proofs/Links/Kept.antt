@@ -17,6 +17,7 @@ use Rattle.ov_graph.specs.Changes.{GainsNode, LosesNode, LosesLink}
 use Rattle.ov_graph.proofs.EvenTest.Filtered.{linked_node}
 use Rattle.ov_graph.proofs.EvenTest.Walks.{linked_sym}
 use Rattle.ov_net.specs.Code.LinkChanges.{AreChanged, Fit, Gains, GainsMutual, HasAllLive}
+use Rattle.ov_net.specs.Code.WorldGraph.{HoldsIn, LivesIn, Mutual, IsMutual}
 use Rattle.ov_net.specs.Journal.{AreLinks}
 use Rattle.ov_net.specs.NetStep.{change_at}
 use Rattle.ov_net.specs.World.{WorldState, TellsViews}
@@ -30,30 +31,10 @@ use Rattle.ov_net.proofs.Journal.Outcomes.{same_live, gone_dead, not_none}
 use Rattle.ov_net.proofs.Journal.Telling.{links_of}
 use Rattle.ov_net.proofs.Links.Changing.{lost_linked, same_linked}
 
--- node a is alive, and holds b, where each id has this member
-abbrev pub HoldsIn : (ℕ → Option Member) → ℕ → ℕ → Type 0
-HoldsIn look a b = (p : PeerState) × (look a ≡ Some (member.Live p)) × Has p.hyparview.views.active b
-
--- node a is alive there
-abbrev pub LivesIn : (ℕ → Option Member) → ℕ → Type 0
-LivesIn look a = (p : PeerState) × (look a ≡ Some (member.Live p))
-
--- two nodes hold each other
-pub record Mutual (look : ℕ → Option Member) (a b : ℕ) : Type 0 where
-  pub differ : a ≢ b
-  pub holds : HoldsIn look a b
-  pub held : HoldsIn look b a
-
 turned : (look : ℕ → Option Member) (a b : ℕ) → Mutual look a b → Mutual look b a
 turned look a b m = record { differ = λ e. m.differ (sym e); holds = m.held; held = m.holds }
 
--- the graph of the live nodes, of which two are linked if they hold each other
-pub record IsMutual (look : ℕ → Option Member) (g : LinkGraph) : Type 0 where
-  pub graph : IsGraph g
-  pub nodes : (a : ℕ) → Has g.nodes a ↔ LivesIn look a
-  pub links : (a b : ℕ) → Linked g a b ↔ Mutual look a b
-
--- the links of such a graph, while the active view of node a changes
+-- the links of the graph of the live nodes, while the active view of node a changes
 record IsMutualBut (look : ℕ → Option Member) (a : ℕ) (active : List ℕ) (g : LinkGraph) : Type 0 where
   own : (y : ℕ) → Linked g a y ↔ ((a ≢ y) × Has active y × HoldsIn look y a)
   others : (x y : ℕ) → x ≢ a → y ≢ a → Linked g x y ↔ Mutual look x y

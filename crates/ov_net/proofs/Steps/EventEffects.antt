@@ -313,7 +313,7 @@ contact_next w (Some c) After h = live_next w c After h
 passes : (w : Net) (entries : ℕ) (event this : Event) → event ≡ this → MayHappen w entries event
     → EventJudged w this None
 passes w entries event this same judged =
-    (step_none (entries < most_entries) TooManyEntries (EventJudged w this)
+    (step_none (entries < most_entries w.params) TooManyEntries (EventJudged w this)
     (subst (λ e. MayHappen w entries e) same judged)).1
 
 live_first : (w : Net) (a : ℕ) (After : Option NetFault → Type 0) → LiveThen w a After None
@@ -387,7 +387,7 @@ may_fire w entries event a id same judged =
 places_of : (w : Net) (event : Event) → Sends event → EventJudged w event None → HasPlaces w
 places_of w (Boot a contact) sends h =
     let first = (step_none (map.get w.nodes a ≡ None) UsedId (ContactThen w contact (BirthLast w)) h).1 in
-    last_place w (step_none (map.len w.nodes < most_world_nodes) TooManyNodes (PlacesLast w)
+    last_place w (step_none (map.len w.nodes < most_world_nodes w.params) TooManyNodes (PlacesLast w)
     (contact_next w contact (BirthLast w) first)).1
 places_of w (Deliver i) sends h = last_place w (step_none (i < length w.packets) NoSuchPacket (PlacesLast w) h).1
 places_of w (Lose i) sends h = absurd sends
@@ -414,8 +414,8 @@ pub few_sent : (w : Net) (entries : ℕ) (event this : Event) (b : Effects) → 
 few_sent w entries event this b same sends judged few =
     let all : MayHappen w entries this = subst (λ e. MayHappen w entries e) same judged in
     let places =
-    places_of w this sends (step_none (entries < most_entries) TooManyEntries (EventJudged w this) all).1 in
+    places_of w this sends (step_none (entries < most_entries w.params) TooManyEntries (EventJudged w this) all).1 in
     omega (arith, few_after w b, places, few)
 
-pub none_sent : (w : Net) (b : Effects) → b.packets.items ≡ [] → length w.packets ≤ most_packets → HaveRoom w b
+pub none_sent : (w : Net) (b : Effects) → b.packets.items ≡ [] → length w.packets ≤ most_packets w.params → HaveRoom w b
 none_sent w b none few = let n : length b.packets.items ≡ 0 = ap length none in omega (arith, few_after w b, n, few)

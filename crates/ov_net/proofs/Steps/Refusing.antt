@@ -52,7 +52,7 @@ places_alone w f = step_alone (HasPlaces w) TooManyPackets f Passed (λ p. passe
 
 birth_alone : (w : Net) (f : NetFault) → BirthLast w None → ¬ BirthLast w (Some f)
 birth_alone w f =
-    step_alone (map.len w.nodes < most_world_nodes) TooManyNodes f (PlacesLast w) (places_alone w f)
+    step_alone (map.len w.nodes < most_world_nodes w.params) TooManyNodes f (PlacesLast w) (places_alone w f)
 
 live_alone : (w : Net) (a : ℕ) (f : NetFault) (After : Option NetFault → Type 0) → (After None → ¬ After (Some f))
     → LiveThen w a After None → ¬ LiveThen w a After (Some f)
@@ -95,6 +95,6 @@ event_alone w Snapshot f = λ p. passed_alone f
 pub refused_for_memory : (w : Net) (entries : ℕ) (event : Event) (f : NetFault) → MayHappen w entries event
     → IsRefusal w entries event f → f ≡ OutOfMemory
 refused_for_memory w entries event f may (inl judged) =
-    absurd (step_alone (entries < most_entries) TooManyEntries f (EventJudged w event) (event_alone w event f) may
+    absurd (step_alone (entries < most_entries w.params) TooManyEntries f (EventJudged w event) (event_alone w event f) may
     judged)
 refused_for_memory w entries event f may (inr memory) = memory.0

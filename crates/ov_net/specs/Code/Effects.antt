@@ -66,7 +66,7 @@ packets_after w b = taking b.taken w.packets ++ b.packets.items
 
 -- after the effects b no more packets are on their way than there may be
 abbrev pub HaveRoom : Net → Effects → Type 0
-HaveRoom w b = length (packets_after w b) ≤ most_packets
+HaveRoom w b = length (packets_after w b) ≤ most_packets w.params
 
 -- these are no more messages than one step may send
 abbrev pub AreFew : List (ℕ × Message) → Type 0

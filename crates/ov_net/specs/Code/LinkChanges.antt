@@ -12,15 +12,20 @@ use Rattle.ov_net.specs.declared.event.Event.TheVariants.{Broadcast, Timer, Snap
 use Rattle.ov_net.specs.declared.journal_entry_and_changes.Change.{Change}
 use Rattle.ov_net.specs.declared.journal_entry_and_changes.Change.TheVariants.{Born, Up, Down, Gone}
 use Rattle.ov_net.specs.declared.member.Member.{Member}
-use Rattle.ov_net.specs.declared.member.Member.TheVariants.{Live}
+use Rattle.ov_net.specs.declared.member.Member.TheVariants as member
 
 -- node a is alive
 abbrev pub IsLive : map.FinMap nat_cmp Member → ℕ → Type 0
-IsLive members a = (p : PeerState) × (map.get members a ≡ Some (Live p))
+IsLive members a = (p : PeerState) × (map.get members a ≡ Some (member.Live p))
+
+-- this id, if the node with it is alive
+abbrev pub id_if_live : ℕ → Member → List ℕ
+id_if_live a (member.Live p) = a ∷ []
+id_if_live a member.Gone = []
 
 -- node a is alive, and holds b in its active view
 abbrev pub Holds : map.FinMap nat_cmp Member → ℕ → ℕ → Type 0
-Holds members a b = (p : PeerState) × (map.get members a ≡ Some (Live p)) × Has p.hyparview.views.active b
+Holds members a b = (p : PeerState) × (map.get members a ≡ Some (member.Live p)) × Has p.hyparview.views.active b
 
 -- the node that is born at an event, if one is
 abbrev pub newborn_of : Event → Option ℕ

@@ -7,5 +7,5 @@ use Rattle.ov_net.proofs.world.World.journal.Goals as goal
 pub returns-clause-few : goal.returns-clause-few
 returns-clause-few c =
     let w = c.self.inside in
-    subst (λ (v : WorldState). HasFewNodes v.journal) c.self.view_is
+    subst (λ (v : WorldState). HasFewNodes v.net.params v.journal) c.self.view_is
     (few_at_each_moment (world_of w.params w.nodes w.packets.items w.journal.items) c.self.invariant.0)
