@@ -350,10 +350,9 @@ class Bounds(Programs):
         return ended.stdout.decode(), said if ended.returncode == 1 else [], ended.returncode
 
     def test_a_small_stack(self):
-        enough = [*((512 * 1024, it) for it in self.analysed), (256 * 1024, self.checked)]
-        for most, (words, given, right) in enough:
-            with self.subTest((words[1:], most)):
-                self.assertTrue(self.bounded(resource.RLIMIT_STACK, most, words, given) == (right, [], 0))
+        for words, given, right in [*self.analysed, self.checked]:
+            with self.subTest(words[1:]):
+                self.assertTrue(self.bounded(resource.RLIMIT_STACK, 256 * 1024, words, given) == (right, [], 0))
 
     def test_little_memory(self):
         refused = "", ["refused 99"], 1

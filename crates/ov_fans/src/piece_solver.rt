@@ -56,10 +56,7 @@ impl<'g> Settler<'g> {
                 kept: Kept::Few(few),
             });
         }
-        prove!(graph.nodes().len() <= Graph::MOST_OF_ANY);
-        let group = SettlerGroup::new(alloc, graph, group)?;
-        let room = FlowRoom::new(alloc, graph.nodes().len())?;
-        let many = Box::new(alloc, WideSettler::in_room(alloc, group, room))?;
+        let many = boxed(alloc, graph, group)?;
         Ok(Settler {
             kept: Kept::Many(many),
         })
@@ -96,6 +93,23 @@ impl<'g> Settler<'g> {
             Kept::Many(many) => many.nearest_cut(piece),
         }
     }
+}
+
+/// A settler with wide sets of places. It is a call of its own, so that a graph of few nodes does not pay for them on the
+/// stack.
+#[inline(never)]
+fn boxed<'g>(
+    alloc: Global,
+    graph: &'g Graph,
+    group: &[NodeId],
+) -> Result<Box<WideSettler<'g, ALL_WORDS>>, OutOfMemory>
+    requires { IsGroup graph.now group.now }
+    ensures { IfOk result (λ s. s.value ≡ record { graph = graph.now; members = group.now }) }
+{
+    prove!(graph.nodes().len() <= Graph::MOST_OF_ANY);
+    let group = SettlerGroup::new(alloc, graph, group)?;
+    let room = FlowRoom::new(alloc, graph.nodes().len())?;
+    Ok(Box::new(alloc, WideSettler::in_room(alloc, group, room))?)
 }
 
 /// Settles one piece for the group of all nodes, as `settle_group` does.

@@ -59,6 +59,7 @@ impl<'g, const W: usize> WideSettler<'g, W> {
 
     /// Settles pieces of this graph and group, with the search's buffers in this room. Nothing here fails, since a
     /// `Result` round wide sets would move all of them on the stack.
+    #[inline(never)]
     pub(crate) fn in_room(
         alloc: Global,
         group: SettlerGroup<'g, W>,

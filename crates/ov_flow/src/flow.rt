@@ -45,6 +45,7 @@ impl<'g, const W: usize> Flow<'g, W> {
     }
 
     /// Makes the buffers for searches of this net, and of others of its graph, in room that is there. No path is held.
+    #[inline(never)]
     pub fn in_room(net: SplitNet<'g, W>, room: FlowRoom<W>) -> Flow<'g, W>
         requires { room ≡ length net.graph.nodes }
         ensures { result ≡ record { net = net.entry; held = 0 } }
