@@ -1,2 +1,2 @@
--- What a search from one node found.
+-- What a search from one node found, and the shape of a graph.
 pub mod Found

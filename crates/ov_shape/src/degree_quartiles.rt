@@ -1,9 +1,16 @@
 //! The degrees at a quarter, at half and at three quarters of all nodes.
-ghost use Rattle.ov_graph.specs.Links.{HasNode, IsSmall};
-ghost use Rattle.ov_shape.specs.Degrees.{IsQuartile};
+ghost use Rattle.std.specs.Prelude.{◌*◌, ◌<◌, ◌≤◌, length, IfOk};
+ghost use Rattle.ov_graph.specs.Links.{HasNode};
+ghost use Rattle.ov_graph.specs.Paths.{node_at};
+ghost use Rattle.ov_graph.specs.Row.{word_bits};
+ghost use Rattle.ov_shape.specs.Degrees.{IsDegree, AreDegrees};
+ghost use Rattle.ov_shape.specs.Code.Found.{HasQuartiles};
 
-use crate::row_counts::count;
+use crate::place_sets::{count, words_in_use};
 use ov_graph::Graph;
+use ov_graph::bit_rows::ALL_WORDS;
+use ov_ids::OutOfMemory;
+use std::alloc::Global;
 
 /// The quartiles of the degrees.
 #[derive(Drop)]
@@ -13,25 +20,47 @@ pub(crate) struct Quartiles {
     pub third: usize,
 }
 
-/// The quartiles of the degrees of all nodes.
-pub(crate) fn quartiles_of(graph: &Graph) -> Quartiles
+/// The quartiles of the degrees of all nodes. OutOfMemory (99) if an allocation is refused.
+pub(crate) fn quartiles_of<const W: usize>(
+    alloc: Global,
+    graph: &Graph,
+) -> Result<Quartiles, OutOfMemory>
     requires node { HasNode graph.now }
-    requires small { IsSmall graph.now }
-    ensures first { IsQuartile graph.now 1 result.first }
-    ensures median { IsQuartile graph.now 2 result.median }
-    ensures third { IsQuartile graph.now 3 result.third }
+    requires room { length graph.now.nodes ≤ word_bits * W }
+    requires few { W ≤ ALL_WORDS }
+    ensures { IfOk result (HasQuartiles graph.now) }
 {
-    let words = graph.words();
     let nodes = graph.nodes().len();
-    let mut degrees = [0; Graph::MOST_NODES];
+    let mut degrees = degrees_of::<W>(alloc, graph)?;
+    degrees.sort_unstable();
+    Ok(Quartiles {
+        first: degrees[(nodes + 3) / 4 - 1],
+        median: degrees[(2 * nodes + 3) / 4 - 1],
+        third: degrees[(3 * nodes + 3) / 4 - 1],
+    })
+}
+
+/// The degrees of all nodes, in the order of their ids.
+fn degrees_of<const W: usize>(alloc: Global, graph: &Graph) -> Result<Vec<usize>, OutOfMemory>
+    requires room { length graph.now.nodes ≤ word_bits * W }
+    requires few { W ≤ ALL_WORDS }
+    ensures { IfOk result (λ ds. AreDegrees graph.now ds.items) }
+{
+    let nodes = graph.nodes().len();
+    let mut degrees = Vec::with_capacity(alloc, nodes)?;
     'places: for place in 0..nodes {
-        degrees[place] = count(graph.row_at(place), words);
+        degrees.push_reserved(degree_at::<W>(graph, place));
     }
-    let ascending = &mut degrees[..nodes];
-    ascending.sort_unstable();
-    Quartiles {
-        first: ascending[(nodes + 3) / 4 - 1],
-        median: ascending[(2 * nodes + 3) / 4 - 1],
-        third: ascending[(3 * nodes + 3) / 4 - 1],
-    }
+    Ok(degrees)
+}
+
+/// The degree of the node at a place.
+fn degree_at<const W: usize>(graph: &Graph, place: usize) -> usize
+    requires place { place < length graph.now.nodes }
+    requires room { length graph.now.nodes ≤ word_bits * W }
+    requires few { W ≤ ALL_WORDS }
+    ensures { IsDegree graph.now (node_at graph.now place) result }
+{
+    let neighbours: [u64; W] = graph.neighbour_set(place);
+    count(&neighbours, words_in_use::<W>(graph))
 }

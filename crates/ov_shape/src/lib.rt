@@ -6,6 +6,6 @@ mod component_search;
 mod degree_quartiles;
 mod graph_shape;
 mod layered_search;
-mod row_counts;
+mod place_sets;
 
 pub use graph_shape::{Shape, shape_of};

@@ -40,6 +40,19 @@ pub picked_none : (row : List ℕ) (p : ℕ) → picked row p [] ≡ []
 unfolding picked
 picked_none row p = refl
 
+-- sets with the same places pick the same nodes
+pub picked_same : (row set : List ℕ) (p : ℕ) (xs : List ℕ) → ((q : ℕ) → HasBit row q ↔ HasBit set q)
+    → picked row p xs ≡ picked set p xs
+picked_same row set p [] same = picked_none row p ∙ sym (picked_none set p)
+picked_same row set p (x ∷ xs) same =
+    let rest = picked_same row set (suc p) xs same in
+    elim (bit_or_not row p) [
+      | inl h ↦
+          picked_set row p x xs h ∙ ap (λ (ys : List ℕ). x ∷ ys) rest
+          ∙ sym (picked_set set p x xs ((same p).0 h))
+      | inr n ↦ picked_clear row p x xs n ∙ rest ∙ sym (picked_clear set p x xs (λ h. n ((same p).1 h)))
+    ]
+
 -- no more nodes are picked than there are
 pub few_picked : (row : List ℕ) (p : ℕ) (xs : List ℕ) → length (picked row p xs) ≤ length xs
 few_picked row p [] =

@@ -12,23 +12,23 @@ use Rattle.ov_graph.proofs.BitRows.Bits.{bit_moved}
 use Rattle.ov_graph.proofs.BitRows.Read.{has_picked, in_picked, ascends_picked}
 use Rattle.ov_graph.proofs.EvenTest.Walks.{joined_trans, joined_sym}
 use Rattle.ov_graph.specs.Components.{IsComponent}
-use Rattle.ov_shape.specs.Code.Found.{IsRowOf, IsLargestFound}
+use Rattle.ov_shape.specs.Code.Found.{IsComponentSet, IsLargestFound}
 use Rattle.ov_shape.proofs.ShapeOfGraph.Walks.{joined_node, joined_is_node}
 
 -- what a row of a component picks is the component
-pub component_of : (g : LinkGraph) (a : ℕ) (row : List ℕ) → IsGraph g → Has g.nodes a → IsRowOf g a row
+pub component_of : (g : LinkGraph) (a : ℕ) (row : List ℕ) → IsGraph g → Has g.nodes a → IsComponentSet g a row
     → IsComponent g a (picked row 0 g.nodes)
-component_of g a row graph node row_of = record {
+component_of g a row graph node set_of = record {
   node = node;
   ascend = ascends_picked row 0 g.nodes graph.nodes_ascend;
   each = λ b. (
     (λ h.
         let k = has_picked row 0 g.nodes b h in
         let bit = bit_moved row (0 + k.place) k.place (omega arith) k.bit in
-        subst (λ (z : ℕ). Joined g [] a z) k.node ((row_of k.place).0 bit).1),
+        subst (λ (z : ℕ). Joined g [] a z) k.node ((set_of k.place).0 bit).1),
     (λ j.
         let p = place_of g.nodes b (joined_is_node g a b j) in
-        let bit = (row_of p.0).1 (p.1, subst (λ (z : ℕ). Joined g [] a z) (sym p.2) j) in
+        let bit = (set_of p.0).1 (p.1, subst (λ (z : ℕ). Joined g [] a z) (sym p.2) j) in
         subst (λ (z : ℕ). Has (picked row 0 g.nodes) z) p.2
         (in_picked row 0 g.nodes p.0 p.1 (bit_moved row p.0 (0 + p.0) (omega arith) bit))),
   );
@@ -43,23 +43,23 @@ one_component g a b xs ys one two j =
     (λ x h. (one.each x).1 (joined_trans g [] a b x j ((two.each x).0 h)))
 
 -- the component of a node whose bit is set has as many nodes as the row picks
-pub as_many : (g : LinkGraph) (a q : ℕ) (row ys : List ℕ) → IsGraph g → Has g.nodes a → IsRowOf g a row → HasBit row q
+pub as_many : (g : LinkGraph) (a q : ℕ) (row ys : List ℕ) → IsGraph g → Has g.nodes a → IsComponentSet g a row → HasBit row q
     → IsComponent g (node_at g q) ys → length ys ≡ length (picked row 0 g.nodes)
-as_many g a q row ys graph node row_of bit is =
+as_many g a q row ys graph node set_of bit is =
     ap (λ (zs : List ℕ). length zs)
-    (sym (one_component g a (node_at g q) (picked row 0 g.nodes) ys (component_of g a row graph node row_of) is
-    ((row_of q).0 bit).1))
+    (sym (one_component g a (node_at g q) (picked row 0 g.nodes) ys (component_of g a row graph node set_of) is
+    ((set_of q).0 bit).1))
 
 -- a node's own bit is set in the row of its component
-pub own_bit : (g : LinkGraph) (p : ℕ) (row : List ℕ) → p < length g.nodes → IsRowOf g (node_at g p) row → HasBit row p
-own_bit g p row l row_of = (row_of p).1 (l, joined_node g (node_at g p) (has_place g.nodes p 0 l))
+pub own_bit : (g : LinkGraph) (p : ℕ) (row : List ℕ) → p < length g.nodes → IsComponentSet g (node_at g p) row → HasBit row p
+own_bit g p row l set_of = (set_of p).1 (l, joined_node g (node_at g p) (has_place g.nodes p 0 l))
 
 -- of the components of the nodes that were seen, among them all before `place`, the row is that of the largest, whose
 -- first node is at the place `first`
 pub record IsBest (g : LinkGraph) (place : ℕ) (seen row : List ℕ) (count : ℕ) : Type 0 where
   pub first : ℕ
   pub first_below : first < place
-  pub row_of : IsRowOf g (node_at g first) row
+  pub set_of : IsComponentSet g (node_at g first) row
   pub counted : count ≡ length (picked row 0 g.nodes)
   pub all_seen : (q : ℕ) → q < place → HasBit seen q
   pub within : (q : ℕ) → HasBit seen q → q < length g.nodes
@@ -67,18 +67,18 @@ pub record IsBest (g : LinkGraph) (place : ℕ) (seen row : List ℕ) (count : �
   pub least : (q : ℕ) → HasBit seen q → (ys : List ℕ) → IsComponent g (node_at g q) ys → length ys ≡ count → first ≤ q
 
 pub best_begun : (g : LinkGraph) (row : List ℕ) (count : ℕ) → IsGraph g → 0 < length g.nodes
-    → IsRowOf g (node_at g 0) row → count ≡ length (picked row 0 g.nodes) → IsBest g 1 row row count
-best_begun g row count graph some row_of counted = record {
+    → IsComponentSet g (node_at g 0) row → count ≡ length (picked row 0 g.nodes) → IsBest g 1 row row count
+best_begun g row count graph some set_of counted = record {
   first = 0;
   first_below = omega arith;
-  row_of = row_of;
+  set_of = set_of;
   counted = counted;
   all_seen = λ q l.
       let e : 0 ≡ q = omega (arith, l) in
-      subst (λ (i : ℕ). HasBit row i) e (own_bit g 0 row some row_of);
-  within = λ q h. ((row_of q).0 h).0;
+      subst (λ (i : ℕ). HasBit row i) e (own_bit g 0 row some set_of);
+  within = λ q h. ((set_of q).0 h).0;
   most = λ q h ys is.
-      let e = as_many g (node_at g 0) q row ys graph (has_place g.nodes 0 0 some) row_of h is in
+      let e = as_many g (node_at g 0) q row ys graph (has_place g.nodes 0 0 some) set_of h is in
       omega (arith, e, counted);
   least = λ q h ys is e. omega arith;
 }
@@ -89,7 +89,7 @@ pub best_seen : (g : LinkGraph) (place : ℕ) (seen row : List ℕ) (count : ℕ
 best_seen g place seen row count h best = record {
   first = best.first;
   first_below = let l = best.first_below in omega (arith, l);
-  row_of = best.row_of;
+  set_of = best.set_of;
   counted = best.counted;
   all_seen = λ q l. elim (cases_eq q place) [
     | inl e ↦ subst (λ (i : ℕ). HasBit seen i) (sym e) h
@@ -105,24 +105,24 @@ pub record IsNew (g : LinkGraph) (place : ℕ) (seen all row : List ℕ) (count 
   pub graph : IsGraph g
   pub below : place < length g.nodes
   pub unseen : ¬ HasBit seen place
-  pub row_of : IsRowOf g (node_at g place) row
+  pub set_of : IsComponentSet g (node_at g place) row
   pub counted : count ≡ length (picked row 0 g.nodes)
   pub each : (q : ℕ) → q < length g.nodes → HasBit all q ↔ (HasBit seen q ⊎ HasBit row q)
   pub within : (q : ℕ) → HasBit all q → q < length g.nodes
 
 pub new_of : (g : LinkGraph) (place : ℕ) (seen all row old : List ℕ) (count most words : ℕ) → IsGraph g
     → length g.nodes ≤ 64 * words → place < length g.nodes → (¬ HasBit seen place) → IsBest g place seen old most
-    → IsRowOf g (node_at g place) row → count ≡ length (picked row 0 g.nodes)
+    → IsComponentSet g (node_at g place) row → count ≡ length (picked row 0 g.nodes)
     → ((q : ℕ) → HasBit all q ↔ ((q < 64 * words) × (HasBit seen q ⊎ HasBit row q)))
     → IsNew g place seen all row count
-new_of g place seen all row old count most words graph enough below unseen best row_of counted each = record {
+new_of g place seen all row old count most words graph enough below unseen best set_of counted each = record {
   graph = graph;
   below = below;
   unseen = unseen;
-  row_of = row_of;
+  set_of = set_of;
   counted = counted;
   each = λ q l. ((λ h. ((each q).0 h).1), (λ h. (each q).1 (omega (arith, l, enough), h)));
-  within = λ q h. elim ((each q).0 h).1 [ inl k ↦ best.within q k | inr k ↦ ((row_of q).0 k).0 ];
+  within = λ q h. elim ((each q).0 h).1 [ inl k ↦ best.within q k | inr k ↦ ((set_of q).0 k).0 ];
 }
 
 all_seen_more : (g : LinkGraph) (place : ℕ) (seen all row old : List ℕ) (count most : ℕ)
@@ -130,14 +130,14 @@ all_seen_more : (g : LinkGraph) (place : ℕ) (seen all row old : List ℕ) (cou
 all_seen_more g place seen all row old count most new best q l =
     let b = new.below in
     (new.each q (omega (arith, l, b))).1 (elim (cases_eq q place) [
-      | inl e ↦ inr (subst (λ (i : ℕ). HasBit row i) (sym e) (own_bit g place row new.below new.row_of))
+      | inl e ↦ inr (subst (λ (i : ℕ). HasBit row i) (sym e) (own_bit g place row new.below new.set_of))
       | inr ne ↦ inl (best.all_seen q (omega (arith, l, ne)))
     ])
 
 as_many_new : (g : LinkGraph) (place : ℕ) (seen all row : List ℕ) (count q : ℕ) (ys : List ℕ)
     → IsNew g place seen all row count → HasBit row q → IsComponent g (node_at g q) ys → length ys ≡ count
 as_many_new g place seen all row count q ys new h is =
-    as_many g (node_at g place) q row ys new.graph (has_place g.nodes place 0 new.below) new.row_of h is
+    as_many g (node_at g place) q row ys new.graph (has_place g.nodes place 0 new.below) new.set_of h is
     ∙ sym new.counted
 
 -- it is larger
@@ -147,7 +147,7 @@ pub best_larger : (g : LinkGraph) (place : ℕ) (seen all row old : List ℕ) (c
 best_larger g place seen all row old count most new best larger = record {
   first = place;
   first_below = omega arith;
-  row_of = new.row_of;
+  set_of = new.set_of;
   counted = new.counted;
   all_seen = all_seen_more g place seen all row old count most new best;
   within = new.within;
@@ -169,7 +169,7 @@ best_stays g place seen all row old count most new best not_larger =
     let f = best.first_below in record {
       first = best.first;
       first_below = omega (arith, f);
-      row_of = best.row_of;
+      set_of = best.set_of;
       counted = best.counted;
       all_seen = all_seen_more g place seen all row old count most new best;
       within = new.within;
@@ -197,10 +197,10 @@ pub best_of_all : (g : LinkGraph) (place : ℕ) (seen row : List ℕ) (count : �
     → IsBest g place seen row count → IsLargestFound g row count
 best_of_all g place seen row count graph end best =
     let own : IsComponent g (node_at g best.first) (picked row 0 g.nodes) =
-    component_of g (node_at g best.first) row graph first_node best.row_of in record {
+    component_of g (node_at g best.first) row graph first_node best.set_of in record {
       first = node_at g best.first;
       node = first_node;
-      row_of = best.row_of;
+      set_of = best.set_of;
       counted = best.counted;
       largest = record {
         first = node_at g best.first;

@@ -4,14 +4,13 @@ use Rattle.std.proofs.Common.{inl, inr, sym, subst, arith}
 use Rattle.std.proofs.lemmas.Bool.{cases_lt, cases_eq}
 use Rattle.ov_ids.specs.Members.{Has}
 use Rattle.ov_ids.proofs.Members.{place_of, has_place}
-use Rattle.ov_graph.specs.declared.bit_rows.TheConstants.{EMPTY}
 use Rattle.ov_graph.specs.Links.{LinkGraph, IsGraph, Linked}
+use Rattle.ov_graph.specs.Neighbours.{AreLinkedAt, IsOutside}
 use Rattle.ov_graph.specs.Paths.{node_at}
 use Rattle.ov_graph.specs.Row.{HasBit, IsFirstFrom}
-use Rattle.ov_graph.proofs.BitRows.Bits.{no_word_yet}
 use Rattle.ov_graph.proofs.BitRows.Read.{one_place}
 use Rattle.ov_shape.specs.Distances.{WalksBy, IsDistance}
-use Rattle.ov_shape.specs.Code.Found.{IsRowOf, IsWithin, IsBeside}
+use Rattle.ov_shape.specs.Code.Found.{IsComponentSet, IsOfNodes, IsBeside}
 use Rattle.ov_shape.proofs.ShapeOfGraph.Counts.{bit_or_not, IsParted}
 use Rattle.ov_shape.proofs.ShapeOfGraph.Walks.{walk_last, walk_more, walk_none, walk_stays, joined_by, walk_of, before_node}
 use Rattle.ov_shape.proofs.ShapeOfGraph.Walks.{joined_is_node, distance_self}
@@ -143,7 +142,7 @@ all_near g a m reached next graph near layer empty (suc d) b h w =
 
 -- then the row is that of the component
 pub reached_all : (g : LinkGraph) (a m : ℕ) (reached next : List ℕ) → IsGraph g → Has g.nodes a
-    → IsReached g a m reached → IsLayer g a (suc m) next → ((q : ℕ) → ¬ HasBit next q) → IsRowOf g a reached
+    → IsReached g a m reached → IsLayer g a (suc m) next → ((q : ℕ) → ¬ HasBit next q) → IsComponentSet g a reached
 reached_all g a m reached next graph node near layer empty q = (
   (λ h. let n = (near q).0 h in (n.0, joined_by g n.1.0 a (node_at g q) graph node n.1.2)),
   (λ h.
@@ -209,17 +208,28 @@ pub record IsBesideBelow (g : LinkGraph) (front : List ℕ) (from q : ℕ) : Typ
   pub bit : HasBit front place
   pub linked : Linked g (node_at g place) (node_at g q)
 
-pub beside_more : (g : LinkGraph) (front old row new : List ℕ) (from p words : ℕ) → length g.nodes ≤ 64 * words
-    → IsFirstFrom front from p
-    → ((q : ℕ) → HasBit row q ↔ ((q < length g.nodes) × Linked g (node_at g p) (node_at g q)))
-    → ((q : ℕ) → HasBit new q ↔ ((q < 64 * words) × (HasBit old q ⊎ HasBit row q)))
-    → ((q : ℕ) → HasBit old q ↔ IsBesideBelow g front from q)
-    → (q : ℕ) → HasBit new q ↔ IsBesideBelow g front (p + 1) q
-beside_more g front old row new from p words few first links joined before q =
+-- q is linked to one of these nodes at places below p + 1: to one below the first of them from `from` on, or to this one
+beside_step : (g : LinkGraph) (front : List ℕ) (from p q : ℕ) → IsFirstFrom front from p
+    → IsBesideBelow g front (p + 1) q ↔ (IsBesideBelow g front from q ⊎ AreLinkedAt g p q)
+beside_step g front from p q first =
     let reached = first.reached in (
-      (λ h. elim ((joined q).0 h).1 [
-        | inl k ↦
-            let b = (before q).0 k in
+      (λ b.
+          let m = b.below in
+          elim (cases_lt b.place from) [
+            | inl k ↦ inl (record {
+              within = b.within;
+              place = b.place;
+              below = k;
+              bit = b.bit;
+              linked = b.linked;
+            })
+            | inr ge ↦ elim (cases_eq b.place p) [
+              | inl e ↦ inr (b.within, subst (λ (i : ℕ). Linked g (node_at g i) (node_at g q)) e b.linked)
+              | inr ne ↦ absurd (first.first b.place ge (omega (arith, m, ne)) b.bit)
+            ]
+          ]),
+      (λ h. elim h [
+        | inl b ↦
             let l = b.below in
             record {
               within = b.within;
@@ -228,57 +238,97 @@ beside_more g front old row new from p words few first links joined before q =
               bit = b.bit;
               linked = b.linked;
             }
-        | inr k ↦
-            let b = (links q).0 k in
-            record { within = b.0; place = p; below = omega arith; bit = first.set; linked = b.1 }
+        | inr k ↦ record { within = k.0; place = p; below = omega arith; bit = first.set; linked = k.1 }
       ]),
-      (λ b.
-          let l = b.within in
-          let m = b.below in
-          (joined q).1 (
-            omega (arith, l, few),
-            elim (cases_lt b.place from) [
-              | inl k ↦ inl ((before q).1 (record {
-                within = l;
-                place = b.place;
-                below = k;
-                bit = b.bit;
-                linked = b.linked;
-              }))
-              | inr ge ↦ elim (cases_eq b.place p) [
-                | inl e ↦ inr ((links q).1 (l, subst (λ (i : ℕ). Linked g (node_at g i) (node_at g q)) e b.linked))
-                | inr ne ↦ absurd (first.first b.place ge (omega (arith, m, ne)) b.bit)
-              ]
-            ],
-          )),
     )
 
-pub beside_begun : (g : LinkGraph) (front : List ℕ) (q : ℕ) → HasBit EMPTY q ↔ IsBesideBelow g front 0 q
-beside_begun g front q = (
-  (λ h. let l = ((no_word_yet (λ p. ℕ) q).0 h).0 in absurd (omega (arith, l))),
-  (λ b. let l = b.below in absurd (omega (arith, l))),
-)
+-- the nodes of a layer at places below `from` were gone through: `reached` has what had been reached before, and their
+-- neighbours, and `next` has those of the neighbours that had not been reached before
+pub record IsLayered (g : LinkGraph) (front old reached next : List ℕ) (from : ℕ) : Type 0 where
+  pub all : (q : ℕ) → HasBit reached q ↔ (HasBit old q ⊎ IsBesideBelow g front from q)
+  pub new : (q : ℕ) → HasBit next q ↔ (IsBesideBelow g front from q × ¬ HasBit old q)
+
+pub layered_begun : (g : LinkGraph) (front old next : List ℕ) → ((q : ℕ) → ¬ HasBit next q)
+    → IsLayered g front old old next 0
+layered_begun g front old next empty = record {
+  all = λ q. (
+    (λ h. inl h),
+    (λ h. elim h [ inl k ↦ k | inr b ↦ let l = b.below in absurd (omega (arith, l)) ]),
+  );
+  new = λ q. ((λ h. absurd (empty q h)), (λ b. let l = b.0.below in absurd (omega (arith, l))));
+}
+
+-- one node more
+pub layered_more : (g : LinkGraph) (front old reached next reached1 next1 : List ℕ) (from p : ℕ)
+    → IsFirstFrom front from p → IsLayered g front old reached next from
+    → ((q : ℕ) → HasBit reached1 q ↔ (HasBit reached q ⊎ AreLinkedAt g p q))
+    → ((q : ℕ) → HasBit next1 q ↔ (HasBit next q ⊎ IsOutside g p reached q))
+    → IsLayered g front old reached1 next1 (p + 1)
+layered_more g front old reached next reached1 next1 from p first before all new = record {
+  all = λ q.
+      let step = beside_step g front from p q first in (
+        (λ h. elim ((all q).0 h) [
+          | inl k ↦ elim ((before.all q).0 k) [ inl o ↦ inl o | inr b ↦ inr (step.1 (inl b)) ]
+          | inr l ↦ inr (step.1 (inr l))
+        ]),
+        (λ h. elim h [
+          | inl o ↦ (all q).1 (inl ((before.all q).1 (inl o)))
+          | inr b ↦ elim (step.0 b) [
+            | inl k ↦ (all q).1 (inl ((before.all q).1 (inr k)))
+            | inr l ↦ (all q).1 (inr l)
+          ]
+        ]),
+      );
+  new = λ q.
+      let step = beside_step g front from p q first in (
+        (λ h. elim ((new q).0 h) [
+          | inl k ↦ let b = (before.new q).0 k in (step.1 (inl b.0), b.1)
+          | inr l ↦ (step.1 (inr l.0), λ o. l.1 ((before.all q).1 (inl o)))
+        ]),
+        (λ b. elim (step.0 b.0) [
+          | inl k ↦ (new q).1 (inl ((before.new q).1 (k, b.1)))
+          | inr l ↦ elim (bit_or_not reached q) [
+            | inl r ↦ elim ((before.all q).0 r) [
+              | inl o ↦ absurd (b.1 o)
+              | inr k ↦ (new q).1 (inl ((before.new q).1 (k, b.1)))
+            ]
+            | inr n ↦ (new q).1 (inr (l, n))
+          ]
+        ]),
+      );
+}
 
 -- after the last node of the layer
-pub beside_ended : (g : LinkGraph) (front beside reached next : List ℕ) (from words : ℕ) → length g.nodes ≤ 64 * words
-    → IsWithin g front → ((q : ℕ) → from ≤ q → q < 64 * words → ¬ HasBit front q)
-    → ((q : ℕ) → HasBit beside q ↔ IsBesideBelow g front from q)
-    → ((q : ℕ) → HasBit next q ↔ ((q < 64 * words) × HasBit beside q × ¬ HasBit reached q))
-    → IsNext g front reached next
-beside_ended g front beside reached next from words few within none below left q = (
+below_all : (g : LinkGraph) (front : List ℕ) (from words q : ℕ) → length g.nodes ≤ 64 * words → IsOfNodes g front
+    → ((q : ℕ) → from ≤ q → q < 64 * words → ¬ HasBit front q) → IsBeside g front q → IsBesideBelow g front from q
+below_all g front from words q few within none b =
+    let m = within b.place b.bit in
+    let under : b.place < from = elim (cases_lt b.place from) [
+      | inl k ↦ k
+      | inr ge ↦ absurd (none b.place ge (omega (arith, m, few)) b.bit)
+    ] in
+    record { within = b.within; place = b.place; below = under; bit = b.bit; linked = b.linked }
+
+pub layered_next : (g : LinkGraph) (front old reached next : List ℕ) (from words : ℕ) → length g.nodes ≤ 64 * words
+    → IsOfNodes g front → ((q : ℕ) → from ≤ q → q < 64 * words → ¬ HasBit front q)
+    → IsLayered g front old reached next from → IsNext g front old next
+layered_next g front old reached next from words few within none all q = (
   (λ h.
-      let l = (left q).0 h in
-      let b = (below q).0 l.1 in
-      (record { within = b.within; place = b.place; bit = b.bit; linked = b.linked }, l.2)),
-  (λ h.
-      let b = h.0 in
-      let l = b.within in
-      let m = within b.place b.bit in
-      let under : b.place < from = elim (cases_lt b.place from) [
-        | inl k ↦ k
-        | inr ge ↦ absurd (none b.place ge (omega (arith, m, few)) b.bit)
-      ] in
-      let bit = (below q).1
-      (record { within = l; place = b.place; below = under; bit = b.bit; linked = b.linked }) in
-      (left q).1 (omega (arith, l, few), bit, h.1)),
+      let b = (all.new q).0 h in
+      let k = b.0 in
+      (record { within = k.within; place = k.place; bit = k.bit; linked = k.linked }, b.1)),
+  (λ h. (all.new q).1 (below_all g front from words q few within none h.0, h.1)),
+)
+
+pub layered_reached : (g : LinkGraph) (front old reached next : List ℕ) (from : ℕ)
+    → IsLayered g front old reached next from → (q : ℕ) → HasBit reached q ↔ (HasBit old q ⊎ HasBit next q)
+layered_reached g front old reached next from all q = (
+  (λ h. elim ((all.all q).0 h) [
+    | inl o ↦ inl o
+    | inr b ↦ elim (bit_or_not old q) [ inl o ↦ inl o | inr n ↦ inr ((all.new q).1 (b, n)) ]
+  ]),
+  (λ h. elim h [
+    | inl o ↦ (all.all q).1 (inl o)
+    | inr k ↦ (all.all q).1 (inr ((all.new q).0 k).0)
+  ]),
 )

@@ -31,11 +31,11 @@ pub record IsPassing (g : LinkGraph) (row : List ℕ) (from total far : ℕ) : T
   pub b_within : Has (picked row 0 g.nodes) b
   pub reached : IsDistance g a b far
   pub most : (p y e : ℕ) → p < from → HasBit row p → IsDistance g (node_at g p) y e → e ≤ far
-  pub few : total ≤ from * (1024 * 1024)
+  pub few : total ≤ from * (32768 * 32768)
 
 own : (g : LinkGraph) (row : List ℕ) (count : ℕ) → IsGraph g → (f : IsLargestFound g row count)
     → Has (picked row 0 g.nodes) f.first
-own g row count graph f = ((component_of g f.first row graph f.node f.row_of).each f.first).1
+own g row count graph f = ((component_of g f.first row graph f.node f.set_of).each f.first).1
     (joined_node g f.first f.node)
 
 pub passing_begun : (g : LinkGraph) (row : List ℕ) (count : ℕ) → IsGraph g → IsLargestFound g row count
@@ -52,19 +52,19 @@ passing_begun g row count graph f = record {
 }
 
 -- what the search from the next node found
-pub passing_more : (g : LinkGraph) (row : List ℕ) (count from p total far : ℕ) (f : Found) → IsGraph g
+pub passing_more : {W : ℕ} (g : LinkGraph) (row : List ℕ) (count from p total far : ℕ) (f : Found W) → IsGraph g
     → IsLargestFound g row count → IsFirstFrom row from p → IsFound g (node_at g p) f → IsPassing g row from total far
     → IsPassing g row (p + 1) (total + f.total) (max far f.far)
 passing_more g row count from p total far f graph is first found before =
     let whole = picked row 0 g.nodes in
     let node : Has g.nodes (node_at g p) = has_place g.nodes p 0 within in
-    let one : IsComponent g is.first whole = component_of g is.first row graph is.node is.row_of in
-    let two : IsComponent g (node_at g p) (picked f.row 0 g.nodes) =
-    component_of g (node_at g p) f.row graph node found.row in
-    let same : picked f.row 0 g.nodes ≡ whole =
-    sym (one_component g is.first (node_at g p) whole (picked f.row 0 g.nodes) one two ((is.row_of p).0 first.set).1) in
+    let one : IsComponent g is.first whole = component_of g is.first row graph is.node is.set_of in
+    let two : IsComponent g (node_at g p) (picked f.places 0 g.nodes) =
+    component_of g (node_at g p) f.places graph node found.places in
+    let same : picked f.places 0 g.nodes ≡ whole =
+    sym (one_component g is.first (node_at g p) whole (picked f.places 0 g.nodes) one two ((is.set_of p).0 first.set).1) in
     let spans : Spans g whole (node_at g p) f.total =
-    sum_at (IsDistance g (node_at g p)) (picked f.row 0 g.nodes) whole f.total f.total same refl found.total in
+    sum_at (IsDistance g (node_at g p)) (picked f.places 0 g.nodes) whole f.total f.total same refl found.total in
     let next : picked row from (drop from g.nodes) ≡ node_at g p ∷ picked row (p + 1) (drop (p + 1) g.nodes) =
     next_picked row g.nodes from p 0 first within in
     let sum = goes_more (Spans g whole) whole (picked row from (drop from g.nodes))
@@ -83,7 +83,7 @@ passing_more g row count from p total far f graph is first found before =
         | inr ne ↦ absurd (first.first q ge (omega (arith, l, ne)) h)
       ]
     ] in
-    let few : total + f.total ≤ (p + 1) * (1024 * 1024) =
+    let few : total + f.total ≤ (p + 1) * (32768 * 32768) =
     let a = before.few in let b = found.few in let c = first.reached in omega (arith, a, b, c) in
     elim (cases_lt far f.far) [
       | inl l ↦
@@ -113,7 +113,7 @@ passing_more g row count from p total far f graph is first found before =
     ]
   where
     within : p < length g.nodes
-    within = ((is.row_of p).0 first.set).0
+    within = ((is.set_of p).0 first.set).0
 
 -- after the last node
 pub passing_sum : (g : LinkGraph) (row : List ℕ) (from total far : ℕ) → ((q : ℕ) → from ≤ q → ¬ HasBit row q)
@@ -132,7 +132,7 @@ passing_far g row count from total far graph is none all = record {
   b_within = all.b_within;
   reached = all.reached;
   most = λ x y e h k d.
-      let one = component_of g is.first row graph is.node is.row_of in
+      let one = component_of g is.first row graph is.node is.set_of in
       let p = place_of g.nodes x (joined_is_node g is.first x ((one.each x).0 h)) in
       let bit : HasBit row p.0 = (picked_at row g.nodes p.0 graph.nodes_ascend p.1).0
       (subst (λ (z : ℕ). Has (picked row 0 g.nodes) z) (sym p.2) h) in

@@ -10,10 +10,10 @@ use Rattle.ov_graph.proofs.BitRows.Bits.{bit_moved}
 use Rattle.ov_graph.proofs.BitRows.Read.{in_picked, next_picked, none_picked}
 use Rattle.ov_shape.specs.Sums.{IsSum}
 use Rattle.ov_shape.specs.Distances.{IsDistance}
-use Rattle.ov_shape.specs.Code.Found.{IsFound, IsWithin}
+use Rattle.ov_shape.specs.Code.Found.{IsFound, IsOfNodes}
 use Rattle.ov_shape.specs.declared.layered_search.Found.{Found}
 use Rattle.ov_shape.proofs.ShapeOfGraph.Sums.{sum_at}
-use Rattle.ov_shape.proofs.ShapeOfGraph.Counts.{IsParted, some_bit, few_picked, count_parted, sum_parted}
+use Rattle.ov_shape.proofs.ShapeOfGraph.Counts.{IsParted, some_bit, few_picked, picked_same, count_parted, sum_parted}
 use Rattle.ov_shape.proofs.ShapeOfGraph.Layers.{IsReached, IsLayer, IsNext, next_layer, next_reached, next_apart, reached_all}
 use Rattle.ov_shape.proofs.ShapeOfGraph.Layers.{far_most, first_reached, first_layer}
 use Rattle.ov_shape.proofs.ShapeOfGraph.Walks.{distance_self}
@@ -26,7 +26,7 @@ pub record IsSearching (g : LinkGraph) (a : ℕ) (front row : List ℕ) (count t
   pub counted : count ≡ length (picked row 0 g.nodes)
   pub sum : IsSum (IsDistance g a) (picked row 0 g.nodes) total
   pub near : far < count
-  pub few : total ≤ 1024 * count
+  pub few : total ≤ 32768 * count
 
 alone_picked : (g : LinkGraph) (p : ℕ) (row : List ℕ) → p < length g.nodes → ((q : ℕ) → HasBit row q ↔ q ≡ p)
     → picked row 0 g.nodes ≡ node_at g p ∷ []
@@ -60,7 +60,7 @@ searching_begun g p row graph l one =
 -- the next layer, and the row of all that is reached with it
 pub record IsStep (g : LinkGraph) (front row next all : List ℕ) (more : ℕ) : Type 0 where
   pub graph : IsGraph g
-  pub small : length g.nodes ≤ 1024
+  pub small : length g.nodes ≤ 32768
   pub is_next : IsNext g front row next
   pub counted : more ≡ length (picked next 0 g.nodes)
   pub each : (q : ℕ) → q < length g.nodes → HasBit all q ↔ (HasBit row q ⊎ HasBit next q)
@@ -68,7 +68,7 @@ pub record IsStep (g : LinkGraph) (front row next all : List ℕ) (more : ℕ) :
 
 -- a layer is of nodes
 pub front_within : (g : LinkGraph) (a : ℕ) (front row : List ℕ) (count total far : ℕ)
-    → IsSearching g a front row count total far → IsWithin g front
+    → IsSearching g a front row count total far → IsOfNodes g front
 front_within g a front row count total far s q h = ((s.layer q).0 h).0
 
 -- a count of bits, for every list of nodes that has one for each
@@ -76,24 +76,20 @@ abbrev pub IsCountOf : List ℕ → ℕ → ℕ → Type 0
 IsCountOf row words n = (xs : List ℕ) → ((q : ℕ) → HasBit row q → q < length xs) → length xs ≤ 64 * words
     → n ≡ length (picked row 0 xs)
 
--- the bits of two rows together
-abbrev pub IsEither : List ℕ → List ℕ → List ℕ → ℕ → Type 0
-IsEither a b all words = (q : ℕ) → HasBit all q ↔ ((q < 64 * words) × (HasBit a q ⊎ HasBit b q))
-
-pub next_within : (g : LinkGraph) (front row next : List ℕ) → IsNext g front row next → IsWithin g next
+pub next_within : (g : LinkGraph) (front row next : List ℕ) → IsNext g front row next → IsOfNodes g next
 next_within g front row next is_next q h = ((is_next q).0 h).0.within
 
 pub step_of : (g : LinkGraph) (a : ℕ) (front row next all : List ℕ) (count total far more words : ℕ) → IsGraph g
-    → length g.nodes ≤ 1024 → length g.nodes ≤ 64 * words → IsSearching g a front row count total far
-    → IsNext g front row next → IsCountOf next words more → IsEither row next all words
-    → IsStep g front row next all more
+    → length g.nodes ≤ 32768 → length g.nodes ≤ 64 * words → IsSearching g a front row count total far
+    → IsNext g front row next → IsCountOf next words more
+    → ((q : ℕ) → HasBit all q ↔ (HasBit row q ⊎ HasBit next q)) → IsStep g front row next all more
 step_of g a front row next all count total far more words graph small enough s is_next counted each = record {
   graph = graph;
   small = small;
   is_next = is_next;
   counted = counted g.nodes (next_within g front row next is_next) enough;
-  each = λ q l. ((λ h. ((each q).0 h).1), (λ h. (each q).1 (omega (arith, l, enough), h)));
-  within = λ q h. elim ((each q).0 h).1 [
+  each = λ q l. each q;
+  within = λ q h. elim ((each q).0 h) [
     | inl k ↦ ((s.reached q).0 k).0
     | inr k ↦ next_within g front row next is_next q k
   ];
@@ -128,14 +124,14 @@ count_fits g a front row next all count total far more s step =
 -- the sum of the distances stays small
 pub total_fits : (g : LinkGraph) (a : ℕ) (front row next all : List ℕ) (count total far more : ℕ)
     → IsSearching g a front row count total far → IsStep g front row next all more
-    → total + (far + 1) * more ≤ 1024 * (count + more)
+    → total + (far + 1) * more ≤ 32768 * (count + more)
 total_fits g a front row next all count total far more s step =
     let l = few_picked row 0 g.nodes in
     let m = s.counted in
     let n = s.near in
     let k = s.few in
     let small = step.small in
-    let bound : far + 1 ≤ 1024 = omega (arith, l, m, n, small) in
+    let bound : far + 1 ≤ 32768 = omega (arith, l, m, n, small) in
     let product = mul-le-mul_left more bound in
     omega (arith, k, product)
 
@@ -173,25 +169,32 @@ has_some : (xs : List ℕ) (x : ℕ) → Has xs x → 0 < length xs
 has_some [] x h = absurd h
 has_some (y ∷ ys) x h = omega arith
 
-pub searching_ended : (g : LinkGraph) (a : ℕ) (front next : List ℕ) (f : Found) → IsGraph g → Has g.nodes a
-    → length g.nodes ≤ 1024 → IsSearching g a front f.row f.count f.total f.far → IsNext g front f.row next
-    → 0 ≡ length (picked next 0 g.nodes) → IsFound g a f
-searching_ended g a front next f graph node small s is_next none =
-    let layer = next_layer g a f.far front f.row next graph s.reached s.layer is_next in
+pub searching_ended : {W : ℕ} (g : LinkGraph) (a : ℕ) (front row next : List ℕ) (f : Found W) → IsGraph g
+    → Has g.nodes a → length g.nodes ≤ 32768 → IsSearching g a front row f.count f.total f.far → IsNext g front row next
+    → ((q : ℕ) → HasBit f.places q ↔ (HasBit row q ⊎ HasBit next q)) → 0 ≡ length (picked next 0 g.nodes)
+    → IsFound g a f
+searching_ended g a front row next f graph node small s is_next each none =
+    let layer = next_layer g a f.far front row next graph s.reached s.layer is_next in
     let empty : (q : ℕ) → ¬ HasBit next q = λ q h.
     let l = ((layer q).0 h).0 in
     let m = has_some (picked next 0 g.nodes) (get_or g.nodes q 0)
     (in_picked next 0 g.nodes q l (bit_moved next q (0 + q) (omega arith) h)) in
     omega (arith, none, m) in
-    let l = few_picked f.row 0 g.nodes in
+    let same : (q : ℕ) → HasBit row q ↔ HasBit f.places q = λ q. (
+      (λ h. (each q).1 (inl h)),
+      (λ h. elim ((each q).0 h) [ inl k ↦ k | inr k ↦ absurd (empty q k) ]),
+    ) in
+    let e = picked_same row f.places 0 g.nodes same in
+    let all = reached_all g a f.far row next graph node s.reached layer empty in
+    let l = few_picked row 0 g.nodes in
     let m = s.counted in
     let k = s.few in
     record {
-      row = reached_all g a f.far f.row next graph node s.reached layer empty;
-      count = s.counted;
-      total = s.sum;
+      places = λ q. ((λ h. (all q).0 ((same q).1 h)), (λ j. (same q).0 ((all q).1 j)));
+      count = s.counted ∙ ap (λ (xs : List ℕ). length xs) e;
+      total = sum_at (IsDistance g a) (picked row 0 g.nodes) (picked f.places 0 g.nodes) f.total f.total e refl s.sum;
       farthest = node_at g s.some.0;
       reached = ((s.layer s.some.0).0 s.some.1).1;
-      most = far_most g a f.far f.row next graph node s.reached layer empty;
+      most = far_most g a f.far row next graph node s.reached layer empty;
       few = omega (arith, l, m, k, small);
     }

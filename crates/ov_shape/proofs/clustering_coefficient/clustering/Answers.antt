@@ -7,27 +7,27 @@ use Rattle.ov_shape.proofs.ShapeOfGraph.Clusters.{nodes_more}
 use Rattle.ov_shape.proofs.clustering_coefficient.clustering.Goals as goal
 
 pub places-preserved : goal.places-preserved
-places-preserved c =
-    let g = c.args.graph.now in
-    let e : length c.nodes-nodes.result.now ≡ length g.nodes =
+places-preserved g c =
+    let h = c.args.graph.now in
+    let e : length c.nodes-nodes.result.now ≡ length h.nodes =
     ap (λ (xs : List ℕ). length xs) c.nodes-nodes.ensures.nodes in
     let l = c.places-test.true in
     let a = c.places.invariant.few in
     let b = c.coefficient-total.ensures.few in
     record {
-      sum = nodes_more (IsCoefficient g) g.nodes c.places.place c.coefficient-total.result c.places.total
+      sum = nodes_more (IsCoefficient h) h.nodes c.places.place c.coefficient-total.result c.places.total
           (omega (arith, l, e)) c.coefficient-total.ensures.value c.places.invariant.sum;
       few = omega (arith, a, b);
     }
 
 pub returns : goal.returns
-returns c =
-    let g = c.args.graph.now in
-    let e : length c.nodes-nodes.result.now ≡ length g.nodes =
+returns g c =
+    let h = c.args.graph.now in
+    let e : length c.nodes-nodes.result.now ≡ length h.nodes =
     ap (λ (xs : List ℕ). length xs) c.nodes-nodes.ensures.nodes in
     let end = c.places-test.false in (
       c.places.total,
-      goes_done (IsCoefficient g) g.nodes (drop c.places.place g.nodes) c.places.total
-          (drop_all c.places.place g.nodes (omega (arith, end, e))) c.places.invariant.sum,
+      goes_done (IsCoefficient h) h.nodes (drop c.places.place h.nodes) c.places.total
+          (drop_all c.places.place h.nodes (omega (arith, end, e))) c.places.invariant.sum,
       ap (λ (k : ℕ). c.places.total / (100 * k)) e,
     )

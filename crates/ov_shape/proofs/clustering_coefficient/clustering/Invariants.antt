@@ -5,7 +5,7 @@ use Rattle.ov_shape.proofs.ShapeOfGraph.Sums.{GoesOn}
 use Rattle.ov_shape.proofs.clustering_coefficient.clustering.Given as goal
 
 abbrev pub invariant-places : goal.invariant-places
-invariant-places l = record {
+invariant-places g l = record {
   sum : GoesOn (IsCoefficient l.graph) l.graph.nodes (drop l.place l.graph.nodes) l.total;
-  few : l.total ≤ l.place * (1024 * 1024 * 1000000);
+  few : l.total ≤ l.place * 1000000;
 }

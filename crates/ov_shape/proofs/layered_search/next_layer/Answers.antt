@@ -1,20 +1,36 @@
--- The nodes beside the layer, one node of the layer after another.
+-- The nodes of the layer one after another.
 use Rattle.std.proofs.Common.{arith}
-use Rattle.ov_shape.proofs.ShapeOfGraph.Layers.{beside_begun, beside_more}
+use Rattle.ov_graph.proofs.BitRows.Bits.{no_bits}
+use Rattle.ov_shape.proofs.ShapeOfGraph.Layers.{layered_begun, layered_more, layered_next, layered_reached}
 use Rattle.ov_shape.proofs.layered_search.next_layer.Goals as goal
 
-pub row_at-requires-clause-place : goal.row_at-requires-clause-place
-row_at-requires-clause-place c = c.requires.within c.in-Some.place c.in-Some.ensures.some.set
+pub reach_from-requires : goal.reach_from-requires
+reach_from-requires g c =
+    (omega arith, (c.requires.within c.in-Some.place c.in-Some.ensures.some.set, c.requires.room))
 
 pub nodes-init : goal.nodes-init
-nodes-init c = record { beside = beside_begun c.args.graph.now c.args.front.now; fits = omega arith }
+nodes-init g c = record {
+  layered = layered_begun c.args.graph.now c.args.front.now c.args.reached.now _ (no_bits g.row.W);
+  fits = omega arith;
+}
 
 pub nodes-preserved : goal.nodes-preserved
-nodes-preserved c =
+nodes-preserved g c =
     let b = c.in-Some.ensures.fits in
     record {
-      beside = beside_more c.args.graph.now c.args.front.now c.nodes.beside c.row_at.result.now c.either-beside.result
-          c.nodes.from c.in-Some.place c.words-words.result c.words-words.ensures.words.enough c.in-Some.ensures.some
-          c.row_at.ensures.bits c.either-beside.ensures c.nodes.invariant.beside;
+      layered = layered_more c.args.graph.now c.args.front.now c.args.reached.now c.nodes.reached c.nodes.next
+          c.reach_from.new.reached c.reach_from.new.next c.nodes.from c.in-Some.place c.in-Some.ensures.some
+          c.nodes.invariant.layered c.reach_from.ensures.reached c.reach_from.ensures.next;
       fits = omega (arith, b);
     }
+
+pub returns-clause-next : goal.returns-clause-next
+returns-clause-next g c =
+    layered_next c.args.graph.now c.args.front.now c.args.reached.now c.nodes.reached c.nodes.next c.nodes.from
+    c.words_in_use-words.result c.words_in_use-words.ensures.words.enough c.requires.within c.in_default.ensures.none
+    c.nodes.invariant.layered
+
+pub returns-clause-reached : goal.returns-clause-reached
+returns-clause-reached g c =
+    layered_reached c.args.graph.now c.args.front.now c.args.reached.now c.nodes.reached c.nodes.next c.nodes.from
+    c.nodes.invariant.layered

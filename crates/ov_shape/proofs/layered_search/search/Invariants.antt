@@ -5,9 +5,9 @@ use Rattle.ov_shape.proofs.ShapeOfGraph.Searching.{IsSearching}
 use Rattle.ov_shape.proofs.layered_search.search.Given as goal
 
 abbrev pub invariant-layers : goal.invariant-layers
-invariant-layers l = record {
-  found : IsSearching l.graph (node_at l.graph l.place) l.front l.found.row l.found.count l.found.total l.found.far;
+invariant-layers g l = record {
+  found : IsSearching l.graph (node_at l.graph l.place) l.front l.found.places l.found.count l.found.total l.found.far;
 }
 
 abbrev pub decreases-layers : goal.decreases-layers
-decreases-layers l = length l.graph.nodes - l.found.count
+decreases-layers g l = length l.graph.nodes - l.found.count

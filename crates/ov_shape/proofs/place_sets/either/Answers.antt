@@ -1,18 +1,19 @@
-use Rattle.std.proofs.Common.{◌∙◌, ◌⊎◌, length-set, arith, bit_or, slice_index}
+use Rattle.std.proofs.Common.{◌∙◌, ◌⊎◌, ℕ, length-set, arith, bit_or, slice_index}
+use Rattle.std.proofs.lemmas.List.{length-replicate}
 use Rattle.ov_graph.specs.Row.{HasBit}
-use Rattle.ov_graph.proofs.BitRows.Bits.{word_more, no_word_yet}
+use Rattle.ov_graph.proofs.BitRows.Bits.{word_more, no_word_of}
 use Rattle.ov_shape.proofs.ShapeOfGraph.Counts.{either_bits}
-use Rattle.ov_shape.proofs.row_counts.either.Goals as goal
+use Rattle.ov_shape.proofs.place_sets.either.Goals as goal
 
 pub loop-word-init : goal.loop-word-init
-loop-word-init c =
+loop-word-init g c =
     let a = c.args.a.now in
     let b = c.args.b.now in
     let t = c.told-a in
-    record { wide = omega (arith, t); bits = no_word_yet (λ q. HasBit a q ⊎ HasBit b q) }
+    record { wide = omega (arith, t, length-replicate {A = ℕ} g.row.W 0); bits = no_word_of g.row.W (λ q. HasBit a q ⊎ HasBit b q) }
 
 pub loop-word-preserved : goal.loop-word-preserved
-loop-word-preserved c =
+loop-word-preserved g c =
     let a = c.args.a.now in
     let b = c.args.b.now in
     let word = c.loop-word.word in
@@ -28,7 +29,7 @@ loop-word-preserved c =
     }
 
 pub returns : goal.returns
-returns c p =
+returns g c p =
     let bits = c.loop-word.invariant.bits p in
     let in_use = c.loop-word.auto.word-end in
     let end = c.loop-word-test.false in (

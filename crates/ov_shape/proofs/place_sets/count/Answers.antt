@@ -1,12 +1,12 @@
 -- One word more, and all bits.
 use Rattle.std.proofs.Common.{◌∙◌, ◌≡◌, ℕ, ◌*◌, ap, arith}
 use Rattle.ov_shape.proofs.ShapeOfGraph.Counts.{bits, word_counted, all_counted}
-use Rattle.ov_shape.proofs.row_counts.count.Goals as goal
+use Rattle.ov_shape.proofs.place_sets.count.Goals as goal
 
 pub loop-word-preserved : goal.loop-word-preserved
-loop-word-preserved c =
+loop-word-preserved g c =
     let f = c.ones-bits.ensures.fits in
-    let w = word_counted c.args.row.now c.loop-word.word f in
+    let w = word_counted c.args.set.now c.loop-word.word f in
     let v = c.ones-bits.ensures.value in
     let o = c.ones-bits.ensures.few in
     let e = c.loop-word.invariant.counted in
@@ -14,9 +14,9 @@ loop-word-preserved c =
     record { counted = omega (arith, w, v, e); few = omega (arith, o, l) }
 
 pub returns : goal.returns
-returns c xs within few =
+returns g c xs within few =
     let end = c.loop-word-test.false in
     let in_use = c.loop-word.auto.word-end in
     let e : c.loop-word.word ≡ c.args.words = omega (arith, end, in_use) in
-    c.loop-word.invariant.counted ∙ ap (λ (i : ℕ). bits c.args.row.now 0 (64 * i)) e
-    ∙ all_counted c.args.row.now xs c.args.words within few
+    c.loop-word.invariant.counted ∙ ap (λ (i : ℕ). bits c.args.set.now 0 (64 * i)) e
+    ∙ all_counted c.args.set.now xs c.args.words within few
