@@ -12,6 +12,7 @@ abbrev pub name_of : Setting → List ℕ
 name_of sets.Params = codes "params"
 name_of sets.Seed = codes "seed"
 name_of sets.Refill = codes "refill"
+name_of sets.Scale = codes "scale"
 
 -- the number of a fault of a line: parameters out of their limits have one of their own
 abbrev pub line_fault_number : LineFault → ℕ

@@ -22,6 +22,7 @@ runs None = false
 runs (Some (says.Params numbers)) = false
 runs (Some (says.Seed seed)) = false
 runs (Some (says.Refill rule)) = false
+runs (Some (says.Scale scale)) = false
 runs (Some (says.Words words)) = false
 runs (Some (says.Event event)) = true
 runs (Some (says.Look look)) = true

@@ -7,6 +7,8 @@ use Rattle.ov_ids.specs.ParamsState.{ParamsState, AreWithinLimits}
 use Rattle.ov_ids.specs.Members.{Has}
 use Rattle.ov_ids.specs.declared.refill_rule.Refill.{Refill}
 use Rattle.ov_ids.specs.declared.refill_rule.Refill.TheVariants.{Never}
+use Rattle.ov_ids.specs.declared.world_scale.Scale.{Scale}
+use Rattle.ov_ids.specs.declared.world_scale.Scale.TheVariants.{Profile}
 use Rattle.ov_net.specs.declared.event.Event.{Event}
 use Rattle.ov_scenario.specs.Draws.{AreDraws, seeded}
 use Rattle.ov_lines.specs.Lines.{kept_lines, long_bits}
@@ -63,6 +65,11 @@ abbrev pub is_refill : Option Statement → Bool
 is_refill (Some (says.Refill rule)) = true
 is_refill other = false
 
+-- a line that says this gives a scale
+abbrev pub is_scale : Option Statement → Bool
+is_scale (Some (says.Scale scale)) = true
+is_scale other = false
+
 -- the number of the first of these lines that is of a kind
 abbrev pub first_of : (Option Statement → Bool) → List Stated → Option ℕ
 first_of is_kind [] = None
@@ -79,7 +86,7 @@ BeginWithEvent [] = ⊥
 BeginWithEvent (line ∷ more) = (event : Event) × (line.says ≡ Some (says.Event event))
 
 -- the parameters if no line gives any: those of the experiments of HyParView (Leitão, Pereira, Rodrigues, DSN 2007), a
--- time to live of a shuffle that is chosen here, and the profile's rule at DISCONNECT
+-- time to live of a shuffle that is chosen here, and the profile's rule at DISCONNECT and scale
 abbrev pub default_params : ParamsState
 default_params = record {
   active = 5;
@@ -90,10 +97,11 @@ default_params = record {
   kp = 4;
   shuffle_ttl = 4;
   refill = Never;
+  scale = Profile;
 }
 
 -- these are parameters with these numbers, in the order of the line, and they are within their limits. The line leaves
--- the rule at DISCONNECT open, which a line of its own gives
+-- the rule at DISCONNECT and the scale open, which lines of their own give
 abbrev pub AreParams : List ℕ → ParamsState → Type 0
 AreParams numbers p =
     (numbers ≡ p.active ∷ p.passive ∷ p.arwl ∷ p.prwl ∷ p.ka ∷ p.kp ∷ p.shuffle_ttl ∷ []) × AreWithinLimits p
@@ -102,14 +110,15 @@ AreParams numbers p =
 abbrev pub AreWithin : List ℕ → Type 0
 AreWithin numbers = (p : ParamsState) × AreParams numbers p
 
--- what matters of the lines before a line: the numbers of the first event, the first parameters, the first seed and the
--- first rule at DISCONNECT, and the block that is open
+-- what matters of the lines before a line: the numbers of the first event, the first parameters, the first seed, the
+-- first rule at DISCONNECT and the first scale, and the block that is open
 abbrev pub before_of : List Stated → Before
 before_of lines = record {
   event = first_of is_event lines;
   params = first_of is_params lines;
   seed = first_of is_seed lines;
   refill = first_of is_refill lines;
+  scale = first_of is_scale lines;
   block = open_after lines;
 }
 
@@ -133,6 +142,8 @@ IsWrongOutside before (says.Words words) after f = IsNoEventNext after f
 IsWrongOutside before (says.Seed seed) after f = IsTooLate sets.Seed before.event before.seed f
 -- a rule at DISCONNECT that comes too late
 IsWrongOutside before (says.Refill rule) after f = IsTooLate sets.Refill before.event before.refill f
+-- a scale that comes too late
+IsWrongOutside before (says.Scale scale) after f = IsTooLate sets.Scale before.event before.scale f
 -- parameters that come too late, or else are out of their limits
 IsWrongOutside before (says.Params numbers) after f =
     IsTooLate sets.Params before.event before.params f
@@ -161,10 +172,11 @@ IsWrongInside block says.Also after f =
     (block.sections ≡ most_sections) × (f ≡ fault.TooManySections block.together)
 -- the end of the block is never at fault
 IsWrongInside block says.End after f = ⊥
--- parameters, a seed, a rule at DISCONNECT, a look, and another block
+-- parameters, a seed, a rule at DISCONNECT, a scale, a look, and another block
 IsWrongInside block (says.Params numbers) after f = f ≡ fault.NotHeld block.together
 IsWrongInside block (says.Seed seed) after f = f ≡ fault.NotHeld block.together
 IsWrongInside block (says.Refill rule) after f = f ≡ fault.NotHeld block.together
+IsWrongInside block (says.Scale scale) after f = f ≡ fault.NotHeld block.together
 IsWrongInside block (says.Look look) after f = f ≡ fault.NotHeld block.together
 IsWrongInside block says.Together after f = f ≡ fault.NotHeld block.together
 
@@ -237,25 +249,32 @@ IsFirstFault lines refused.OutOfMemory = Unit {0}
 abbrev pub IsReadingFault : List ℕ → ScenarioFault → Type 0
 IsReadingFault bytes fault = IsFirstFault (stated_lines bytes) fault
 
--- these are the parameters of these lines, whatever the rule at DISCONNECT: those that one of them gives, or the
--- default ones if none gives any
+-- these are the parameters of these lines, whatever the rule at DISCONNECT and the scale: those that one of them gives,
+-- or the default ones if none gives any
 unfoldable pub AreParamsOf : List Stated → ParamsState → Type 0
 AreParamsOf lines p =
     ((line : Stated) × (numbers : List ℕ) × Has lines line × (line.says ≡ Some (says.Params numbers))
     × AreParams numbers p)
-    ⊎ ((¬ HasKind says.Params lines) × (p ≡ record default_params { refill = p.refill }))
+    ⊎ ((¬ HasKind says.Params lines) × (p ≡ record default_params { refill = p.refill; scale = p.scale }))
+
+-- a line of this kind sets this for the whole run: it is what one of these lines gives, or the usual one if none of
+-- them is of this kind
+unfoldable pub IsSetBy : {A : Type 0} → (A → Statement) → A → List Stated → A → Type 0
+IsSetBy {A} kind usual lines x =
+    ((line : Stated) × Has lines line × (line.says ≡ Some (kind x)))
+    ⊎ ((¬ HasKind kind lines) × (x ≡ usual))
 
 -- this is the seed of these lines: the one that one of them gives, or 0 if none does
-unfoldable pub IsSeedOf : List Stated → ℕ → Type 0
-IsSeedOf lines seed =
-    ((line : Stated) × Has lines line × (line.says ≡ Some (says.Seed seed)))
-    ⊎ ((¬ HasKind says.Seed lines) × (seed ≡ 0))
+abbrev pub IsSeedOf : List Stated → ℕ → Type 0
+IsSeedOf lines seed = IsSetBy says.Seed 0 lines seed
 
 -- this is the rule at DISCONNECT of these lines: the one that one of them gives, or the profile's if none does
-unfoldable pub IsRefillOf : List Stated → Refill → Type 0
-IsRefillOf lines rule =
-    ((line : Stated) × Has lines line × (line.says ≡ Some (says.Refill rule)))
-    ⊎ ((¬ HasKind says.Refill lines) × (rule ≡ Never))
+abbrev pub IsRefillOf : List Stated → Refill → Type 0
+IsRefillOf lines rule = IsSetBy says.Refill Never lines rule
+
+-- this is the scale of these lines: the one that one of them gives, or the profile's if none does
+abbrev pub IsScaleOf : List Stated → Scale → Type 0
+IsScaleOf lines scale = IsSetBy says.Scale Profile lines scale
 
 unfoldable mutual
   -- lines that say this run as these lines: the events, the looks, the analyses and the blocks of sections in order,
@@ -299,12 +318,14 @@ abbrev pub AreToRun : List (ℕ × List ℕ) → ℕ → List Line → Type 0
 AreToRun lines seed to_run =
     (drawn : List (List ℕ)) × (left : Stream) × AreDraws (seeded seed) drawn left × RunAs (told lines) drawn to_run
 
--- the bytes of a file say this scenario: no line is at fault, the parameters with their rule at DISCONNECT and the seed
--- are those of the lines, the lines ask for those to run, and the drivers are as many as these need
+-- the bytes of a file say this scenario: no line is at fault, the parameters with their rule at DISCONNECT and their
+-- scale, and the seed, are those of the lines, the lines ask for those to run, and the drivers are as many as these
+-- need
 pub record IsScenario (bytes : List ℕ) (s : Scenario) : Type 0 where
   pub faultless : AreFaultless (stated_lines bytes)
   pub params : AreParamsOf (stated_lines bytes) s.params
   pub refill : IsRefillOf (stated_lines bytes) s.params.refill
+  pub scale : IsScaleOf (stated_lines bytes) s.params.scale
   pub seed : IsSeedOf (stated_lines bytes) s.seed
   pub lines : AreToRun (kept_lines bytes) s.seed s.lines.items
   pub drivers : s.drivers ≡ drivers_for s.lines.items

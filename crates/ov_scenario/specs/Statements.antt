@@ -6,7 +6,9 @@ use Rattle.ov_net.specs.declared.event.Event.{Event}
 use Rattle.ov_net.specs.declared.event.Event.TheVariants as event
 use Rattle.ov_ids.specs.Options.{◌>>=◌}
 use Rattle.ov_ids.specs.RefillNames.{refill_named}
+use Rattle.ov_ids.specs.Scales.{scale_named}
 use Rattle.ov_ids.specs.declared.refill_rule.Refill.{Refill}
+use Rattle.ov_ids.specs.declared.world_scale.Scale.{Scale}
 use Rattle.ov_lines.specs.Lines.{words_of, behind_word, without_space, same, row, number_within, one, two, three}
 use Rattle.ov_lines.specs.Lines.{each_number, short_bits, one_list, long_bits, workers_first}
 use Rattle.ov_scenario.specs.EventWords.{event_words}
@@ -36,6 +38,12 @@ abbrev pub one_rule : List (List ℕ) → Option Refill
 one_rule [] = None
 one_rule (v ∷ []) = refill_named v
 one_rule (v ∷ w ∷ more) = None
+
+-- one word, which is the word for a scale, and no further word
+abbrev pub one_scale : List (List ℕ) → Option Scale
+one_scale [] = None
+one_scale (v ∷ []) = scale_named v
+one_scale (v ∷ w ∷ more) = None
 
 -- `boot N` and `boot N by C`, after the name
 abbrev pub boot_of : List (List ℕ) → Option Event
@@ -99,6 +107,7 @@ setting_rows words =
     (codes "params", option_map says.Params (seven_numbers words))
     ∷ (codes "seed", option_map says.Seed (one long_bits words))
     ∷ (codes "refill", option_map says.Refill (one_rule words))
+    ∷ (codes "scale", option_map says.Scale (one_scale words))
     ∷ (codes "words", option_map says.Words (event_words words))
     ∷ []
 

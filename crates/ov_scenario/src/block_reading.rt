@@ -153,6 +153,7 @@ fn part_of<'a>(
         Ok(Statement::Params(_)) => Part::Nothing,
         Ok(Statement::Seed(_)) => Part::Nothing,
         Ok(Statement::Refill(_)) => Part::Nothing,
+        Ok(Statement::Scale(_)) => Part::Nothing,
         Ok(Statement::Look(_)) => Part::Nothing,
         Ok(Statement::Together) => Part::Nothing,
         Err(_) => Part::Nothing,

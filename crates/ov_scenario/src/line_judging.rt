@@ -12,14 +12,15 @@ use crate::scenario_fault::{LineFault, Setting};
 use crate::statement::{Stated, Statement};
 use ov_ids::Params;
 
-/// What is known of the lines before a line: the numbers of the first event, the first parameters, the first seed and
-/// the first rule at DISCONNECT, whether or not these are at fault, and the block that is open.
+/// What is known of the lines before a line: the numbers of the first event, the first parameters, the first seed,
+/// the first rule at DISCONNECT and the first scale, whether or not these are at fault, and the block that is open.
 #[derive(Clone, Copy)]
 pub(crate) struct Before {
     event: Option<usize>,
     params: Option<usize>,
     seed: Option<usize>,
     refill: Option<usize>,
+    scale: Option<usize>,
     block: Option<OpenBlock>,
 }
 
@@ -34,6 +35,7 @@ impl Before {
             params: None,
             seed: None,
             refill: None,
+            scale: None,
             block: None,
         }
     }
@@ -66,6 +68,7 @@ impl Before {
             Statement::Params(numbers) => self.fault_of_params(*numbers),
             Statement::Seed(_) => self.fault_of_setting(Setting::Seed, self.seed),
             Statement::Refill(_) => self.fault_of_setting(Setting::Refill, self.refill),
+            Statement::Scale(_) => self.fault_of_setting(Setting::Scale, self.scale),
             Statement::Words(_) => fault_of_words(after),
             Statement::Event(_) => None,
             Statement::Look(_) => None,
@@ -113,6 +116,7 @@ impl Before {
             Ok(Statement::Params(_)) => before.params = before.params.or(Some(line.number)),
             Ok(Statement::Seed(_)) => before.seed = before.seed.or(Some(line.number)),
             Ok(Statement::Refill(_)) => before.refill = before.refill.or(Some(line.number)),
+            Ok(Statement::Scale(_)) => before.scale = before.scale.or(Some(line.number)),
             Ok(
                 Statement::Words(_)
                 | Statement::Look(_)
@@ -138,7 +142,7 @@ fn fault_of_block(after: &LinesAhead) -> Option<LineFault>
 }
 
 /// The parameters with these numbers, in the order of a line of parameters, if they are within their limits, with the
-/// profile's rule at DISCONNECT.
+/// profile's rule at DISCONNECT and the profile's scale.
 pub(crate) fn params_within_limits(numbers: [u32; 7]) -> Option<Params>
     ensures within { IfSome result (λ params. AreParams numbers params) }
     ensures beyond { IfNone result (¬ AreWithin numbers) }

@@ -25,6 +25,7 @@ impl OpenBlock {
             Statement::Params(_) => Some(self.not_held()),
             Statement::Seed(_) => Some(self.not_held()),
             Statement::Refill(_) => Some(self.not_held()),
+            Statement::Scale(_) => Some(self.not_held()),
             Statement::Look(_) => Some(self.not_held()),
             Statement::Together => Some(self.not_held()),
         }

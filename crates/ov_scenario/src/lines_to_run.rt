@@ -126,6 +126,7 @@ fn line_of<'a>(
         Ok(Statement::Params(_)) => None,
         Ok(Statement::Seed(_)) => None,
         Ok(Statement::Refill(_)) => None,
+        Ok(Statement::Scale(_)) => None,
         Ok(Statement::Together) => None,
         Ok(Statement::Also) => None,
         Ok(Statement::End) => None,
@@ -164,7 +165,8 @@ pub fn line_asked_by<'a>(alloc: Global, text: &'a [u8]) -> Result<Option<Line<'a
             Ok(Some(line))
         }
         Ok(Statement::Together) => Ok(Some(Line::Together(Seq::new(Vec::new(alloc))))),
-        Ok(Statement::Params(_) | Statement::Seed(_) | Statement::Refill(_)) => Ok(None),
+        Ok(Statement::Params(_) | Statement::Seed(_)) => Ok(None),
+        Ok(Statement::Refill(_) | Statement::Scale(_)) => Ok(None),
         Ok(Statement::Words(_)) => Ok(None),
         Ok(Statement::Also | Statement::End) => Ok(None),
         Err(Unstated::Unread(_)) => Ok(None),

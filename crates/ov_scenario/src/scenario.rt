@@ -35,9 +35,9 @@ pub enum Look {
     Certificate(Subject),
 }
 
-/// What a scenario file asks for: the parameters of all nodes, with their rule at DISCONNECT, the seed of the random
-/// words that no line gives, how many drivers its sections need, and the lines to run, in order. The file's bytes are
-/// all that is kept of the lines.
+/// What a scenario file asks for: the parameters of all nodes, with their rule at DISCONNECT and the scale of their
+/// world, the seed of the random words that no line gives, how many drivers its sections need, and the lines to run, in
+/// order. The file's bytes are all that is kept of the lines.
 #[derive(Drop)]
 pub struct Scenario<'a> {
     pub params: Params,

@@ -2,7 +2,7 @@ ghost use Rattle.std.specs.Prelude.{◌≡◌};
 ghost use Rattle.ov_scenario.specs.Faults.{name_of, line_fault_number, number_of};
 ghost use Rattle.ov_scenario.specs.declared.scenario_fault.ScenarioFault.TheVariants.{OutOfMemory as out_of_memory};
 
-use crate::statement_reading::{PARAMS, REFILL, SEED};
+use crate::statement_reading::{PARAMS, REFILL, SCALE, SEED};
 use ov_ids::OutOfMemory;
 use ov_lines::Unread;
 use std::alloc::AllocError;
@@ -18,6 +18,8 @@ pub enum Setting {
     Seed,
     /// The rule at DISCONNECT of all nodes.
     Refill,
+    /// How large the world may grow.
+    Scale,
 }
 
 impl Setting {
@@ -29,6 +31,7 @@ impl Setting {
             Setting::Params => PARAMS,
             Setting::Seed => SEED,
             Setting::Refill => REFILL,
+            Setting::Scale => SCALE,
         }
     }
 }

@@ -1,5 +1,5 @@
 ghost use Rattle.std.specs.Prelude.{◌≡◌, None, max, IfOk, IfErr};
-ghost use Rattle.ov_scenario.specs.Code.Judging.{drivers_from, first_in, params_in, refill_in, seed_in};
+ghost use Rattle.ov_scenario.specs.Code.Judging.{drivers_from, first_in, params_in, refill_in, scale_in, seed_in};
 ghost use Rattle.ov_scenario.specs.RunLines.{lines_that_run};
 ghost use Rattle.ov_scenario.specs.Scenarios.{AreFaultless, IsReadingFault, IsScenario, stated_lines};
 
@@ -41,6 +41,7 @@ fn read_settings(alloc: Global, bytes: &[u8]) -> Result<Settings, ScenarioFault>
     ensures params { IfOk result (λ settings. settings.params ≡ first_in params_in (stated_lines bytes.now)) }
     ensures seed { IfOk result (λ settings. settings.seed ≡ first_in seed_in (stated_lines bytes.now)) }
     ensures refill { IfOk result (λ settings. settings.refill ≡ first_in refill_in (stated_lines bytes.now)) }
+    ensures scale { IfOk result (λ settings. settings.scale ≡ first_in scale_in (stated_lines bytes.now)) }
     ensures drivers { IfOk result (λ settings. settings.drivers ≡ max 1 (drivers_from None (stated_lines bytes.now))) }
     ensures fault { IfErr result (λ fault. IsReadingFault bytes.now fault) }
 {

@@ -3,7 +3,7 @@ ghost use Rattle.ov_scenario.specs.Sections.{is_end, is_together};
 
 use crate::given_random_words_reading::GivenWords;
 use crate::scenario::{Look, Subject};
-use ov_ids::{Refill, Workers};
+use ov_ids::{Refill, Scale, Workers};
 use ov_lines::Unread;
 use ov_net::Event;
 use std::marker::Model;
@@ -17,6 +17,8 @@ pub(crate) enum Statement<'a> {
     Seed(u64),
     /// The rule at DISCONNECT of all nodes.
     Refill(Refill),
+    /// How large the world may grow.
+    Scale(Scale),
     /// The random words of the next event.
     Words(GivenWords<'a>),
     Event(Event),

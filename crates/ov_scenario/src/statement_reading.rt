@@ -4,9 +4,9 @@ ghost use Rattle.ov_lines.specs.Lines.{words_of, row, one, two, three, long_bits
 ghost use Rattle.ov_scenario.specs.EventWords.{event_words};
 ghost use Rattle.ov_scenario.specs.RunLines.{HasIds, ReadingNeedsMemory};
 ghost use Rattle.ov_scenario.specs.Scenarios.{stated_at};
-ghost use Rattle.ov_scenario.specs.Statements.{seven_numbers, one_rule, crash_report_of, timer_of, boot_of};
-ghost use Rattle.ov_scenario.specs.Statements.{analysis_of, broadcast_of, group_at, subject_at, subject_of};
-ghost use Rattle.ov_scenario.specs.Statements.{workers_named};
+ghost use Rattle.ov_scenario.specs.Statements.{seven_numbers, one_rule, one_scale, crash_report_of};
+ghost use Rattle.ov_scenario.specs.Statements.{timer_of, boot_of, analysis_of, broadcast_of, group_at, subject_at};
+ghost use Rattle.ov_scenario.specs.Statements.{subject_of, workers_named};
 ghost use Rattle.ov_scenario.specs.Statements.{event_rows, look_rows, section_rows, line_rows, line_names};
 ghost use Rattle.ov_scenario.specs.Statements.{alone, statement_of};
 ghost use Rattle.ov_scenario.specs.Code.Reading.{Reads, numbered};
@@ -18,7 +18,7 @@ use crate::given_random_words_reading::GivenWords;
 use crate::numbered_events::Numbered;
 use crate::scenario::{Look, Subject};
 use crate::statement::{Stated, Statement};
-use ov_ids::{MsgId, NodeId, OutOfMemory, Refill, Seq, Workers};
+use ov_ids::{MsgId, NodeId, OutOfMemory, Refill, Scale, Seq, Workers};
 use ov_lines::{END, ID, Kind, LineCursor, Unread, is_word};
 use ov_net::Event;
 use std::alloc::{AllocError, Global};
@@ -32,6 +32,9 @@ pub(crate) const SEED: &str = "seed";
 /// The name of a line that gives the rule at DISCONNECT.
 pub(crate) const REFILL: &str = "refill";
 
+/// The name of a line that gives the scale.
+pub(crate) const SCALE: &str = "scale";
+
 /// The names that a line of a scenario may begin with, in the order in which they are printed.
 pub fn line_names() -> &'static [&'static str]
     ensures { map (λ name. name.now) result.now ≡ line_names }
@@ -40,6 +43,7 @@ pub fn line_names() -> &'static [&'static str]
         PARAMS,
         SEED,
         REFILL,
+        SCALE,
         "words",
         "boot",
         "deliver",
@@ -105,6 +109,8 @@ const RULES: &[Kind] = &[
     Kind::Name("alone"),
     Kind::Name("always"),
 ];
+
+const SCALES: &[Kind] = &[Kind::Name("profile"), Kind::Name("large")];
 
 const ORIGIN: &[Kind] = &[Kind::Short("the id of the node that made the message")];
 
@@ -201,6 +207,9 @@ fn read_named<'a>(
     }
     if is_word(name, REFILL.as_bytes()) {
         return read_refill(cursor);
+    }
+    if is_word(name, SCALE.as_bytes()) {
+        return read_scale(cursor);
     }
     if is_word(name, b"words") {
         return read_words(cursor);
@@ -498,6 +507,20 @@ fn read_refill<'a>(cursor: &mut LineCursor<'a>) -> Result<Statement<'a>, Unstate
     };
     match Refill::from_name(word) {
         Some(rule) => read_alone(Statement::Refill(rule), cursor),
+        None => Err(unread.into()),
+    }
+}
+
+/// Reads what follows the name `scale`: the word for a scale.
+fn read_scale<'a>(cursor: &mut LineCursor<'a>) -> Result<Statement<'a>, Unstated>
+    ensures { Reads ReadingNeedsMemory result (option_map says.Scale (one_scale (words_of cursor.old))) }
+{
+    let unread = cursor.unread(SCALES);
+    let Some(word) = cursor.word() else {
+        return Err(unread.into());
+    };
+    match Scale::from_name(word) {
+        Some(scale) => read_alone(Statement::Scale(scale), cursor),
         None => Err(unread.into()),
     }
 }

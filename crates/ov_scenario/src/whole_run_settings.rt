@@ -1,21 +1,23 @@
 ghost use Rattle.std.specs.Prelude.{◌≡◌, List, None, max};
 ghost use Rattle.std.specs.Option.{option_or};
-ghost use Rattle.ov_scenario.specs.Code.Judging.{first_in, params_in, refill_in, sections_of, seed_in};
+ghost use Rattle.ov_scenario.specs.Code.Judging.{first_in, params_in, refill_in, scale_in, sections_of, seed_in};
 ghost use Rattle.ov_scenario.specs.Statements.{Stated as StatedLine};
-ghost use Rattle.ov_scenario.specs.Scenarios.{AreFaultless, AreParamsOf, IsRefillOf, IsSeedOf, default_params};
+ghost use Rattle.ov_scenario.specs.Scenarios.{AreFaultless, AreParamsOf, IsRefillOf, IsScaleOf, IsSeedOf};
+ghost use Rattle.ov_scenario.specs.Scenarios.{default_params};
 
 use crate::line_judging::params_within_limits;
 use crate::open_block::{OpenBlock, sections_of};
 use crate::statement::{Stated, Statement};
-use ov_ids::{Params, Refill, Workers};
+use ov_ids::{Params, Refill, Scale, Workers};
 
-/// What lines give for the whole run: the numbers of the first parameters, the first seed, and the first rule at
-/// DISCONNECT, if they give any, and how many drivers they need.
+/// What lines give for the whole run: the numbers of the first parameters, the first seed, the first rule at DISCONNECT
+/// and the first scale, if they give any, and how many drivers they need.
 #[derive(Clone, Copy)]
 pub(crate) struct Settings {
     params: Option<[u32; 7]>,
     seed: Option<u64>,
     refill: Option<Refill>,
+    scale: Option<Scale>,
     drivers: Workers,
 }
 
@@ -25,12 +27,14 @@ impl Settings {
         ensures params { result.params ≡ None }
         ensures seed { result.seed ≡ None }
         ensures refill { result.refill ≡ None }
+        ensures scale { result.scale ≡ None }
         ensures drivers { result.drivers ≡ 1 }
     {
         Settings {
             params: None,
             seed: None,
             refill: None,
+            scale: None,
             drivers: Workers::ONE,
         }
     }
@@ -40,6 +44,7 @@ impl Settings {
         ensures params { result.params ≡ option_or self.params (params_in line.now.says) }
         ensures seed { result.seed ≡ option_or self.seed (seed_in line.now.says) }
         ensures refill { result.refill ≡ option_or self.refill (refill_in line.now.says) }
+        ensures scale { result.scale ≡ option_or self.scale (scale_in line.now.says) }
         ensures drivers { result.drivers ≡ max self.drivers (sections_of block) }
     {
         let mut settings = self;
@@ -48,6 +53,7 @@ impl Settings {
             Ok(Statement::Params(numbers)) => settings.params = settings.params.or(Some(*numbers)),
             Ok(Statement::Seed(seed)) => settings.seed = settings.seed.or(Some(*seed)),
             Ok(Statement::Refill(rule)) => settings.refill = settings.refill.or(Some(*rule)),
+            Ok(Statement::Scale(scale)) => settings.scale = settings.scale.or(Some(*scale)),
             Ok(
                 Statement::Words(_)
                 | Statement::Event(_)
@@ -62,15 +68,18 @@ impl Settings {
         settings
     }
 
-    /// The parameters that lines without a fault give, or the default ones, with the rule at DISCONNECT that they give,
-    /// or the profile's.
+    /// The parameters that lines without a fault give, or the default ones, with the rule at DISCONNECT and the scale
+    /// that they give, or the profile's.
     pub(crate) fn params(&self) -> Params
         ensures params { (lines : List StatedLine) → AreFaultless lines → self.now.params ≡ first_in params_in lines
             → AreParamsOf lines result }
         ensures refill { (lines : List StatedLine) → self.now.refill ≡ first_in refill_in lines
             → IsRefillOf lines result.refill }
+        ensures scale { (lines : List StatedLine) → self.now.scale ≡ first_in scale_in lines
+            → IsScaleOf lines result.scale }
     {
-        self.numbers().with_refill(self.refill())
+        let numbers = self.numbers();
+        numbers.with_refill(self.refill()).with_scale(self.scale())
     }
 
     /// The parameters whose numbers lines without a fault give, or the default ones.
@@ -94,6 +103,16 @@ impl Settings {
         match self.refill {
             Some(rule) => rule,
             None => Refill::Never,
+        }
+    }
+
+    /// The scale that lines give, or the profile's.
+    fn scale(&self) -> Scale
+        ensures { (lines : List StatedLine) → self.now.scale ≡ first_in scale_in lines → IsScaleOf lines result }
+    {
+        match self.scale {
+            Some(scale) => scale,
+            None => Scale::Profile,
         }
     }
 

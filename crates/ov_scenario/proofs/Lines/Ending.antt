@@ -67,6 +67,7 @@ ends_named text name words =
     past _ _ _ _ (made says.Params _ (λ x. refl)) (other name (codes "params") l refl)
     (past _ _ _ _ (made says.Seed _ (λ x. refl)) (other name (codes "seed") l refl)
     (past _ _ _ _ (made says.Refill _ (λ x. refl)) (other name (codes "refill") l refl)
+    (past _ _ _ _ (made says.Scale _ (λ x. refl)) (other name (codes "scale") l refl)
     (past _ _ _ _ (made says.Words _ (λ x. refl)) (other name (codes "words") l refl)
     (past _ _ _ _ (made says.Event _ (λ x. refl)) (other name (codes "boot") l refl)
     (past _ _ _ _ (made (λ n. says.Event (event.Deliver n)) _ (λ x. refl)) (other name (codes "deliver") l refl)
@@ -84,7 +85,7 @@ ends_named text name words =
     (past _ _ _ _ (stands_alone (says.Look look.Packets) l refl) (other name (codes "packets") l refl)
     (past _ _ _ _ (stands_alone says.Together l refl) (other name (codes "together") l refl)
     (past _ _ _ _ (stands_alone says.Also l refl) (other name (codes "also") l refl)
-    (last (same name (codes "end")) l))))))))))))))))))))
+    (last (same name (codes "end")) l)))))))))))))))))))))
 
 -- a line ends a block exactly if its words say so
 pub ends_tested : (line : List ℕ) (words : List (List ℕ)) → is_end (stated line words) ≡ ends words

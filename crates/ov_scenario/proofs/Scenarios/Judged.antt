@@ -4,7 +4,7 @@ use Rattle.std.proofs.Common.{append_assoc, append-nil, Option, Some, None, refl
 use Rattle.std.specs.Option.{option_or}
 use Rattle.std.specs.Prelude.{option_map, option_to_list}
 use Rattle.ov_scenario.specs.Code.Judging.{or_next, with_next, Judges, Tells, faulty_of}
-use Rattle.ov_scenario.specs.Scenarios.{first_of, is_event, is_params, is_refill, is_seed, before_of}
+use Rattle.ov_scenario.specs.Scenarios.{first_of, is_event, is_params, is_refill, is_scale, is_seed, before_of}
 use Rattle.ov_scenario.specs.Scenarios.{AreWithin, IsTooLate, IsWrong, IsWrongIn, IsWrongOutside}
 use Rattle.ov_scenario.specs.Scenarios.{AreFaulty, IsFirstAfter, IsFirstFaulty}
 use Rattle.ov_scenario.specs.Sections.{open_from, open_next}
@@ -77,48 +77,28 @@ unfolding open_from
 open_more open_before [] line = refl
 open_more open_before (other ∷ lines) line = open_more (open_next open_before other.number other.says) lines line
 
+-- what is known of lines, by its parts
+known_by : (event params seed refill scale : Option ℕ) → Option OpenBlock → Before
+known_by event params seed refill scale block = record {
+  event = event;
+  params = params;
+  seed = seed;
+  refill = refill;
+  scale = scale;
+  block = block;
+}
+
 before_next : (lines : List Stated) (line : Stated) → with_next (before_of lines) line ≡ before_of (lines ++ line ∷ [])
+unfolding known_by
 before_next lines line =
-    ap (λ e. record {
-      event = e;
-      params = (with_next (before_of lines) line).params;
-      seed = (with_next (before_of lines) line).seed;
-      refill = (with_next (before_of lines) line).refill;
-      block = (with_next (before_of lines) line).block;
-    })
-    (first_next is_event lines line)
-    ∙ ap (λ p. record {
-      event = first_of is_event (lines ++ line ∷ []);
-      params = p;
-      seed = (with_next (before_of lines) line).seed;
-      refill = (with_next (before_of lines) line).refill;
-      block = (with_next (before_of lines) line).block;
-    })
-    (first_next is_params lines line)
-    ∙ ap (λ s. record {
-      event = first_of is_event (lines ++ line ∷ []);
-      params = first_of is_params (lines ++ line ∷ []);
-      seed = s;
-      refill = (with_next (before_of lines) line).refill;
-      block = (with_next (before_of lines) line).block;
-    })
-    (first_next is_seed lines line)
-    ∙ ap (λ r. record {
-      event = first_of is_event (lines ++ line ∷ []);
-      params = first_of is_params (lines ++ line ∷ []);
-      seed = first_of is_seed (lines ++ line ∷ []);
-      refill = r;
-      block = (with_next (before_of lines) line).block;
-    })
-    (first_next is_refill lines line)
-    ∙ ap (λ o. record {
-      event = first_of is_event (lines ++ line ∷ []);
-      params = first_of is_params (lines ++ line ∷ []);
-      seed = first_of is_seed (lines ++ line ∷ []);
-      refill = first_of is_refill (lines ++ line ∷ []);
-      block = o;
-    })
-    (open_more None lines line)
+    let old = with_next (before_of lines) line in
+    let new = before_of (lines ++ line ∷ []) in
+    ap (λ e. known_by e old.params old.seed old.refill old.scale old.block) (first_next is_event lines line)
+    ∙ ap (λ p. known_by new.event p old.seed old.refill old.scale old.block) (first_next is_params lines line)
+    ∙ ap (λ s. known_by new.event new.params s old.refill old.scale old.block) (first_next is_seed lines line)
+    ∙ ap (λ r. known_by new.event new.params new.seed r old.scale old.block) (first_next is_refill lines line)
+    ∙ ap (λ s. known_by new.event new.params new.seed new.refill s old.block) (first_next is_scale lines line)
+    ∙ ap (λ o. known_by new.event new.params new.seed new.refill new.scale o) (open_more None lines line)
 
 -- ---- all lines
 

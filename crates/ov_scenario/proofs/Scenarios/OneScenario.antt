@@ -6,12 +6,15 @@ use Rattle.rand_core.specs.Stream.{Stream, next_u64}
 use Rattle.ov_ids.specs.Members.{Has}
 use Rattle.ov_ids.specs.ParamsState.{ParamsState}
 use Rattle.ov_ids.specs.declared.refill_rule.Refill.{Refill}
+use Rattle.ov_ids.specs.declared.refill_rule.Refill.TheVariants.{Never}
+use Rattle.ov_ids.specs.declared.world_scale.Scale.{Scale}
+use Rattle.ov_ids.specs.declared.world_scale.Scale.TheVariants.{Profile}
 use Rattle.ov_lines.specs.Lines.{kept_lines}
 use Rattle.ov_words.specs.Stream.{AreOutputs}
-use Rattle.ov_scenario.specs.Code.Judging.{params_in, refill_in, seed_in, first_in}
+use Rattle.ov_scenario.specs.Code.Judging.{params_in, refill_in, scale_in, seed_in, first_in}
 use Rattle.ov_scenario.specs.Draws.{AreDraws, seeded}
-use Rattle.ov_scenario.specs.Scenarios.{stated_lines, first_of, is_params, is_refill, is_seed, before_of}
-use Rattle.ov_scenario.specs.Scenarios.{AreParams, AreParamsOf, IsRefillOf, IsSeedOf, IsWrong, IsWrongIn, AreFaulty}
+use Rattle.ov_scenario.specs.Scenarios.{stated_lines, first_of, is_params, is_refill, is_scale, is_seed, before_of}
+use Rattle.ov_scenario.specs.Scenarios.{AreParams, AreParamsOf, IsSetBy, IsWrong, IsWrongIn, AreFaulty}
 use Rattle.ov_scenario.specs.Scenarios.{AreFaultless, AreToRun, BlockRunsAs, RunAs, default_params}
 use Rattle.ov_scenario.specs.Scenarios.{IsScenario}
 use Rattle.ov_scenario.specs.Sections.{SectionLine, open_after, section_line}
@@ -28,31 +31,28 @@ use Rattle.ov_scenario.specs.declared.line_of_section.Deed.TheVariants as deed
 use Rattle.ov_scenario.specs.declared.statement.Statement.{Statement}
 use Rattle.ov_scenario.specs.declared.statement.Statement.TheVariants as says
 use Rattle.ov_scenario.proofs.Scenarios.Judged.{in_time, first_next}
+use Rattle.ov_scenario.proofs.Scenarios.Settled.{Gives, gives_params, gives_refill, gives_scale, gives_seed}
 
 -- ---- a line without a fault that sets something is the first that sets it
 
--- what a kind of lines gives, that a line of another kind gives nothing, and that a line of this kind without a fault
--- stands behind none
+-- what a kind of lines gives, and that a line of this kind without a fault stands behind none
 record SetsOnce {A : Type 0} (kind : A → Statement) (given : Option Statement → Option A)
     (is_kind : Option Statement → Bool) : Type 0 where
-  gives : (x : A) → given (Some (kind x)) ≡ Some x
-  other : (said : Option Statement) → is_kind said ≡ false → given said ≡ None
+  own : Gives kind given
+  is : (x : A) → is_kind (Some (kind x)) ≡ true
   behind_none : (before behind : List Stated) (x : A)
       → ((f : LineFault) → ¬ IsWrong (before_of before) (Some (kind x)) behind f)
       → first_of is_kind before ≡ None
 
-no_params : (said : Option Statement) → is_params said ≡ false → params_in said ≡ None
-no_params None is = refl
-no_params (Some (says.Params numbers)) is = absurd cc
-no_params (Some (says.Seed seed)) is = refl
-no_params (Some (says.Refill rule)) is = refl
-no_params (Some (says.Words words)) is = refl
-no_params (Some (says.Event event)) is = refl
-no_params (Some (says.Look look)) is = refl
-no_params (Some (says.Analyse subject workers)) is = refl
-no_params (Some says.Together) is = refl
-no_params (Some says.Also) is = refl
-no_params (Some says.End) is = refl
+-- a line of another kind gives nothing
+other_gives :
+    {A : Type 0} (kind : A → Statement) (given : Option Statement → Option A) (is_kind : Option Statement → Bool)
+    → SetsOnce kind given is_kind
+    → (said : Option Statement) → is_kind said ≡ false → given said ≡ None
+other_gives {A} kind given is_kind s said other = by (given said) refl where
+  by : (o : Option A) → given said ≡ o → given said ≡ None
+  by None none = none
+  by (Some x) some = absurd (cc (sym other ∙ ap is_kind (s.own.says said x some) ∙ s.is x))
 
 before_params :
     (block : Option OpenBlock) (before : Before) (numbers : List ℕ) (behind : List Stated)
@@ -63,23 +63,10 @@ before_params None before numbers behind right =
 
 sets_params : SetsOnce says.Params params_in is_params
 sets_params = record {
-  gives = λ x. refl;
-  other = no_params;
+  own = gives_params;
+  is = λ x. refl;
   behind_none = λ before behind x right. before_params (open_after before) (before_of before) x behind right;
 }
-
-no_seed : (said : Option Statement) → is_seed said ≡ false → seed_in said ≡ None
-no_seed None is = refl
-no_seed (Some (says.Params numbers)) is = refl
-no_seed (Some (says.Seed seed)) is = absurd cc
-no_seed (Some (says.Refill rule)) is = refl
-no_seed (Some (says.Words words)) is = refl
-no_seed (Some (says.Event event)) is = refl
-no_seed (Some (says.Look look)) is = refl
-no_seed (Some (says.Analyse subject workers)) is = refl
-no_seed (Some says.Together) is = refl
-no_seed (Some says.Also) is = refl
-no_seed (Some says.End) is = refl
 
 before_seed :
     (block : Option OpenBlock) (before : Before) (seed : ℕ) (behind : List Stated)
@@ -89,23 +76,10 @@ before_seed None before seed behind right = (in_time sets.Seed before.event befo
 
 sets_seed : SetsOnce says.Seed seed_in is_seed
 sets_seed = record {
-  gives = λ x. refl;
-  other = no_seed;
+  own = gives_seed;
+  is = λ x. refl;
   behind_none = λ before behind x right. before_seed (open_after before) (before_of before) x behind right;
 }
-
-no_refill : (said : Option Statement) → is_refill said ≡ false → refill_in said ≡ None
-no_refill None is = refl
-no_refill (Some (says.Params numbers)) is = refl
-no_refill (Some (says.Seed seed)) is = refl
-no_refill (Some (says.Refill rule)) is = absurd cc
-no_refill (Some (says.Words words)) is = refl
-no_refill (Some (says.Event event)) is = refl
-no_refill (Some (says.Look look)) is = refl
-no_refill (Some (says.Analyse subject workers)) is = refl
-no_refill (Some says.Together) is = refl
-no_refill (Some says.Also) is = refl
-no_refill (Some says.End) is = refl
 
 before_refill :
     (block : Option OpenBlock) (before : Before) (rule : Refill) (behind : List Stated)
@@ -115,9 +89,22 @@ before_refill None before rule behind right = (in_time sets.Refill before.event 
 
 sets_refill : SetsOnce says.Refill refill_in is_refill
 sets_refill = record {
-  gives = λ x. refl;
-  other = no_refill;
+  own = gives_refill;
+  is = λ x. refl;
   behind_none = λ before behind x right. before_refill (open_after before) (before_of before) x behind right;
+}
+
+before_scale :
+    (block : Option OpenBlock) (before : Before) (scale : Scale) (behind : List Stated)
+    → ((f : LineFault) → ¬ IsWrongIn block before (says.Scale scale) behind f) → before.scale ≡ None
+before_scale (Some block) before scale behind right = absurd (right (fault.NotHeld block.together) refl)
+before_scale None before scale behind right = (in_time sets.Scale before.event before.scale right).1
+
+sets_scale : SetsOnce says.Scale scale_in is_scale
+sets_scale = record {
+  own = gives_scale;
+  is = λ x. refl;
+  behind_none = λ before behind x right. before_scale (open_after before) (before_of before) x behind right;
 }
 
 -- where no line up to one is of the kind, that one is not, and none before it
@@ -149,66 +136,80 @@ only_first kind given is_kind s passed (first ∷ more) line x (inl (right, rest
       s.behind_none passed more x
           (subst (λ t. (f : LineFault) → ¬ IsWrong (before_of passed) t more f) said right),
       ap (λ t. option_or (given t) (first_in given more)) said
-          ∙ ap (λ o. option_or o (first_in given more)) (s.gives x),
+          ∙ ap (λ o. option_or o (first_in given more)) (s.own.gives x),
     )
 only_first kind given is_kind s passed (first ∷ more) line x (inl (right, rest)) (inr has) is =
     let later = only_first kind given is_kind s (passed ++ first ∷ []) more line x rest has is in
-    let none = none_up_to is_kind passed first later.0 in
-    (none.1, ap (λ o. option_or o (first_in given more)) (s.other first.says none.0) ∙ later.1)
+    let none = none_up_to is_kind passed first later.0 in (
+      none.1,
+      ap (λ o. option_or o (first_in given more)) (other_gives kind given is_kind s first.says none.0) ∙ later.1,
+    )
 
--- ---- parameters, seed and rule
+-- ---- parameters, seed, rule and scale
 
--- the parameters with these numbers and this rule at DISCONNECT, whatever they are
-abbrev limits_of : Refill → List ℕ → ParamsState
-limits_of rule (a ∷ p ∷ w ∷ r ∷ ka ∷ kp ∷ t ∷ []) =
-    record { active = a; passive = p; arwl = w; prwl = r; ka = ka; kp = kp; shuffle_ttl = t; refill = rule }
-limits_of rule other = default_params
+-- the parameters with these numbers, this rule at DISCONNECT and this scale, whatever they are
+abbrev limits_of : Refill → Scale → List ℕ → ParamsState
+limits_of rule scale (a ∷ p ∷ w ∷ r ∷ ka ∷ kp ∷ t ∷ []) = record {
+  active = a;
+  passive = p;
+  arwl = w;
+  prwl = r;
+  ka = ka;
+  kp = kp;
+  shuffle_ttl = t;
+  refill = rule;
+  scale = scale;
+}
+limits_of rule scale other = default_params
 
--- the parameters with the same numbers and the same rule are the same
+-- the parameters with the same numbers, the same rule and the same scale are the same
 one_params :
     (numbers others : List ℕ) (p q : ParamsState) → AreParams numbers p → AreParams others q → numbers ≡ others
-    → p.refill ≡ q.refill
+    → p.refill ≡ q.refill → p.scale ≡ q.scale
     → p ≡ q
-one_params numbers others p q are also same rule =
-    ap (limits_of p.refill) (sym are.0 ∙ same ∙ also.0)
-    ∙ ap (λ r. limits_of r (q.active ∷ q.passive ∷ q.arwl ∷ q.prwl ∷ q.ka ∷ q.kp ∷ q.shuffle_ttl ∷ [])) rule
+one_params numbers others p q are also same rule scale =
+    let last = q.active ∷ q.passive ∷ q.arwl ∷ q.prwl ∷ q.ka ∷ q.kp ∷ q.shuffle_ttl ∷ [] in
+    ap (limits_of p.refill p.scale) (sym are.0 ∙ same ∙ also.0)
+    ∙ ap (λ r. limits_of r p.scale last) rule
+    ∙ ap (λ s. limits_of q.refill s last) scale
 
 one_params_of :
     (all : List Stated) (p q : ParamsState) → AreFaultless all → AreParamsOf all p → AreParamsOf all q
-    → p.refill ≡ q.refill
+    → p.refill ≡ q.refill → p.scale ≡ q.scale
     → p ≡ q
 unfolding AreParamsOf
-one_params_of all p q right (inl (own, numbers, has, its, are)) (inl (line, others, also, also_its, also_are)) rule =
+one_params_of all p q right (inl (own, numbers, has, its, are)) (inl (line, others, also, also_its, also_are)) rule
+    scale =
     let first = only_first says.Params params_in is_params sets_params [] all own numbers right has its in
     let other = only_first says.Params params_in is_params sets_params [] all line others right also also_its in
     let same = sym first.1 ∙ other.1 in
-    one_params numbers others p q are also_are (cc) rule
-one_params_of all p q right (inl (own, numbers, has, its, are)) (inr none) rule =
+    one_params numbers others p q are also_are (cc) rule scale
+one_params_of all p q right (inl (own, numbers, has, its, are)) (inr none) rule scale =
     absurd (none.0 (own, numbers, has, its))
-one_params_of all p q right (inr none) (inl (line, others, also, also_its, also_are)) rule =
+one_params_of all p q right (inr none) (inl (line, others, also, also_its, also_are)) rule scale =
     absurd (none.0 (line, others, also, also_its))
-one_params_of all p q right (inr none) (inr other) rule =
-    none.1 ∙ ap (λ r. record default_params { refill = r }) rule ∙ sym other.1
+one_params_of all p q right (inr none) (inr other) rule scale =
+    none.1
+    ∙ ap (λ r. record default_params { refill = r; scale = p.scale }) rule
+    ∙ ap (λ s. record default_params { refill = q.refill; scale = s }) scale
+    ∙ sym other.1
 
-one_refill_of : (all : List Stated) (x y : Refill) → AreFaultless all → IsRefillOf all x → IsRefillOf all y → x ≡ y
-unfolding IsRefillOf
-one_refill_of all x y right (inl (own, has, its)) (inl (line, also, also_its)) =
-    let first = only_first says.Refill refill_in is_refill sets_refill [] all own x right has its in
-    let other = only_first says.Refill refill_in is_refill sets_refill [] all line y right also also_its in
+-- what lines without a fault set is one
+one_set_by :
+    {A : Type 0} (kind : A → Statement) (given : Option Statement → Option A) (is_kind : Option Statement → Bool)
+    (usual : A) → SetsOnce kind given is_kind
+    → (all : List Stated) (x y : A) → AreFaultless all → IsSetBy kind usual all x → IsSetBy kind usual all y
+    → x ≡ y
+unfolding IsSetBy
+one_set_by kind given is_kind usual s all x y right (inl (own, has, its)) (inl (line, also, also_its)) =
+    let first = only_first kind given is_kind s [] all own x right has its in
+    let other = only_first kind given is_kind s [] all line y right also also_its in
     let same = sym first.1 ∙ other.1 in cc
-one_refill_of all x y right (inl (own, has, its)) (inr none) = absurd (none.0 (own, x, has, its))
-one_refill_of all x y right (inr none) (inl (line, also, also_its)) = absurd (none.0 (line, y, also, also_its))
-one_refill_of all x y right (inr none) (inr other) = none.1 ∙ sym other.1
-
-one_seed_of : (all : List Stated) (x y : ℕ) → AreFaultless all → IsSeedOf all x → IsSeedOf all y → x ≡ y
-unfolding IsSeedOf
-one_seed_of all x y right (inl (own, has, its)) (inl (line, also, also_its)) =
-    let first = only_first says.Seed seed_in is_seed sets_seed [] all own x right has its in
-    let other = only_first says.Seed seed_in is_seed sets_seed [] all line y right also also_its in
-    let same = sym first.1 ∙ other.1 in cc
-one_seed_of all x y right (inl (own, has, its)) (inr none) = absurd (none.0 (own, x, has, its))
-one_seed_of all x y right (inr none) (inl (line, also, also_its)) = absurd (none.0 (line, y, also, also_its))
-one_seed_of all x y right (inr none) (inr other) = none.1 ∙ sym other.1
+one_set_by kind given is_kind usual s all x y right (inl (own, has, its)) (inr none) =
+    absurd (none.0 (own, x, has, its))
+one_set_by kind given is_kind usual s all x y right (inr none) (inl (line, also, also_its)) =
+    absurd (none.0 (line, y, also, also_its))
+one_set_by kind given is_kind usual s all x y right (inr none) (inr other) = none.1 ∙ sym other.1
 
 -- ---- lines to run
 
@@ -322,9 +323,14 @@ pub one_scenario :
     (bytes : List ℕ) (s t : Scenario) → IsScenario bytes s → IsScenario bytes t
     → (s.params ≡ t.params) × (s.seed ≡ t.seed) × (s.lines.items ≡ t.lines.items)
 one_scenario bytes s t read also =
-    let seed = one_seed_of (stated_lines bytes) s.seed t.seed read.faultless read.seed also.seed in (
-      one_params_of (stated_lines bytes) s.params t.params read.faultless read.params also.params
-          (one_refill_of (stated_lines bytes) s.params.refill t.params.refill read.faultless read.refill also.refill),
+    let all = stated_lines bytes in
+    let right = read.faultless in
+    let seed = one_set_by says.Seed seed_in is_seed 0 sets_seed all s.seed t.seed right read.seed also.seed in (
+      one_params_of all s.params t.params right read.params also.params
+          (one_set_by says.Refill refill_in is_refill Never sets_refill all s.params.refill t.params.refill right
+          read.refill also.refill)
+          (one_set_by says.Scale scale_in is_scale Profile sets_scale all s.params.scale t.params.scale right
+          read.scale also.scale),
       seed,
       one_to_run (kept_lines bytes) s.seed t.seed s.lines.items t.lines.items seed read.lines also.lines,
     )

@@ -71,6 +71,7 @@ asks_first stream given None line more some needs = absurd cc
 asks_first stream given (Some (says.Params numbers)) line more some needs = absurd needs
 asks_first stream given (Some (says.Seed seed)) line more some needs = absurd needs
 asks_first stream given (Some (says.Refill rule)) line more some needs = absurd needs
+asks_first stream given (Some (says.Scale scale)) line more some needs = absurd needs
 asks_first stream given (Some (says.Words words)) line more some needs = absurd needs
 asks_first stream given (Some says.Together) line more some needs = absurd needs
 asks_first stream given (Some says.Also) line more some needs = absurd needs

@@ -4,10 +4,10 @@ use Rattle.std.specs.Option.{option_or}
 use Rattle.ov_ids.specs.Members.{Has}
 use Rattle.ov_ids.specs.ParamsState.{AreWithinLimits, ParamsState}
 use Rattle.ov_ids.specs.declared.refill_rule.Refill.{Refill}
-use Rattle.ov_ids.specs.declared.refill_rule.Refill.TheVariants.{Never}
-use Rattle.ov_scenario.specs.Code.Judging.{params_in, refill_in, seed_in, first_in}
-use Rattle.ov_scenario.specs.Scenarios.{AreParams, AreWithin, AreFaulty, AreFaultless, AreParamsOf, IsSeedOf}
-use Rattle.ov_scenario.specs.Scenarios.{IsRefillOf, IsWrong, before_of, default_params}
+use Rattle.ov_ids.specs.declared.world_scale.Scale.{Scale}
+use Rattle.ov_scenario.specs.Code.Judging.{params_in, refill_in, scale_in, seed_in, first_in}
+use Rattle.ov_scenario.specs.Scenarios.{AreParams, AreWithin, AreFaulty, AreFaultless, AreParamsOf, HasKind, IsSetBy}
+use Rattle.ov_scenario.specs.Scenarios.{IsWrong, before_of, default_params}
 use Rattle.ov_scenario.specs.Statements.{Stated}
 use Rattle.ov_scenario.specs.declared.scenario_fault.LineFault.{LineFault}
 use Rattle.ov_scenario.specs.declared.statement.Statement.{Statement}
@@ -45,21 +45,59 @@ missing {A} given (first ∷ more) is line has = by (given first.says) refl (mis
   by None e later none (inl same) = ap (λ (l : Stated). given l.says) (sym same) ∙ e
   by None e later none (inr there) = later none line there
 
--- ---- parameters
+-- ---- which lines give something
 
-says_params : (said : Option Statement) (numbers : List ℕ) → params_in said ≡ Some numbers
-    → said ≡ Some (says.Params numbers)
-says_params None numbers is = absurd cc
-says_params (Some (says.Params own)) numbers is = cc
-says_params (Some (says.Seed seed)) numbers is = absurd cc
-says_params (Some (says.Refill rule)) numbers is = absurd cc
-says_params (Some (says.Words words)) numbers is = absurd cc
-says_params (Some (says.Event event)) numbers is = absurd cc
-says_params (Some (says.Look look)) numbers is = absurd cc
-says_params (Some (says.Analyse subject workers)) numbers is = absurd cc
-says_params (Some says.Together) numbers is = absurd cc
-says_params (Some says.Also) numbers is = absurd cc
-says_params (Some says.End) numbers is = absurd cc
+-- a line of this kind gives what it says, and no other line gives anything
+pub record Gives {A : Type 0} (kind : A → Statement) (given : Option Statement → Option A) : Type 0 where
+  pub gives : (x : A) → given (Some (kind x)) ≡ Some x
+  pub says : (said : Option Statement) (x : A) → given said ≡ Some x → said ≡ Some (kind x)
+
+pub gives_params : Gives says.Params params_in
+gives_params = record { gives = λ x. refl; says = by } where
+  by : (said : Option Statement) (x : List ℕ) → params_in said ≡ Some x → said ≡ Some (says.Params x)
+  by (Some (says.Params own)) x is = cc
+  by other x is = absurd cc
+
+pub gives_seed : Gives says.Seed seed_in
+gives_seed = record { gives = λ x. refl; says = by } where
+  by : (said : Option Statement) (x : ℕ) → seed_in said ≡ Some x → said ≡ Some (says.Seed x)
+  by (Some (says.Seed own)) x is = cc
+  by other x is = absurd cc
+
+pub gives_refill : Gives says.Refill refill_in
+gives_refill = record { gives = λ x. refl; says = by } where
+  by : (said : Option Statement) (x : Refill) → refill_in said ≡ Some x → said ≡ Some (says.Refill x)
+  by (Some (says.Refill own)) x is = cc
+  by other x is = absurd cc
+
+pub gives_scale : Gives says.Scale scale_in
+gives_scale = record { gives = λ x. refl; says = by } where
+  by : (said : Option Statement) (x : Scale) → scale_in said ≡ Some x → said ≡ Some (says.Scale x)
+  by (Some (says.Scale own)) x is = cc
+  by other x is = absurd cc
+
+-- lines that give nothing have none of the kind
+none_given :
+    {A : Type 0} (kind : A → Statement) (given : Option Statement → Option A) → Gives kind given
+    → (lines : List Stated) → first_in given lines ≡ None → ¬ HasKind kind lines
+none_given kind given g lines is (line, x, has, its) =
+    absurd (cc (sym (missing given lines is line has) ∙ ap given its ∙ g.gives x))
+
+-- what lines set, by what they give
+pub set_given :
+    {A : Type 0} (kind : A → Statement) (given : Option Statement → Option A) (usual : A) → Gives kind given
+    → (lines : List Stated) (x : A) → first_in given lines ≡ Some x → IsSetBy kind usual lines x
+unfolding IsSetBy
+set_given kind given usual g lines x is =
+    let (line, has, its) = found given lines x is in inl (line, has, g.says line.says x its)
+
+pub none_set :
+    {A : Type 0} (kind : A → Statement) (given : Option Statement → Option A) (usual : A) → Gives kind given
+    → (lines : List Stated) → first_in given lines ≡ None → IsSetBy kind usual lines usual
+unfolding IsSetBy
+none_set kind given usual g lines is = inr (none_given kind given g lines is, refl)
+
+-- ---- parameters
 
 -- the parameters that are given, within their limits
 pub params_given :
@@ -69,7 +107,7 @@ pub params_given :
 unfolding AreParamsOf
 params_given lines numbers p is are =
     let (line, has, its) = found params_in lines numbers is in
-    inl (line, numbers, has, says_params line.says numbers its, are)
+    inl (line, numbers, has, gives_params.says line.says numbers its, are)
 
 -- the parameters of lines without a fault are within their limits
 within :
@@ -93,49 +131,19 @@ pub params_beyond :
     → (¬ AreWithin numbers) → AreParamsOf lines p
 params_beyond lines numbers p right is beyond =
     let (line, has, its) = found params_in lines numbers is in
-    absurd (within [] lines line numbers right has (says_params line.says numbers its) beyond)
+    absurd (within [] lines line numbers right has (gives_params.says line.says numbers its) beyond)
 
 pub no_params : (lines : List Stated) → first_in params_in lines ≡ None → AreParamsOf lines default_params
 unfolding AreParamsOf
-no_params lines is = inr (
-  λ (line, numbers, has, its).
-      absurd (cc (sym (missing params_in lines is line has) ∙ ap params_in its)),
-  refl,
-)
+no_params lines is = inr (none_given says.Params params_in gives_params lines is, refl)
 
--- ---- the seed
+-- ---- the rule at DISCONNECT and the scale
 
-says_seed : (said : Option Statement) (seed : ℕ) → seed_in said ≡ Some seed → said ≡ Some (says.Seed seed)
-says_seed None seed is = absurd cc
-says_seed (Some (says.Params numbers)) seed is = absurd cc
-says_seed (Some (says.Seed own)) seed is = cc
-says_seed (Some (says.Refill rule)) seed is = absurd cc
-says_seed (Some (says.Words words)) seed is = absurd cc
-says_seed (Some (says.Event event)) seed is = absurd cc
-says_seed (Some (says.Look look)) seed is = absurd cc
-says_seed (Some (says.Analyse subject workers)) seed is = absurd cc
-says_seed (Some says.Together) seed is = absurd cc
-says_seed (Some says.Also) seed is = absurd cc
-says_seed (Some says.End) seed is = absurd cc
-
-pub seed_given : (lines : List Stated) (seed : ℕ) → first_in seed_in lines ≡ Some seed → IsSeedOf lines seed
-unfolding IsSeedOf
-seed_given lines seed is =
-    let (line, has, its) = found seed_in lines seed is in inl (line, has, says_seed line.says seed its)
-
-pub no_seed : (lines : List Stated) → first_in seed_in lines ≡ None → IsSeedOf lines 0
-unfolding IsSeedOf
-no_seed lines is = inr (
-  λ (line, seed, has, its).
-      absurd (cc (sym (missing seed_in lines is line has) ∙ ap seed_in its)),
-  refl,
-)
-
--- ---- the rule at DISCONNECT
-
--- the limits leave the rule open
-any_rule : (p : ParamsState) (rule : Refill) → AreWithinLimits p → AreWithinLimits (record p { refill = rule })
-any_rule p rule are = record {
+-- the limits leave the rule and the scale open
+pub any_settings :
+    (p : ParamsState) (rule : Refill) (scale : Scale) → AreWithinLimits p
+    → AreWithinLimits (record p { refill = rule; scale = scale })
+any_settings p rule scale are = record {
   active_low = are.active_low;
   active_high = are.active_high;
   passive_low = are.passive_low;
@@ -149,39 +157,14 @@ any_rule p rule are = record {
 }
 
 -- and so do the parameters of lines
-pub with_rule :
-    (lines : List Stated) (p : ParamsState) (rule : Refill) → AreParamsOf lines p
-    → AreParamsOf lines (record p { refill = rule })
+pub with_settings :
+    (lines : List Stated) (p : ParamsState) (rule : Refill) (scale : Scale) → AreParamsOf lines p
+    → AreParamsOf lines (record p { refill = rule; scale = scale })
 unfolding AreParamsOf
-with_rule lines p rule (inl (line, numbers, has, its, are)) =
-    inl (line, numbers, has, its, (are.0, any_rule p rule are.1))
-with_rule lines p rule (inr (none, are)) = inr (none, ap (λ (q : ParamsState). record q { refill = rule }) are)
-
-says_refill : (said : Option Statement) (rule : Refill) → refill_in said ≡ Some rule → said ≡ Some (says.Refill rule)
-says_refill None rule is = absurd cc
-says_refill (Some (says.Params numbers)) rule is = absurd cc
-says_refill (Some (says.Seed seed)) rule is = absurd cc
-says_refill (Some (says.Refill own)) rule is = cc
-says_refill (Some (says.Words words)) rule is = absurd cc
-says_refill (Some (says.Event event)) rule is = absurd cc
-says_refill (Some (says.Look look)) rule is = absurd cc
-says_refill (Some (says.Analyse subject workers)) rule is = absurd cc
-says_refill (Some says.Together) rule is = absurd cc
-says_refill (Some says.Also) rule is = absurd cc
-says_refill (Some says.End) rule is = absurd cc
-
-pub refill_given : (lines : List Stated) (rule : Refill) → first_in refill_in lines ≡ Some rule → IsRefillOf lines rule
-unfolding IsRefillOf
-refill_given lines rule is =
-    let (line, has, its) = found refill_in lines rule is in inl (line, has, says_refill line.says rule its)
-
-pub no_refill : (lines : List Stated) → first_in refill_in lines ≡ None → IsRefillOf lines Never
-unfolding IsRefillOf
-no_refill lines is = inr (
-  λ (line, rule, has, its).
-      absurd (cc (sym (missing refill_in lines is line has) ∙ ap refill_in its)),
-  refl,
-)
+with_settings lines p rule scale (inl (line, numbers, has, its, are)) =
+    inl (line, numbers, has, its, (are.0, any_settings p rule scale are.1))
+with_settings lines p rule scale (inr (none, are)) =
+    inr (none, ap (λ (q : ParamsState). record q { refill = rule; scale = scale }) are)
 
 -- ---- line by line
 

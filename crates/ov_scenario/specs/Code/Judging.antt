@@ -2,7 +2,8 @@
 use Rattle.std.specs.Prelude.{◌≡◌, ℕ, max, Bool, List, [], ◌∷◌, Option, Some, None, option_map, if◌then◌else◌}
 use Rattle.std.specs.Option.{option_or}
 use Rattle.ov_ids.specs.declared.refill_rule.Refill.{Refill}
-use Rattle.ov_scenario.specs.Scenarios.{is_event, is_params, is_refill, is_seed, IsWrong}
+use Rattle.ov_ids.specs.declared.world_scale.Scale.{Scale}
+use Rattle.ov_scenario.specs.Scenarios.{is_event, is_params, is_refill, is_scale, is_seed, IsWrong}
 use Rattle.ov_scenario.specs.Sections.{open_next}
 use Rattle.ov_scenario.specs.Statements.{Stated}
 use Rattle.ov_scenario.specs.declared.line_judging.Before.{Before}
@@ -30,6 +31,7 @@ with_next before line = record {
   params = or_next is_params before.params line;
   seed = or_next is_seed before.seed line;
   refill = or_next is_refill before.refill line;
+  scale = or_next is_scale before.scale line;
   block = open_next before.block line.number line.says;
 }
 
@@ -58,6 +60,11 @@ seed_in other = None
 abbrev pub refill_in : Option Statement → Option Refill
 refill_in (Some (says.Refill rule)) = Some rule
 refill_in other = None
+
+-- the scale that a line gives, if it says this
+abbrev pub scale_in : Option Statement → Option Scale
+scale_in (Some (says.Scale scale)) = Some scale
+scale_in other = None
 
 -- the first of what these lines give
 abbrev pub first_in : {A : Type 0} → (Option Statement → Option A) → List Stated → Option A

@@ -82,6 +82,12 @@ returns-in-Ok-Refill c =
     does_nothing (stream_now c.args.draws.now) c.args.given.now c.take-waiting.new.self c.args.stated.says nothing
     (search rules) tt c.take-waiting.ensures.after
 
+pub returns-in-Ok-Scale : goal.returns-in-Ok-Scale
+returns-in-Ok-Scale c =
+    let nothing = Some (says.Scale c.in-Ok-Scale.field-0-0) in
+    does_nothing (stream_now c.args.draws.now) c.args.given.now c.take-waiting.new.self c.args.stated.says nothing
+    (search rules) tt c.take-waiting.ensures.after
+
 pub returns-in-Ok-Look : goal.returns-in-Ok-Look
 returns-in-Ok-Look c =
     let nothing = Some (says.Look c.in-Ok-Look.field-0-0) in

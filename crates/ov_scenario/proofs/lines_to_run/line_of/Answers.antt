@@ -71,6 +71,12 @@ returns-in-Ok-Refill c =
     asks_nothing (stream_now c.args.draws.now) c.args.given.now c.take-waiting.new.self c.args.stated.says nothing
     (search rules) tt c.take-waiting.ensures.after
 
+pub returns-in-Ok-Scale : goal.returns-in-Ok-Scale
+returns-in-Ok-Scale c =
+    let nothing = Some (says.Scale c.in-Ok-Scale.field-0-0) in
+    asks_nothing (stream_now c.args.draws.now) c.args.given.now c.take-waiting.new.self c.args.stated.says nothing
+    (search rules) tt c.take-waiting.ensures.after
+
 pub returns-in-Ok-Also : goal.returns-in-Ok-Also
 returns-in-Ok-Also c =
     asks_nothing (stream_now c.args.draws.now) c.args.given.now c.take-waiting.new.self c.args.stated.says

@@ -21,6 +21,7 @@ returns-clause-scenario c =
       faultless = given.faultless;
       params = c.params-params.ensures.params (stated_lines bytes) given.faultless given.params;
       refill = c.params-params.ensures.refill (stated_lines bytes) given.refill;
+      scale = c.params-params.ensures.scale (stated_lines bytes) given.scale;
       seed = c.seed-seed.ensures (stated_lines bytes) given.seed;
       lines = are_to_run (kept_lines bytes) c.seed-seed.result c.new-lines.result.items c.new-lines.ensures.lines;
       drivers =

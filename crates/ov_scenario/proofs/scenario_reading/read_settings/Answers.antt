@@ -1,7 +1,7 @@
 -- One line more, and all lines.
 use Rattle.std.proofs.Common.{◌≡◌, ◌∙◌, max, [], Some, ap, sym, subst}
 use Rattle.std.specs.Option.{option_or}
-use Rattle.ov_scenario.specs.Code.Judging.{Judges, first_in, params_in, refill_in, sections_of, seed_in}
+use Rattle.ov_scenario.specs.Code.Judging.{Judges, first_in, params_in, refill_in, scale_in, sections_of, seed_in}
 use Rattle.ov_scenario.specs.Scenarios.{stated_lines}
 use Rattle.ov_scenario.specs.declared.line_judging.Before.{Before}
 use Rattle.ov_scenario.proofs.Scenarios.Drivers.{all_needed, needs_begun, needs_more, none_open}
@@ -30,6 +30,9 @@ loop-judging-init c =
       refill =
           ap (λ o. option_or o (first_in refill_in left)) c.nothing-settings.ensures.refill
           ∙ ap (λ ls. first_in refill_in ls) same;
+      scale =
+          ap (λ o. option_or o (first_in scale_in left)) c.nothing-settings.ensures.scale
+          ∙ ap (λ ls. first_in scale_in ls) same;
     }
 
 pub loop-judging-preserved : goal.loop-judging-preserved
@@ -56,6 +59,9 @@ loop-judging-preserved c =
       refill =
           gives_more refill_in all c.loop-judging.settings.refill c.with-settings.result.refill old.ahead
           new.ahead judged.line before.refill judges.0 c.with-settings.ensures.refill;
+      scale =
+          gives_more scale_in all c.loop-judging.settings.scale c.with-settings.result.scale old.ahead
+          new.ahead judged.line before.scale judges.0 c.with-settings.ensures.scale;
     }
 
 pub returns-in-Some-faulty-clause-fault : goal.returns-in-Some-faulty-clause-fault
