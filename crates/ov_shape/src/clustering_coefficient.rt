@@ -76,11 +76,11 @@ fn linked_within<const W: usize>(graph: &Graph, place: usize, set: &[u64; W]) ->
     ensures few { HasBit set.now place → result < length (picked set.now 0 graph.now.nodes) }
 {
     prove!(graph.nodes().len() <= Graph::MOST_OF_ANY);
-    let mut linked = 0;
+    let mut shared = 0;
     let mut after = 0;
     'common: while let Some(q) = graph.next_within(place, set, after) {
-        linked += 1;
+        shared += 1;
         after = q + 1;
     }
-    linked
+    shared
 }

@@ -40,8 +40,9 @@ pub struct Shape {
     pub degree_75: usize,
 }
 
-/// The shape of a graph; None if it has no nodes. It measures what Watts and Strogatz (Nature 393, 1998) and HyParView's
-/// paper (Leitão, Pereira and Rodrigues, DSN 2007) measure. OutOfMemory (99) if an allocation is refused.
+/// The shape of a graph; None if it has no nodes. It measures what Watts and Strogatz (Nature 393, 1998) and
+/// HyParView's paper (Leitão, Pereira and Rodrigues, DSN 2007) measure. It searches from each node of the largest
+/// component. OutOfMemory (99) if an allocation is refused.
 pub fn shape_of(alloc: Global, graph: &Graph) -> Result<Option<Shape>, OutOfMemory>
     ensures largest { IfOk result (λ r. IfSome r (λ s. HasLargest graph.now s.largest)) }
     ensures clustering { IfOk result (λ r. IfSome r (λ s. IsClustering graph.now s.clustering)) }

@@ -16,7 +16,7 @@ pub(crate) enum Family {
     AllButOne,
 }
 
-/// The graph of so many nodes.
+/// The graph of so many nodes, up to 32,768.
 pub(crate) fn of_size(alloc: Global, family: Family, count: u32) -> Result<Graph, GraphFault> {
     let mut nodes = Vec::new(alloc);
     let mut links = Vec::new(alloc);
@@ -24,7 +24,7 @@ pub(crate) fn of_size(alloc: Global, family: Family, count: u32) -> Result<Graph
         nodes.push(NodeId(number))?;
         push_links(family, number, count, &mut links)?;
     }
-    Graph::new(alloc, &nodes, &links)
+    Graph::large(alloc, &nodes, &links)
 }
 
 /// Adds the links of a node to higher ones, ascending.

@@ -20,6 +20,8 @@ mod pieces;
 #[cfg(test)]
 mod searches;
 #[cfg(test)]
+mod shapes;
+#[cfg(test)]
 mod sizes;
 #[cfg(test)]
 mod wanted;

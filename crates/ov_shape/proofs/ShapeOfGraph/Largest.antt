@@ -43,15 +43,16 @@ one_component g a b xs ys one two j =
     (λ x h. (one.each x).1 (joined_trans g [] a b x j ((two.each x).0 h)))
 
 -- the component of a node whose bit is set has as many nodes as the row picks
-pub as_many : (g : LinkGraph) (a q : ℕ) (row ys : List ℕ) → IsGraph g → Has g.nodes a → IsComponentSet g a row → HasBit row q
-    → IsComponent g (node_at g q) ys → length ys ≡ length (picked row 0 g.nodes)
+pub as_many : (g : LinkGraph) (a q : ℕ) (row ys : List ℕ) → IsGraph g → Has g.nodes a → IsComponentSet g a row
+    → HasBit row q → IsComponent g (node_at g q) ys → length ys ≡ length (picked row 0 g.nodes)
 as_many g a q row ys graph node set_of bit is =
     ap (λ (zs : List ℕ). length zs)
     (sym (one_component g a (node_at g q) (picked row 0 g.nodes) ys (component_of g a row graph node set_of) is
     ((set_of q).0 bit).1))
 
 -- a node's own bit is set in the row of its component
-pub own_bit : (g : LinkGraph) (p : ℕ) (row : List ℕ) → p < length g.nodes → IsComponentSet g (node_at g p) row → HasBit row p
+pub own_bit : (g : LinkGraph) (p : ℕ) (row : List ℕ) → p < length g.nodes → IsComponentSet g (node_at g p) row
+    → HasBit row p
 own_bit g p row l set_of = (set_of p).1 (l, joined_node g (node_at g p) (has_place g.nodes p 0 l))
 
 -- of the components of the nodes that were seen, among them all before `place`, the row is that of the largest, whose

@@ -12,8 +12,8 @@ use Rattle.ov_graph.proofs.BitRows.Read.{one_place}
 use Rattle.ov_shape.specs.Distances.{WalksBy, IsDistance}
 use Rattle.ov_shape.specs.Code.Found.{IsComponentSet, IsOfNodes, IsBeside}
 use Rattle.ov_shape.proofs.ShapeOfGraph.Counts.{bit_or_not, IsParted}
-use Rattle.ov_shape.proofs.ShapeOfGraph.Walks.{walk_last, walk_more, walk_none, walk_stays, joined_by, walk_of, before_node}
-use Rattle.ov_shape.proofs.ShapeOfGraph.Walks.{joined_is_node, distance_self}
+use Rattle.ov_shape.proofs.ShapeOfGraph.Walks.{walk_last, walk_more, walk_none, walk_stays, joined_by, walk_of}
+use Rattle.ov_shape.proofs.ShapeOfGraph.Walks.{before_node, joined_is_node, distance_self}
 
 -- a walk of m links or fewer leads from a to b
 abbrev pub IsNear : LinkGraph → ℕ → ℕ → ℕ → Type 0
@@ -208,7 +208,7 @@ pub record IsBesideBelow (g : LinkGraph) (front : List ℕ) (from q : ℕ) : Typ
   pub bit : HasBit front place
   pub linked : Linked g (node_at g place) (node_at g q)
 
--- q is linked to one of these nodes at places below p + 1: to one below the first of them from `from` on, or to this one
+-- with p, the first place from `from` on, q is beside a node of the layer below `from`, or beside that at p
 beside_step : (g : LinkGraph) (front : List ℕ) (from p q : ℕ) → IsFirstFrom front from p
     → IsBesideBelow g front (p + 1) q ↔ (IsBesideBelow g front from q ⊎ AreLinkedAt g p q)
 beside_step g front from p q first =

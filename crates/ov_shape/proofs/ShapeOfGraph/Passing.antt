@@ -62,7 +62,8 @@ passing_more g row count from p total far f graph is first found before =
     let two : IsComponent g (node_at g p) (picked f.places 0 g.nodes) =
     component_of g (node_at g p) f.places graph node found.places in
     let same : picked f.places 0 g.nodes ≡ whole =
-    sym (one_component g is.first (node_at g p) whole (picked f.places 0 g.nodes) one two ((is.set_of p).0 first.set).1) in
+    sym (one_component g is.first (node_at g p) whole (picked f.places 0 g.nodes) one two
+    ((is.set_of p).0 first.set).1) in
     let spans : Spans g whole (node_at g p) f.total =
     sum_at (IsDistance g (node_at g p)) (picked f.places 0 g.nodes) whole f.total f.total same refl found.total in
     let next : picked row from (drop from g.nodes) ≡ node_at g p ∷ picked row (p + 1) (drop (p + 1) g.nodes) =

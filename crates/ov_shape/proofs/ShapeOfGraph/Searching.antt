@@ -14,8 +14,8 @@ use Rattle.ov_shape.specs.Code.Found.{IsFound, IsOfNodes}
 use Rattle.ov_shape.specs.declared.layered_search.Found.{Found}
 use Rattle.ov_shape.proofs.ShapeOfGraph.Sums.{sum_at}
 use Rattle.ov_shape.proofs.ShapeOfGraph.Counts.{IsParted, some_bit, few_picked, picked_same, count_parted, sum_parted}
-use Rattle.ov_shape.proofs.ShapeOfGraph.Layers.{IsReached, IsLayer, IsNext, next_layer, next_reached, next_apart, reached_all}
-use Rattle.ov_shape.proofs.ShapeOfGraph.Layers.{far_most, first_reached, first_layer}
+use Rattle.ov_shape.proofs.ShapeOfGraph.Layers.{IsReached, IsLayer, IsNext, next_layer, next_reached, next_apart}
+use Rattle.ov_shape.proofs.ShapeOfGraph.Layers.{reached_all, far_most, first_reached, first_layer}
 use Rattle.ov_shape.proofs.ShapeOfGraph.Walks.{distance_self}
 
 -- what was found so far: all that is reached by `far` links or fewer, and the layer at this distance

@@ -6,8 +6,8 @@ use Rattle.ov_shape.proofs.clustering_coefficient.linked_within.Goals as goal
 pub next_within-requires : goal.next_within-requires
 next_within-requires g c = (omega arith, (c.requires.place, c.requires.room))
 
-pub overflow_add-linked : goal.overflow_add-linked
-overflow_add-linked g c =
+pub overflow_add-shared : goal.overflow_add-shared
+overflow_add-shared g c =
     let first = c.in-Some.ensures.some in
     let l = first.holds.0.0 in
     let reached = first.reached in
@@ -35,7 +35,7 @@ common-preserved g c =
     let reached = first.reached in
     let few = c.common.invariant.few in
     record {
-      common = common_more c.args.graph.now c.args.place c.args.set.now c.common.after c.common.linked c.in-Some.q
+      common = common_more c.args.graph.now c.args.place c.args.set.now c.common.after c.common.shared c.in-Some.q
           c.in-Some.ensures.graph first c.common.invariant.common;
       few = omega (arith, few, reached);
       fits = omega (arith, l);
@@ -43,10 +43,10 @@ common-preserved g c =
 
 pub returns-clause-common : goal.returns-clause-common
 returns-clause-common g c a of_a =
-    common_all c.args.graph.now a c.args.place c.args.set.now c.common.after c.common.linked c.in_default.ensures.graph
+    common_all c.args.graph.now a c.args.place c.args.set.now c.common.after c.common.shared c.in_default.ensures.graph
     c.in_default.ensures.none c.common.invariant.common of_a
 
 pub returns-clause-few : goal.returns-clause-few
 returns-clause-few g c own =
-    common_few c.args.graph.now c.args.place c.args.set.now c.common.after c.common.linked c.in_default.ensures.graph
+    common_few c.args.graph.now c.args.place c.args.set.now c.common.after c.common.shared c.in_default.ensures.graph
     c.requires.place c.common.invariant.common own

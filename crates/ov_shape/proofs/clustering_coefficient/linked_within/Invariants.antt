@@ -5,8 +5,8 @@ use Rattle.ov_shape.proofs.clustering_coefficient.linked_within.Given as goal
 
 abbrev pub invariant-common : goal.invariant-common
 invariant-common g l = record {
-  common : AreCommonBelow l.graph l.place l.set l.after l.linked;
-  few : l.linked ≤ l.after;
+  common : AreCommonBelow l.graph l.place l.set l.after l.shared;
+  few : l.shared ≤ l.after;
   fits : l.after ≤ length l.graph.nodes;
 }
 

@@ -1,7 +1,8 @@
 -- The first component, one more, and all.
 use Rattle.std.proofs.Common.{◌≡◌, List, ℕ, ◌+◌, length, sym, ap, subst, arith}
 use Rattle.ov_graph.specs.Row.{HasBit}
-use Rattle.ov_shape.proofs.ShapeOfGraph.Largest.{IsBest, new_of, best_begun, best_seen, best_larger, best_stays, best_of_all}
+use Rattle.ov_shape.proofs.ShapeOfGraph.Largest.{IsBest, new_of, best_begun, best_seen, best_larger, best_stays}
+use Rattle.ov_shape.proofs.ShapeOfGraph.Largest.{best_of_all}
 use Rattle.ov_shape.proofs.component_search.largest_component.Goals as goal
 use Rattle.ov_shape.proofs.component_search.largest_component.Goals.{then-found-best, else-found-best}
 

@@ -35,8 +35,8 @@ neighbours-preserved g c =
     let l = c.in-Some.ensures.some.holds.0.0 in
     record {
       adding = both_more c.args.graph.now c.args.place c.args.reached.now c.neighbours.reached c.args.next.now
-          c.neighbours.next c.put.new.row c.put-in-Some.new.row c.neighbours.after c.in-Some.q c.neighbours.invariant.adding
-          c.in-Some.ensures.some c.put.ensures c.put-in-Some.ensures;
+          c.neighbours.next c.put.new.row c.put-in-Some.new.row c.neighbours.after c.in-Some.q
+          c.neighbours.invariant.adding c.in-Some.ensures.some c.put.ensures c.put-in-Some.ensures;
       fits = omega (arith, l);
     }
 

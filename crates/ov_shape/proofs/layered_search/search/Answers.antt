@@ -3,8 +3,8 @@ use Rattle.std.proofs.Common.{arith}
 use Rattle.ov_ids.proofs.Members.{has_place}
 use Rattle.ov_graph.specs.Paths.{node_at}
 use Rattle.ov_shape.proofs.ShapeOfGraph.Counts.{few_picked}
-use Rattle.ov_shape.proofs.ShapeOfGraph.Searching.{searching_begun, searching_more, searching_ended, step_of, next_within}
-use Rattle.ov_shape.proofs.ShapeOfGraph.Searching.{count_fits, total_fits}
+use Rattle.ov_shape.proofs.ShapeOfGraph.Searching.{searching_begun, searching_more, searching_ended, step_of}
+use Rattle.ov_shape.proofs.ShapeOfGraph.Searching.{next_within, count_fits, total_fits}
 use Rattle.ov_shape.proofs.layered_search.search.Goals as goal
 
 pub layers-init : goal.layers-init
@@ -46,8 +46,8 @@ overflow_add-found-in-layers g c =
     let all = c.next_layer-next.new.reached in
     let more = c.count-more.result in
     let s = c.layers.invariant.found in
-    let step = step_of h a front f.places next all f.count f.total f.far more c.words_in_use-words.result w.graph w.within
-    w.words.enough s c.next_layer-next.ensures.next c.count-more.ensures c.next_layer-next.ensures.reached in
+    let step = step_of h a front f.places next all f.count f.total f.far more c.words_in_use-words.result w.graph
+    w.within w.words.enough s c.next_layer-next.ensures.next c.count-more.ensures c.next_layer-next.ensures.reached in
     let l = count_fits h a front f.places next all f.count f.total f.far more s step in
     let small = w.within in
     omega (arith, l, small)
@@ -63,8 +63,8 @@ overflow_mul-found g c =
     let all = c.next_layer-next.new.reached in
     let more = c.count-more.result in
     let s = c.layers.invariant.found in
-    let step = step_of h a front f.places next all f.count f.total f.far more c.words_in_use-words.result w.graph w.within
-    w.words.enough s c.next_layer-next.ensures.next c.count-more.ensures c.next_layer-next.ensures.reached in
+    let step = step_of h a front f.places next all f.count f.total f.far more c.words_in_use-words.result w.graph
+    w.within w.words.enough s c.next_layer-next.ensures.next c.count-more.ensures c.next_layer-next.ensures.reached in
     let l = count_fits h a front f.places next all f.count f.total f.far more s step in
     let t = total_fits h a front f.places next all f.count f.total f.far more s step in
     let small = w.within in
@@ -81,8 +81,8 @@ overflow_add-found-in-layers-2 g c =
     let all = c.next_layer-next.new.reached in
     let more = c.count-more.result in
     let s = c.layers.invariant.found in
-    let step = step_of h a front f.places next all f.count f.total f.far more c.words_in_use-words.result w.graph w.within
-    w.words.enough s c.next_layer-next.ensures.next c.count-more.ensures c.next_layer-next.ensures.reached in
+    let step = step_of h a front f.places next all f.count f.total f.far more c.words_in_use-words.result w.graph
+    w.within w.words.enough s c.next_layer-next.ensures.next c.count-more.ensures c.next_layer-next.ensures.reached in
     let l = count_fits h a front f.places next all f.count f.total f.far more s step in
     let t = total_fits h a front f.places next all f.count f.total f.far more s step in
     let small = w.within in
@@ -99,8 +99,8 @@ layers-smaller g c =
     let all = c.next_layer-next.new.reached in
     let more = c.count-more.result in
     let s = c.layers.invariant.found in
-    let step = step_of h a front f.places next all f.count f.total f.far more c.words_in_use-words.result w.graph w.within
-    w.words.enough s c.next_layer-next.ensures.next c.count-more.ensures c.next_layer-next.ensures.reached in
+    let step = step_of h a front f.places next all f.count f.total f.far more c.words_in_use-words.result w.graph
+    w.within w.words.enough s c.next_layer-next.ensures.next c.count-more.ensures c.next_layer-next.ensures.reached in
     let l = count_fits h a front f.places next all f.count f.total f.far more s step in
     let some = c.if-more-eq0.false in
     omega (arith, l, some)
@@ -116,7 +116,9 @@ layers-preserved g c =
     let all = c.next_layer-next.new.reached in
     let more = c.count-more.result in
     let s = c.layers.invariant.found in
-    let step = step_of h a front f.places next all f.count f.total f.far more c.words_in_use-words.result w.graph w.within
-    w.words.enough s c.next_layer-next.ensures.next c.count-more.ensures c.next_layer-next.ensures.reached in
+    let step = step_of h a front f.places next all f.count f.total f.far more c.words_in_use-words.result w.graph
+    w.within w.words.enough s c.next_layer-next.ensures.next c.count-more.ensures c.next_layer-next.ensures.reached in
     let some = c.if-more-eq0.false in
-    record { found = searching_more h a front f.places next all f.count f.total f.far more s step (omega (arith, some)) }
+    record {
+      found = searching_more h a front f.places next all f.count f.total f.far more s step (omega (arith, some));
+    }

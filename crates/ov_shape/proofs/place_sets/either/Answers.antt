@@ -10,7 +10,8 @@ loop-word-init g c =
     let a = c.args.a.now in
     let b = c.args.b.now in
     let t = c.told-a in
-    record { wide = omega (arith, t, length-replicate {A = ℕ} g.row.W 0); bits = no_word_of g.row.W (λ q. HasBit a q ⊎ HasBit b q) }
+    let wide = length-replicate {A = ℕ} g.row.W 0 in
+    record { wide = omega (arith, t, wide); bits = no_word_of g.row.W (λ q. HasBit a q ⊎ HasBit b q) }
 
 pub loop-word-preserved : goal.loop-word-preserved
 loop-word-preserved g c =
