@@ -3,6 +3,7 @@
 import re
 
 from nodes import REFILLS
+from world import SCALES
 
 MOST_SECTIONS = MOST_WORDS = MOST_WORKERS = 64
 MOST_NODES = 1024
@@ -97,6 +98,14 @@ def refill(words):
     return rule
 
 
+def scale(words):
+    """The scale, which is one word."""
+    word = words[0].decode("latin-1") if len(words) == 1 else None
+    if word not in SCALES:
+        raise Unreadable
+    return word
+
+
 def statement(line):
     """What a line says that is not skipped: its kind, and what follows."""
     word, *rest = [part for part in line.split(b" ") if part]
@@ -113,6 +122,8 @@ def statement(line):
         return kind, *numbers(rest, 1, 1, 64)
     if word == b"refill":
         return kind, refill(rest)
+    if word == b"scale":
+        return kind, scale(rest)
     if word == b"words":
         return kind, *numbers(rest, 1, MOST_WORDS, 64)
     if word == b"show":
@@ -155,7 +166,7 @@ class ScenarioReader:
         self.places = [at for at, _ in every]
         self.said = [read_statement(line) for _, line in every]
         self.last_end = max((at for at, said in enumerate(self.said) if said == ("end",)), default=-1)
-        self.lines, self.params, self.seed, self.refill, self.sections = [], None, None, None, None
+        self.lines, self.params, self.seed, self.refill, self.scale, self.sections = [], None, None, None, None, None
         self.has_event, self.words = False, None
         for at, said in enumerate(self.said):
             self.take(at, said)
@@ -185,7 +196,7 @@ class ScenarioReader:
         elif self.sections is not None:
             self.demand(kind == "analyse" and said[2:] == (None, None), at)
             self.put(at, said)
-        elif kind in ("params", "seed", "refill"):
+        elif kind in ("params", "seed", "refill", "scale"):
             self.take_setting(at, kind, said[1:])
         else:
             self.put(at, said)
@@ -210,7 +221,7 @@ class ScenarioReader:
             self.sections = None
 
     def take_setting(self, at, kind, given):
-        """`params`, `seed` and `refill`."""
+        """`params`, `seed`, `refill` and `scale`."""
         self.demand(getattr(self, kind) is None and not self.has_event, at)
         self.demand(kind != "params" or are_in_limits(*given), at, 21)
         setattr(self, kind, given)

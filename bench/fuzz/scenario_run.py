@@ -10,7 +10,7 @@ from connectivity import Analysis, listed
 from nodes import NEVER, encoded
 from pcg import Pcg64
 from scenario_lines import DEFAULT_PARAMS, IS_EVENT
-from world import Refusal, World, demand
+from world import PROFILE, Refusal, World, demand
 
 WORDS = 64
 NO_NODES, BAD_GROUP, NO_SUCH_MOMENT, ALREADY_FILED = 30, 34, 50, 52
@@ -57,12 +57,12 @@ class State:
     refused, in the order in which they are explained, and `events` how many events were accepted and how many refused.
     """
 
-    def __init__(self, params, refill=NEVER):
-        self.world, self.reports, self.printed = World(params, refill), {}, []
+    def __init__(self, params, refill=NEVER, scale=PROFILE):
+        self.world, self.reports, self.printed = World(params, refill, scale), {}, []
         self.refused, self.events = [], [0, 0]
 
     def copy(self):
-        other = State(self.world.params, self.world.refill)
+        other = State(self.world.params, self.world.refill, self.world.scale)
         other.world, other.reports, other.printed = self.world.copy(), dict(self.reports), list(self.printed)
         other.refused, other.events = list(self.refused), list(self.events)
         return other
@@ -203,7 +203,8 @@ class Run:
     def __init__(self, reader):
         self.generator = Pcg64(reader.seed[0] if reader.seed else 0)
         params, (refill,) = reader.params or DEFAULT_PARAMS, reader.refill or (NEVER,)
-        self.states, self.is_determined = [State(params, refill)], True
+        (scale,) = reader.scale or (PROFILE,)
+        self.states, self.is_determined = [State(params, refill, scale)], True
         for said, words, place in reader.lines:
             if said[0] == "sections":
                 self.block(said[1])

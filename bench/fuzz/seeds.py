@@ -46,6 +46,8 @@ DIRECTED = (
     *(b"refill %s\n".join(DROPPED) % rule.encode() for rule in REFILLS), b"".join(DROPPED),
     b"refill alone\nrefill alone\n", b"boot 1\nrefill always\n", b"together\nrefill alone\nend\n", b"refill\n",
     b"refill sometimes\n", b"refill always never\n", b"refill Always\n", b"refill always\nseed 1\nboot 1\n",
+    b"scale large\nscale large\n", b"boot 1\nscale large\n", b"together\nscale large\nend\n", b"scale\n",
+    b"scale small\n", b"scale large profile\n", b"scale Large\n", b"scale large\nscale profile\n",
 )
 # Command lines of the commands that turn one file into another, and of answers in names: a word each.
 COMMANDS = (

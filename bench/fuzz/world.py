@@ -3,7 +3,10 @@
 from connectivity import Graph
 from nodes import JOIN, NEVER, Node
 
-MOST_BORN, MOST_ENTRIES, MOST_PACKETS, MOST_SENT = 256, 65536, 65536, 64
+# Of each scale, how many nodes may ever be born, how many entries there may be, and how many packets on their way.
+PROFILE = "profile"
+SCALES = {PROFILE: (256, 65536, 65536), "large": (32768, 16777216, 1048576)}
+MOST_SENT = 64
 MOST_BROADCASTS, LONGEST_PAYLOAD = 4096, 1024
 (UNKNOWN_NODE, USED_ID, CRASHED_NODE, TOO_MANY_NODES, NO_SUCH_PACKET, TOO_MANY_PACKETS, TOO_MANY_ENTRIES, NOT_CRASHED,
  NO_TIMER, PAYLOAD_TOO_LONG, TOO_MANY_MESSAGES) = range(10, 21)
@@ -22,13 +25,15 @@ def demand(true, number):
 class World:
     """The nodes that were born, of which a crashed one is None; the packets on their way; the number of entries."""
 
-    def __init__(self, params, refill=NEVER):
-        self.params, self.refill, self.nodes, self.packets, self.entries = params, refill, {}, [], 0
+    def __init__(self, params, refill=NEVER, scale=PROFILE):
+        self.params, self.refill, self.scale = params, refill, scale
+        self.most_born, self.most_entries, self.most_packets = SCALES[scale]
+        self.nodes, self.packets, self.entries = {}, [], 0
         self.moments = {}
 
     def copy(self):
         """An equal world."""
-        other = World(self.params, self.refill)
+        other = World(self.params, self.refill, self.scale)
         other.nodes = {name: node and node.copy() for name, node in self.nodes.items()}
         other.packets, other.entries, other.moments = list(self.packets), self.entries, dict(self.moments)
         return other
@@ -41,7 +46,7 @@ class World:
 
     def demand_room(self):
         """Refuses if the packets leave no room for what a step sends."""
-        demand(MOST_PACKETS - len(self.packets) >= MOST_SENT, TOO_MANY_PACKETS)
+        demand(self.most_packets - len(self.packets) >= MOST_SENT, TOO_MANY_PACKETS)
 
     def demand_packet(self, place):
         """Refuses if there is no packet at a place."""
@@ -49,7 +54,7 @@ class World:
 
     def step(self, kind, given, words):
         """Does an event, or refuses it: what its line says behind the number of its entry."""
-        demand(self.entries < MOST_ENTRIES, TOO_MANY_ENTRIES)
+        demand(self.entries < self.most_entries, TOO_MANY_ENTRIES)
         changes, node = getattr(self, f"do_{kind}")(words, *given)
         self.entries += 1
         if kind == "snapshot":
@@ -65,7 +70,7 @@ class World:
         demand(name not in self.nodes, USED_ID)
         if contact is not None:
             self.live(contact)
-        demand(len(self.nodes) < MOST_BORN, TOO_MANY_NODES)
+        demand(len(self.nodes) < self.most_born, TOO_MANY_NODES)
         self.demand_room()
         node = self.nodes[name] = Node(name, self.params, self.refill)
         node.begin(words)

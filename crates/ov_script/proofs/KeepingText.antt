@@ -11,8 +11,7 @@ use Rattle.ov_lines.specs.Lines.{kept_lines}
 use Rattle.std.specs.Str.Lines.{lines}
 use Rattle.ov_scenario.specs.Draws.{seeded}
 use Rattle.ov_scenario.specs.RunLines.{drivers_for, lines_that_run}
-use Rattle.ov_scenario.specs.Scenarios.{AreFaultless, AreParamsOf, IsRefillOf, IsScenario, IsSeedOf}
-use Rattle.ov_scenario.specs.Scenarios.{stated_at, stated_lines}
+use Rattle.ov_scenario.specs.Scenarios.{AreFaultless, IsScenario, stated_at, stated_lines}
 use Rattle.ov_scenario.specs.Statements.{Stated, statement_of, told}
 use Rattle.ov_scenario.specs.Code.RunnableLines.{outputs, to_run}
 use Rattle.ov_scenario.specs.declared.scenario.Line.{Line}
@@ -23,25 +22,25 @@ use Rattle.ov_scenario.proofs.Scenarios.Asked.{are_to_run}
 use Rattle.ov_scenario.proofs.Scenarios.Outputs.{outputs_drawn}
 use Rattle.ov_script.specs.Acts.{act_line, event_of}
 use Rattle.ov_script.specs.WrittenLines.{analysis_line, comment_line, ended}
-use Rattle.ov_script.specs.Code.Kept.{ArePlain, EndsLine, IsScript, IsTold, left_after, lines_of}
+use Rattle.ov_script.specs.Code.Kept.{ArePlain, AreSettings, EndsLine, IsScript, IsTold, left_after, lines_of}
 use Rattle.ov_script.specs.Code.Writing.{IsShort}
 use Rattle.ov_script.specs.declared.recordable_event.Act.{Act}
 use Rattle.ov_script.proofs.OneLine.{comment_clean, comment_skipped, ends_line, kept_last, kept_skipped}
 use Rattle.ov_script.proofs.Statements.{act_said, analysis_said}
 use Rattle.ov_script.proofs.TellingLines.{analysis_right, drivers_more, event_right, faultless_more, left_more}
-use Rattle.ov_script.proofs.TellingLines.{params_more, plain_more, refill_more, run_more, seed_more}
+use Rattle.ov_script.proofs.TellingLines.{plain_more, run_more, settings_more}
 
 -- ---- the lines that are not skipped
 
 -- a line that says this, as it is stated and told
-stated_more :
+pub stated_more :
     (kept : List (ℕ × List ℕ)) (n : ℕ) (text : List ℕ) (x : Statement) → statement_of text ≡ Some x
     → map stated_at (kept ++ (n, text) ∷ []) ≡ map stated_at kept ++ record { number = n; says = Some x } ∷ []
 stated_more kept n text x said =
     map-append stated_at kept ((n, text) ∷ [])
     ∙ ap (λ o. map stated_at kept ++ record { number = n; says = o } ∷ []) said
 
-told_more :
+pub told_more :
     (kept : List (ℕ × List ℕ)) (n : ℕ) (text : List ℕ) (x : Statement) → statement_of text ≡ Some x
     → told (kept ++ (n, text) ∷ []) ≡ told kept ++ ((n, text), Some x) ∷ []
 told_more kept n text x said =
@@ -96,15 +95,9 @@ told_event kept p seed next later behind left n text event before said drawn_the
           subst AreFaultless (sym stated)
           (faultless_more [] (map stated_at kept) new before.plain_stated before.faultless
           (event_right _ event []));
-      params =
-          subst (λ ls. AreParamsOf ls p) (sym stated)
-          (params_more (map stated_at kept) new p before.params (λ numbers is. absurd cc));
-      refill_said =
-          subst (λ ls. IsRefillOf ls p.refill) (sym stated)
-          (refill_more (map stated_at kept) new p.refill before.refill_said (λ r is. absurd cc));
-      seed_said =
-          subst (λ ls. IsSeedOf ls seed) (sym stated)
-          (seed_more (map stated_at kept) new seed before.seed_said (λ m is. absurd cc));
+      settings =
+          subst (λ ls. AreSettings ls p seed) (sym stated)
+          (settings_more (map stated_at kept) new p seed before.settings tt);
       no_block =
           ap drivers_for (run_event kept p seed next behind n text event before said)
           ∙ drivers_more (to_run (seeded seed) (told kept)) (line.Event event next ∷ []) refl
@@ -141,15 +134,9 @@ told_analysis kept p seed next behind n text moment before said =
           subst AreFaultless (sym stated)
           (faultless_more [] (map stated_at kept) new before.plain_stated before.faultless
           (analysis_right _ moment []));
-      params =
-          subst (λ ls. AreParamsOf ls p) (sym stated)
-          (params_more (map stated_at kept) new p before.params (λ numbers is. absurd cc));
-      refill_said =
-          subst (λ ls. IsRefillOf ls p.refill) (sym stated)
-          (refill_more (map stated_at kept) new p.refill before.refill_said (λ r is. absurd cc));
-      seed_said =
-          subst (λ ls. IsSeedOf ls seed) (sym stated)
-          (seed_more (map stated_at kept) new seed before.seed_said (λ m is. absurd cc));
+      settings =
+          subst (λ ls. AreSettings ls p seed) (sym stated)
+          (settings_more (map stated_at kept) new p seed before.settings tt);
       no_block =
           ap drivers_for (run_analysis kept p seed next behind n text moment before said)
           ∙ drivers_more (to_run (seeded seed) (told kept)) (ask ∷ []) refl
@@ -262,9 +249,10 @@ pub script_says :
 unfolding lines_of stated_lines
 script_says text p seed next behind is = record {
   faultless = is.said.faultless;
-  params = is.said.params;
-  refill = is.said.refill_said;
-  seed = is.said.seed_said;
+  params = is.said.settings.params;
+  refill = is.said.settings.refill_said;
+  scale = is.said.settings.scale_said;
+  seed = is.said.settings.seed_said;
   lines = are_to_run (kept_lines text) seed (lines_of seed text) refl;
   drivers = sym is.said.no_block;
 }

@@ -1,29 +1,39 @@
 -- What a script keeps of the text with which it begins.
-use Rattle.std.proofs.Common.{◌≡◌, ◌∙◌, ◌<◌, ◌^◌, ◌+◌, inl, inr, ℕ, List, [], ◌∷◌, ◌++◌, length, map, Some, refl}
-use Rattle.std.proofs.Common.{ap, sym, subst, append_assoc}
+use Rattle.std.proofs.Common.{◌≡◌, ◌∙◌, ◌<◌, ◌^◌, ◌+◌, inl, inr, ℕ, List, [], ◌∷◌, ◌++◌, length, map, Some, None}
+use Rattle.std.proofs.Common.{Option, refl, ap, sym, subst, append_assoc}
 use Rattle.std.specs.Str.Lines.{lines}
 use Rattle.std.proofs.lemmas.List.{append-nil}
 use Rattle.rand_core.specs.Stream.{Stream}
 use Rattle.ov_ids.specs.ParamsState.{AreWithinLimits, ParamsState}
 use Rattle.ov_ids.specs.declared.refill_rule.Refill.{Refill}
 use Rattle.ov_ids.specs.declared.refill_rule.Refill.TheVariants.{Never, Alone, Always}
+use Rattle.ov_ids.specs.declared.world_scale.Scale.{Scale}
+use Rattle.ov_ids.specs.declared.world_scale.Scale.TheVariants.{Large, Profile}
 use Rattle.ov_words.specs.Stream.{AreOutputs, words_per_event}
 use Rattle.ov_lines.specs.Lines.{kept_from, kept_lines}
 use Rattle.ov_scenario.specs.Draws.{seeded}
 use Rattle.ov_scenario.specs.RunLines.{drivers_for}
-use Rattle.ov_scenario.specs.Scenarios.{AreFaulty, AreFaultless, AreParamsOf, HasKind, IsRefillOf, IsSeedOf}
-use Rattle.ov_scenario.specs.Scenarios.{IsWrong, before_of, stated_at}
-use Rattle.ov_scenario.specs.Sections.{open_from}
+use Rattle.ov_scenario.specs.Scenarios.{AreFaulty, AreFaultless, AreParamsOf, HasKind, IsSetBy, IsWrong, before_of}
+use Rattle.ov_scenario.specs.Scenarios.{first_of, is_event, is_scale, stated_at}
+use Rattle.ov_scenario.specs.Sections.{open_after, open_from, open_next}
 use Rattle.ov_scenario.specs.Statements.{Stated, ToldLine, statement_of, told}
 use Rattle.ov_scenario.specs.Code.RunnableLines.{outputs, to_run}
+use Rattle.ov_scenario.specs.declared.open_block.OpenBlock.{OpenBlock}
 use Rattle.ov_scenario.specs.declared.scenario_fault.LineFault.{LineFault}
+use Rattle.ov_scenario.specs.declared.statement.Statement.{Statement}
 use Rattle.ov_scenario.specs.declared.statement.Statement.TheVariants as says
-use Rattle.ov_scenario.proofs.Scenarios.Outputs.{outputs_drawn}
+use Rattle.ov_scenario.proofs.Scenarios.Judged.{first_next, open_more}
+use Rattle.ov_scenario.proofs.Scenarios.Outputs.{are_outputs, count_outputs, outputs_drawn}
+use Rattle.ov_scenario.proofs.Scenarios.Settled.{any_settings}
 use Rattle.ov_script.specs.Scripts.{opening}
-use Rattle.ov_script.specs.WrittenLines.{comment_line, ended, params_line, refill_line, rule_text, seed_line}
-use Rattle.ov_script.specs.Code.Kept.{ArePlain, EndsLine, IsScript, IsTold, left_after, lines_of}
+use Rattle.ov_script.specs.WrittenLines.{comment_line, ended, params_line, refill_line, rule_text, scale_line}
+use Rattle.ov_script.specs.WrittenLines.{scale_text, seed_line}
+use Rattle.ov_script.specs.Code.Kept.{ArePlain, AreSettings, EndsLine, IsPlain, IsScript, IsTold, left_after, lines_of}
+use Rattle.ov_script.proofs.KeepingText.{stated_more, told_more}
 use Rattle.ov_script.proofs.OneLine.{comment_clean, comment_skipped, ends_line, kept_last, kept_skipped}
-use Rattle.ov_script.proofs.Statements.{numbers_of, params_said, refill_said, seed_said}
+use Rattle.ov_script.proofs.Statements.{Says, numbers_of, params_said, refill_said, scale_said, seed_said}
+use Rattle.ov_script.proofs.TellingLines.{faultless_more, kind_more, left_more, plain_more, run_more, settings_rule}
+use Rattle.ov_script.proofs.TellingLines.{settings_scale}
 
 -- ---- the text
 
@@ -35,16 +45,23 @@ up_to_params heading p = ended (comment_line heading) ++ ended (params_line p)
 up_to_seed : List ℕ → ParamsState → ℕ → List ℕ
 up_to_seed heading p seed = up_to_params heading p ++ ended (seed_line seed)
 
+-- the same, and the rule at DISCONNECT behind it
+up_to_rule : List ℕ → ParamsState → ℕ → List ℕ
+up_to_rule heading p seed = up_to_seed heading p seed ++ rule_text p.refill
+
 opening_joined :
     (heading : List ℕ) (p : ParamsState) (seed : ℕ)
-    → opening heading p seed ≡ up_to_seed heading p seed ++ rule_text p.refill
-unfolding opening up_to_params up_to_seed
+    → opening heading p seed ≡ up_to_rule heading p seed ++ scale_text p.scale
+unfolding opening up_to_params up_to_seed up_to_rule
 opening_joined heading p seed =
     let first = ended (comment_line heading) in
     let second = ended (params_line p) in
     let third = ended (seed_line seed) in
-    sym (append_assoc first second (third ++ rule_text p.refill))
-    ∙ sym (append_assoc (first ++ second) third (rule_text p.refill))
+    let rule = rule_text p.refill in
+    let scale = scale_text p.scale in
+    sym (append_assoc first second (third ++ (rule ++ scale)))
+    ∙ sym (append_assoc (first ++ second) third (rule ++ scale))
+    ∙ sym (append_assoc ((first ++ second) ++ third) rule scale)
 
 comment_kept : (heading : List ℕ) → kept_lines (ended (comment_line heading)) ≡ []
 unfolding kept_lines kept_from
@@ -82,104 +99,40 @@ seed_kept heading p seed within fits =
     kept_last (up_to_params heading p) (seed_line seed) (ends_params heading p) is.clean is.kept
     ∙ ap (λ ls. ls ++ (1 + length (lines (up_to_params heading p)), seed_line seed) ∷ []) (params_kept heading p within)
 
--- the line of the rule at DISCONNECT, if there is one
-rule_lines : ℕ → Refill → List (ℕ × List ℕ)
-rule_lines k Never = []
-rule_lines k rule = (k, refill_line rule) ∷ []
+-- ---- what the first two lines tell
 
-rule_kept :
-    (text : List ℕ) (rule : Refill) → EndsLine text
-    → kept_lines (text ++ rule_text rule) ≡ kept_lines text ++ rule_lines (1 + length (lines text)) rule
-unfolding rule_lines rule_text
-rule_kept text Never ends = ap kept_lines (append-nil text) ∙ sym (append-nil (kept_lines text))
-rule_kept text Alone ends =
-    kept_last text (refill_line Alone) ends (refill_said Alone).clean (refill_said Alone).kept
-rule_kept text Always ends =
-    kept_last text (refill_line Always) ends (refill_said Always).clean (refill_said Always).kept
-
-ends_rule : (text : List ℕ) (rule : Refill) → EndsLine text → EndsLine (text ++ rule_text rule)
-unfolding rule_text
-ends_rule text Never ends = subst EndsLine (sym (append-nil text)) ends
-ends_rule text Alone ends = ends_line text (refill_line Alone)
-ends_rule text Always ends = ends_line text (refill_line Always)
-
--- all lines that are not skipped
-opening_lines : ℕ → ℕ → ℕ → ParamsState → ℕ → List (ℕ × List ℕ)
-opening_lines n m k p seed = two_lines n m p seed ++ rule_lines k p.refill
-
-opening_kept :
-    (heading : List ℕ) (p : ParamsState) (seed : ℕ) → AreWithinLimits p → seed < 2 ^ 64
-    → kept_lines (opening heading p seed)
-    ≡ opening_lines (1 + length (lines (ended (comment_line heading)))) (1 + length (lines (up_to_params heading p)))
-    (1 + length (lines (up_to_seed heading p seed))) p seed
-unfolding opening_lines
-opening_kept heading p seed within fits =
-    ap kept_lines (opening_joined heading p seed)
-    ∙ rule_kept (up_to_seed heading p seed) p.refill (ends_seed heading p seed)
-    ∙ ap (λ ls. ls ++ rule_lines (1 + length (lines (up_to_seed heading p seed))) p.refill)
-    (seed_kept heading p seed within fits)
-
--- ---- what the lines tell
-
--- the first two lines, and the line of the rule, as they are stated
+-- as they are stated
 stated_first : ℕ → ParamsState → Stated
 stated_first n p = record { number = n; says = Some (says.Params (numbers_of p)) }
 
 stated_second : ℕ → ℕ → Stated
 stated_second m seed = record { number = m; says = Some (says.Seed seed) }
 
-stated_rule : ℕ → Refill → List Stated
-stated_rule k Never = []
-stated_rule k rule = record { number = k; says = Some (says.Refill rule) } ∷ []
-
-stated_all : ℕ → ℕ → ℕ → ParamsState → ℕ → List Stated
-stated_all n m k p seed = stated_first n p ∷ stated_second m seed ∷ stated_rule k p.refill
+stated_two : ℕ → ℕ → ParamsState → ℕ → List Stated
+stated_two n m p seed = stated_first n p ∷ stated_second m seed ∷ []
 
 -- and as they are told
-told_rule : ℕ → Refill → List ToldLine
-told_rule k Never = []
-told_rule k rule = ((k, refill_line rule), Some (says.Refill rule)) ∷ []
-
-told_all : ℕ → ℕ → ℕ → ParamsState → ℕ → List ToldLine
-told_all n m k p seed =
-    ((n, params_line p), Some (says.Params (numbers_of p)))
-    ∷ ((m, seed_line seed), Some (says.Seed seed))
-    ∷ told_rule k p.refill
-
-rule_stated : (k : ℕ) (rule : Refill) → map stated_at (rule_lines k rule) ≡ stated_rule k rule
-unfolding rule_lines stated_rule
-rule_stated k Never = refl
-rule_stated k Alone = ap (λ o. record { number = k; says = o } ∷ []) (refill_said Alone).says
-rule_stated k Always = ap (λ o. record { number = k; says = o } ∷ []) (refill_said Always).says
-
-rule_told : (k : ℕ) (rule : Refill) → told (rule_lines k rule) ≡ told_rule k rule
-unfolding rule_lines told_rule
-rule_told k Never = refl
-rule_told k Alone = ap (λ o. ((k, refill_line Alone), o) ∷ []) (refill_said Alone).says
-rule_told k Always = ap (λ o. ((k, refill_line Always), o) ∷ []) (refill_said Always).says
+told_two : ℕ → ℕ → ParamsState → ℕ → List ToldLine
+told_two n m p seed =
+    ((n, params_line p), Some (says.Params (numbers_of p))) ∷ ((m, seed_line seed), Some (says.Seed seed)) ∷ []
 
 are_stated :
-    (n m k : ℕ) (p : ParamsState) (seed : ℕ) → AreWithinLimits p → seed < 2 ^ 64
-    → map stated_at (opening_lines n m k p seed) ≡ stated_all n m k p seed
-unfolding opening_lines two_lines stated_all stated_first stated_second
-are_stated n m k p seed within fits =
-    let tail = map stated_at (rule_lines k p.refill) in
-    ap (λ o. record { number = n; says = o } ∷ stated_at (m, seed_line seed) ∷ tail) (params_said p within).says
-    ∙ ap (λ o. stated_first n p ∷ record { number = m; says = o } ∷ tail) (seed_said seed fits).says
-    ∙ ap (λ ls. stated_first n p ∷ stated_second m seed ∷ ls) (rule_stated k p.refill)
+    (n m : ℕ) (p : ParamsState) (seed : ℕ) → AreWithinLimits p → seed < 2 ^ 64
+    → map stated_at (two_lines n m p seed) ≡ stated_two n m p seed
+unfolding two_lines stated_two stated_first stated_second
+are_stated n m p seed within fits =
+    ap (λ o. record { number = n; says = o } ∷ stated_at (m, seed_line seed) ∷ []) (params_said p within).says
+    ∙ ap (λ o. stated_first n p ∷ record { number = m; says = o } ∷ []) (seed_said seed fits).says
 
 are_told :
-    (n m k : ℕ) (p : ParamsState) (seed : ℕ) → AreWithinLimits p → seed < 2 ^ 64
-    → told (opening_lines n m k p seed) ≡ told_all n m k p seed
-unfolding opening_lines two_lines told_all
-are_told n m k p seed within fits =
-    let tail = told (rule_lines k p.refill) in
-    ap (λ o. ((n, params_line p), o) ∷ ((m, seed_line seed), statement_of (seed_line seed)) ∷ tail)
+    (n m : ℕ) (p : ParamsState) (seed : ℕ) → AreWithinLimits p → seed < 2 ^ 64
+    → told (two_lines n m p seed) ≡ told_two n m p seed
+unfolding two_lines told_two
+are_told n m p seed within fits =
+    ap (λ o. ((n, params_line p), o) ∷ ((m, seed_line seed), statement_of (seed_line seed)) ∷ [])
     (params_said p within).says
-    ∙ ap (λ o. ((n, params_line p), Some (says.Params (numbers_of p))) ∷ ((m, seed_line seed), o) ∷ tail)
+    ∙ ap (λ o. ((n, params_line p), Some (says.Params (numbers_of p))) ∷ ((m, seed_line seed), o) ∷ [])
     (seed_said seed fits).says
-    ∙ ap (λ ls. ((n, params_line p), Some (says.Params (numbers_of p))) ∷ ((m, seed_line seed), Some (says.Seed seed))
-    ∷ ls) (rule_told k p.refill)
 
 params_right :
     (p : ParamsState) (after : List Stated) (f : LineFault) → AreWithinLimits p
@@ -194,125 +147,307 @@ seed_right :
 unfolding open_from stated_first
 seed_right n p seed after f nothing = nothing
 
-refill_right :
-    (n m : ℕ) (p : ParamsState) (seed : ℕ) (rule : Refill) (after : List Stated) (f : LineFault)
-    → ¬ IsWrong (before_of (stated_first n p ∷ stated_second m seed ∷ [])) (Some (says.Refill rule)) after f
-unfolding open_from stated_first stated_second
-refill_right n m p seed rule after f nothing = nothing
+right_two : (n m : ℕ) (p : ParamsState) (seed : ℕ) → AreWithinLimits p → AreFaultless (stated_two n m p seed)
+unfolding AreFaulty stated_two stated_first stated_second
+right_two n m p seed within = inl (
+  (λ f. params_right p (stated_second m seed ∷ []) f within),
+  inl ((λ f. seed_right n p seed [] f), refl),
+)
 
-right_rule :
-    (n m k : ℕ) (p : ParamsState) (seed : ℕ) (rule : Refill)
-    → AreFaulty (stated_first n p ∷ stated_second m seed ∷ []) (stated_rule k rule) []
-unfolding AreFaulty stated_rule
-right_rule n m k p seed Never = refl
-right_rule n m k p seed Alone = inl ((λ f. refill_right n m p seed Alone [] f), refl)
-right_rule n m k p seed Always = inl ((λ f. refill_right n m p seed Always [] f), refl)
+none_of_two :
+    {A : Type 0} (kind : A → Statement) (n m : ℕ) (p : ParamsState) (seed : ℕ)
+    → ((x : A) → ¬ (Some (says.Params (numbers_of p)) ≡ Some (kind x)))
+    → ((x : A) → ¬ (Some (says.Seed seed) ≡ Some (kind x)))
+    → ¬ HasKind kind (stated_two n m p seed)
+unfolding stated_two stated_first stated_second
+none_of_two kind n m p seed first second =
+    kind_more kind (stated_first n p ∷ []) (stated_second m seed)
+    (kind_more kind [] (stated_first n p) (λ (line, x, has, is). absurd has) first) second
 
-right_all : (n m k : ℕ) (p : ParamsState) (seed : ℕ) → AreWithinLimits p → AreFaultless (stated_all n m k p seed)
-unfolding AreFaulty stated_all stated_first stated_second
-right_all n m k p seed within =
-    inl (
-      (λ f. params_right p (stated_second m seed ∷ stated_rule k p.refill) f within),
-      inl ((λ f. seed_right n p seed (stated_rule k p.refill) f), right_rule n m k p seed p.refill),
-    )
+-- these parameters, with the profile's rule and scale
+usual : ParamsState → ParamsState
+usual p = record p { refill = Never; scale = Profile }
 
-params_all : (n m k : ℕ) (p : ParamsState) (seed : ℕ) → AreWithinLimits p → AreParamsOf (stated_all n m k p seed) p
-unfolding AreParamsOf stated_all stated_first
-params_all n m k p seed within =
-    inl (stated_first n p, numbers_of p, inl refl, refl, (refl, within))
+set_two : (n m : ℕ) (p : ParamsState) (seed : ℕ) → AreWithinLimits p → AreSettings (stated_two n m p seed) (usual p)
+    seed
+unfolding AreParamsOf IsSetBy stated_two stated_first stated_second usual
+set_two n m p seed within = record {
+  params = inl (stated_first n p, numbers_of p, inl refl, refl, (refl, any_settings p Never Profile within));
+  refill_said = inr (none_of_two says.Refill n m p seed (λ x is. absurd cc) (λ x is. absurd cc), refl);
+  scale_said = inr (none_of_two says.Scale n m p seed (λ x is. absurd cc) (λ x is. absurd cc), refl);
+  seed_said = inl (stated_second m seed, inr (inl refl), refl);
+}
 
-seed_all : (n m k : ℕ) (p : ParamsState) (seed : ℕ) → IsSeedOf (stated_all n m k p seed) seed
-unfolding IsSeedOf stated_all stated_second
-seed_all n m k p seed = inl (stated_second m seed, inr (inl refl), refl)
+plain_stated_two : (n m : ℕ) (p : ParamsState) (seed : ℕ) → ArePlain (λ line. line.says) (stated_two n m p seed)
+unfolding ArePlain stated_two stated_first stated_second
+plain_stated_two n m p seed = (tt, (tt, tt))
 
-none_ruled : (n m : ℕ) (p : ParamsState) (seed : ℕ) → ¬ HasKind says.Refill (stated_first n p ∷ stated_second m seed
-    ∷ [])
-unfolding stated_first stated_second
-none_ruled n m p seed (line, rule, inl same, is) = absurd cc
-none_ruled n m p seed (line, rule, inr (inl same), is) = absurd cc
-none_ruled n m p seed (line, rule, inr (inr nothing), is) = absurd nothing
-
-ruled :
-    (n m k : ℕ) (p : ParamsState) (seed : ℕ) (rule : Refill)
-    → IsRefillOf (stated_first n p ∷ stated_second m seed ∷ stated_rule k rule) rule
-unfolding IsRefillOf stated_rule
-ruled n m k p seed Never = inr (none_ruled n m p seed, refl)
-ruled n m k p seed Alone = inl (record { number = k; says = Some (says.Refill Alone) }, inr (inr (inl refl)), refl)
-ruled n m k p seed Always = inl (record { number = k; says = Some (says.Refill Always) }, inr (inr (inl refl)), refl)
-
-refill_all : (n m k : ℕ) (p : ParamsState) (seed : ℕ) → IsRefillOf (stated_all n m k p seed) p.refill
-unfolding stated_all
-refill_all n m k p seed = ruled n m k p seed p.refill
-
-plain_stated_rule : (k : ℕ) (rule : Refill) → ArePlain (λ line. line.says) (stated_rule k rule)
-unfolding ArePlain stated_rule
-plain_stated_rule k Never = tt
-plain_stated_rule k Alone = (tt, tt)
-plain_stated_rule k Always = (tt, tt)
-
-plain_told_rule : (k : ℕ) (rule : Refill) → ArePlain (λ line. line.1) (told_rule k rule)
-unfolding ArePlain told_rule
-plain_told_rule k Never = tt
-plain_told_rule k Alone = (tt, tt)
-plain_told_rule k Always = (tt, tt)
-
-plain_stated_all : (n m k : ℕ) (p : ParamsState) (seed : ℕ) → ArePlain (λ line. line.says) (stated_all n m k p seed)
-unfolding ArePlain stated_all stated_first stated_second
-plain_stated_all n m k p seed = (tt, (tt, plain_stated_rule k p.refill))
-
-plain_told_all : (n m k : ℕ) (p : ParamsState) (seed : ℕ) → ArePlain (λ line. line.1) (told_all n m k p seed)
-unfolding ArePlain told_all
-plain_told_all n m k p seed = (tt, (tt, plain_told_rule k p.refill))
+plain_told_two : (n m : ℕ) (p : ParamsState) (seed : ℕ) → ArePlain (λ line. line.1) (told_two n m p seed)
+unfolding ArePlain told_two
+plain_told_two n m p seed = (tt, (tt, tt))
 
 -- they ask for no line to run
-rule_run : (stream : Stream) (k : ℕ) (rule : Refill) → to_run stream (told_rule k rule) ≡ []
-unfolding to_run told_rule
-rule_run stream k Never = refl
-rule_run stream k Alone = refl
-rule_run stream k Always = refl
-
-none_run : (stream : Stream) (n m k : ℕ) (p : ParamsState) (seed : ℕ) → to_run stream (told_all n m k p seed) ≡ []
-unfolding to_run told_all
-none_run stream n m k p seed = rule_run stream k p.refill
-
-rule_drawn : (stream : Stream) (k : ℕ) (rule : Refill) → left_after stream (told_rule k rule) ≡ stream
-unfolding left_after told_rule
-rule_drawn stream k Never = refl
-rule_drawn stream k Alone = refl
-rule_drawn stream k Always = refl
+none_run : (stream : Stream) (n m : ℕ) (p : ParamsState) (seed : ℕ) → to_run stream (told_two n m p seed) ≡ []
+unfolding to_run told_two
+none_run stream n m p seed = refl
 
 none_drawn :
-    (stream : Stream) (n m k : ℕ) (p : ParamsState) (seed : ℕ) → left_after stream (told_all n m k p seed) ≡ stream
-unfolding left_after told_all
-none_drawn stream n m k p seed = rule_drawn stream k p.refill
+    (stream : Stream) (n m : ℕ) (p : ParamsState) (seed : ℕ) → left_after stream (told_two n m p seed) ≡ stream
+unfolding left_after told_two
+none_drawn stream n m p seed = refl
 
 one_driver : drivers_for [] ≡ 1
 unfolding drivers_for
 one_driver = refl
 
-all_told :
-    (n m k : ℕ) (p : ParamsState) (seed : ℕ) (next : List ℕ) (left : Stream) → AreWithinLimits p → seed < 2 ^ 64
+two_told :
+    (n m : ℕ) (p : ParamsState) (seed : ℕ) (next : List ℕ) (left : Stream) → AreWithinLimits p → seed < 2 ^ 64
     → AreOutputs (seeded seed) next left → length next ≡ words_per_event
-    → IsTold (opening_lines n m k p seed) p seed next left
-all_told n m k p seed next left within fits drawn_then count =
-    let stated = are_stated n m k p seed within fits in
-    let told_as = are_told n m k p seed within fits in
+    → IsTold (two_lines n m p seed) (usual p) seed next left
+two_told n m p seed next left within fits drawn_then count =
+    let stated = are_stated n m p seed within fits in
+    let told_as = are_told n m p seed within fits in
     record {
-      plain_stated = subst (ArePlain (λ line. line.says)) (sym stated) (plain_stated_all n m k p seed);
-      plain_told = subst (ArePlain (λ line. line.1)) (sym told_as) (plain_told_all n m k p seed);
-      faultless = subst AreFaultless (sym stated) (right_all n m k p seed within);
-      params = subst (λ ls. AreParamsOf ls p) (sym stated) (params_all n m k p seed within);
-      refill_said = subst (λ ls. IsRefillOf ls p.refill) (sym stated) (refill_all n m k p seed);
-      seed_said = subst (λ ls. IsSeedOf ls seed) (sym stated) (seed_all n m k p seed);
+      plain_stated = subst (ArePlain (λ line. line.says)) (sym stated) (plain_stated_two n m p seed);
+      plain_told = subst (ArePlain (λ line. line.1)) (sym told_as) (plain_told_two n m p seed);
+      faultless = subst AreFaultless (sym stated) (right_two n m p seed within);
+      settings = subst (λ ls. AreSettings ls (usual p) seed) (sym stated) (set_two n m p seed within);
       no_block =
           ap (λ ls. drivers_for (to_run (seeded seed) ls)) told_as
-          ∙ ap drivers_for (none_run (seeded seed) n m k p seed)
+          ∙ ap drivers_for (none_run (seeded seed) n m p seed)
           ∙ one_driver;
       drawn =
           ap (λ ls. outputs words_per_event (left_after (seeded seed) ls)) told_as
-          ∙ ap (outputs words_per_event) (none_drawn (seeded seed) n m k p seed)
+          ∙ ap (outputs words_per_event) (none_drawn (seeded seed) n m p seed)
           ∙ outputs_drawn (seeded seed) left next count drawn_then;
     }
+
+-- ---- one setting more
+
+-- of lines none is an event and none gives a scale, and no block is open
+record AreEarly (lines : List Stated) : Type 0 where
+  no_event : first_of is_event lines ≡ None
+  no_scale : first_of is_scale lines ≡ None
+  no_block : open_after lines ≡ None
+
+early_two : (n m : ℕ) (p : ParamsState) (seed : ℕ) → AreEarly (stated_two n m p seed)
+unfolding open_from stated_two stated_first stated_second
+early_two n m p seed = record { no_event = refl; no_scale = refl; no_block = refl }
+
+-- so a scale is not at fault behind them
+scale_right :
+    (lines : List Stated) (scale : Scale) (f : LineFault) → AreEarly lines
+    → ¬ IsWrong (before_of lines) (Some (says.Scale scale)) [] f
+scale_right lines scale f early =
+    by (open_after lines) (first_of is_event lines) (first_of is_scale lines) early.no_block early.no_event
+    early.no_scale where
+      by :
+          (block : Option OpenBlock) (event same : Option ℕ) → block ≡ None → event ≡ None → same ≡ None
+          → ¬ IsWrong (record (before_of lines) { block = block; event = event; scale = same })
+          (Some (says.Scale scale)) [] f
+      by None None None outside free new wrong = wrong
+      by (Some block) event same outside free new wrong = absurd cc
+      by None (Some event) same outside free new wrong = absurd cc
+      by None None (Some same) outside free new wrong = absurd cc
+
+-- nor is a rule behind the first two
+rule_right :
+    (n m : ℕ) (p : ParamsState) (seed : ℕ) (rule : Refill) (f : LineFault)
+    → ¬ IsWrong (before_of (stated_two n m p seed)) (Some (says.Refill rule)) [] f
+unfolding open_from stated_two stated_first stated_second
+rule_right n m p seed rule f nothing = nothing
+
+-- with a rule they are still early
+early_rule :
+    (lines : List Stated) (n : ℕ) (rule : Refill) → AreEarly lines
+    → AreEarly (lines ++ record { number = n; says = Some (says.Refill rule) } ∷ [])
+early_rule lines n rule early =
+    let line : Stated = record { number = n; says = Some (says.Refill rule) } in
+    record {
+      no_event = sym (first_next is_event lines line) ∙ early.no_event;
+      no_scale = sym (first_next is_scale lines line) ∙ early.no_scale;
+      no_block =
+          sym (open_more None lines line)
+          ∙ ap (λ (o : Option OpenBlock). open_next o n (Some (says.Refill rule))) early.no_block;
+    }
+
+-- a line that says this asks for no line to run, and no random words
+record AsksNothing (x : Statement) : Type 0 where
+  plain : IsPlain (Some x)
+  run : (stream : Stream) (own : ℕ × List ℕ) → to_run stream ((own, Some x) ∷ []) ≡ []
+  drawn : (stream : Stream) (own : ℕ × List ℕ) → left_after stream ((own, Some x) ∷ []) ≡ stream
+
+rule_asks : (rule : Refill) → AsksNothing (says.Refill rule)
+unfolding to_run left_after
+rule_asks rule = record { plain = tt; run = λ stream own. refl; drawn = λ stream own. refl }
+
+scale_asks : (scale : Scale) → AsksNothing (says.Scale scale)
+unfolding to_run left_after
+scale_asks scale = record { plain = tt; run = λ stream own. refl; drawn = λ stream own. refl }
+
+-- the lines to run with one setting more
+run_setting :
+    (kept : List (ℕ × List ℕ)) (p : ParamsState) (seed : ℕ) (next : List ℕ) (behind : Stream) (n : ℕ) (text : List ℕ)
+    (x : Statement) → IsTold kept p seed next behind → statement_of text ≡ Some x → AsksNothing x
+    → to_run (seeded seed) (told (kept ++ (n, text) ∷ [])) ≡ to_run (seeded seed) (told kept)
+run_setting kept p seed next behind n text x before said asks =
+    ap (to_run (seeded seed)) (told_more kept n text x said)
+    ∙ run_more (seeded seed) (told kept) (((n, text), Some x) ∷ []) before.plain_told
+    ∙ ap (λ ls. to_run (seeded seed) (told kept) ++ ls)
+    (asks.run (left_after (seeded seed) (told kept)) (n, text))
+    ∙ append-nil (to_run (seeded seed) (told kept))
+
+told_setting :
+    (kept : List (ℕ × List ℕ)) (p q : ParamsState) (seed : ℕ) (next : List ℕ) (behind : Stream) (n : ℕ)
+    (text : List ℕ) (x : Statement) → IsTold kept p seed next behind → statement_of text ≡ Some x → AsksNothing x
+    → ((f : LineFault) → ¬ IsWrong (before_of (map stated_at kept)) (Some x) [] f)
+    → AreSettings (map stated_at kept ++ record { number = n; says = Some x } ∷ []) q seed
+    → IsTold (kept ++ (n, text) ∷ []) q seed next behind
+told_setting kept p q seed next behind n text x before said asks right set =
+    let new : Stated = record { number = n; says = Some x } in
+    let stated = stated_more kept n text x said in
+    let told_as = told_more kept n text x said in
+    record {
+      plain_stated =
+          subst (ArePlain (λ line. line.says)) (sym stated)
+          (plain_more (λ line. line.says) (map stated_at kept) new before.plain_stated asks.plain);
+      plain_told =
+          subst (ArePlain (λ line. line.1)) (sym told_as)
+          (plain_more (λ line. line.1) (told kept) ((n, text), Some x) before.plain_told asks.plain);
+      faultless =
+          subst AreFaultless (sym stated)
+          (faultless_more [] (map stated_at kept) new before.plain_stated before.faultless right);
+      settings = subst (λ ls. AreSettings ls q seed) (sym stated) set;
+      no_block = ap drivers_for (run_setting kept p seed next behind n text x before said asks) ∙ before.no_block;
+      drawn =
+          ap (λ ls. outputs words_per_event (left_after (seeded seed) ls)) told_as
+          ∙ ap (outputs words_per_event)
+          (left_more (seeded seed) (told kept) (((n, text), Some x) ∷ []) before.plain_told
+          ∙ asks.drawn (left_after (seeded seed) (told kept)) (n, text))
+          ∙ before.drawn;
+    }
+
+-- ---- the script so far
+
+-- what a script keeps of a text that asks for no line to run
+record IsBegun (text : List ℕ) (p : ParamsState) (seed : ℕ) (next : List ℕ) (behind : Stream) : Type 0 where
+  script : IsScript text p seed next behind
+  no_line : lines_of seed text ≡ []
+
+setting_begun :
+    (text line : List ℕ) (p q : ParamsState) (seed : ℕ) (next : List ℕ) (behind : Stream) (x : Statement)
+    → IsBegun text p seed next behind → Says line x → AsksNothing x
+    → ((f : LineFault) → ¬ IsWrong (before_of (map stated_at (kept_lines text))) (Some x) [] f)
+    → AreSettings (map stated_at (kept_lines text) ++ record { number = 1 + length (lines text); says = Some x } ∷ [])
+    q seed
+    → IsBegun (text ++ ended line) q seed next behind
+unfolding lines_of
+setting_begun text line p q seed next behind x before it asks right set =
+    let n = 1 + length (lines text) in
+    let script = before.script in
+    let kept = kept_last text line script.ends it.clean it.kept in
+    record {
+      script = record {
+        ends = ends_line text line;
+        said =
+            subst (λ ls. IsTold ls q seed next behind) (sym kept)
+            (told_setting (kept_lines text) p q seed next behind n line x script.said it.says asks right set);
+      };
+      no_line =
+          ap (λ ls. to_run (seeded seed) (told ls)) kept
+          ∙ run_setting (kept_lines text) p seed next behind n line x script.said it.says asks
+          ∙ before.no_line;
+    }
+
+two_begun :
+    (heading : List ℕ) (p : ParamsState) (seed : ℕ) (next : List ℕ) (left : Stream) → AreWithinLimits p
+    → seed < 2 ^ 64 → AreOutputs (seeded seed) next left → length next ≡ words_per_event
+    → IsBegun (up_to_seed heading p seed) (usual p) seed next left
+unfolding lines_of
+two_begun heading p seed next left within fits drawn_then count =
+    let kept = seed_kept heading p seed within fits in
+    record {
+      script = record {
+        ends = ends_seed heading p seed;
+        said =
+            subst (λ ls. IsTold ls (usual p) seed next left) (sym kept)
+            (two_told _ _ p seed next left within fits drawn_then count);
+      };
+      no_line =
+          ap (λ ls. to_run (seeded seed) (told ls)) kept
+          ∙ ap (to_run (seeded seed)) (are_told _ _ p seed within fits)
+          ∙ none_run (seeded seed) _ _ p seed;
+    }
+
+-- and the rule behind it, if it is not the profile's
+rule_begun :
+    (text : List ℕ) (p : ParamsState) (seed : ℕ) (next : List ℕ) (behind : Stream) (rule : Refill)
+    → IsBegun text (usual p) seed next behind
+    → ((f : LineFault) → ¬ IsWrong (before_of (map stated_at (kept_lines text))) (Some (says.Refill rule)) [] f)
+    → IsBegun (text ++ rule_text rule) (record p { refill = rule; scale = Profile }) seed next behind
+unfolding rule_text usual
+rule_begun text p seed next behind Never before right =
+    subst (λ t. IsBegun t (usual p) seed next behind) (sym (append-nil text)) before
+rule_begun text p seed next behind Alone before right =
+    setting_begun text (refill_line Alone) (usual p) (record p { refill = Alone; scale = Profile }) seed next behind
+    (says.Refill Alone) before (refill_said Alone) (rule_asks Alone) right
+    (settings_rule (map stated_at (kept_lines text)) (1 + length (lines text)) (usual p) seed Alone
+    before.script.said.settings)
+rule_begun text p seed next behind Always before right =
+    setting_begun text (refill_line Always) (usual p) (record p { refill = Always; scale = Profile }) seed next behind
+    (says.Refill Always) before (refill_said Always) (rule_asks Always) right
+    (settings_rule (map stated_at (kept_lines text)) (1 + length (lines text)) (usual p) seed Always
+    before.script.said.settings)
+
+early_line :
+    (text : List ℕ) (rule : Refill) → EndsLine text → AreEarly (map stated_at (kept_lines text))
+    → AreEarly (map stated_at (kept_lines (text ++ ended (refill_line rule))))
+early_line text rule ends early =
+    let it = refill_said rule in
+    let n = 1 + length (lines text) in
+    subst AreEarly
+    (sym (ap (map stated_at) (kept_last text (refill_line rule) ends it.clean it.kept)
+    ∙ stated_more (kept_lines text) n (refill_line rule) (says.Refill rule) it.says))
+    (early_rule (map stated_at (kept_lines text)) n rule early)
+
+early_ruled :
+    (text : List ℕ) (rule : Refill) → EndsLine text → AreEarly (map stated_at (kept_lines text))
+    → AreEarly (map stated_at (kept_lines (text ++ rule_text rule)))
+unfolding rule_text
+early_ruled text Never ends early =
+    subst (λ t. AreEarly (map stated_at (kept_lines t))) (sym (append-nil text)) early
+early_ruled text Alone ends early = early_line text Alone ends early
+early_ruled text Always ends early = early_line text Always ends early
+
+-- and the scale behind that, if it is not the profile's
+scale_begun :
+    (text : List ℕ) (p : ParamsState) (seed : ℕ) (next : List ℕ) (behind : Stream) (scale : Scale)
+    → IsBegun text (record p { scale = Profile }) seed next behind → AreEarly (map stated_at (kept_lines text))
+    → IsBegun (text ++ scale_text scale) (record p { scale = scale }) seed next behind
+unfolding scale_text
+scale_begun text p seed next behind Profile before early =
+    subst (λ t. IsBegun t (record p { scale = Profile }) seed next behind) (sym (append-nil text)) before
+scale_begun text p seed next behind Large before early =
+    let so_far = map stated_at (kept_lines text) in
+    setting_begun text (scale_line Large) (record p { scale = Profile }) (record p { scale = Large }) seed next behind
+    (says.Scale Large) before (scale_said Large) (scale_asks Large) (λ f. scale_right so_far Large f early)
+    (settings_scale so_far (1 + length (lines text)) (record p { scale = Profile }) seed Large
+    before.script.said.settings)
+
+begun :
+    (heading : List ℕ) (p : ParamsState) (seed : ℕ) (next : List ℕ) (left : Stream) → AreWithinLimits p
+    → seed < 2 ^ 64 → AreOutputs (seeded seed) next left → length next ≡ words_per_event
+    → IsBegun (opening heading p seed) p seed next left
+unfolding up_to_rule
+begun heading p seed next left within fits drawn_then count =
+    let first = up_to_seed heading p seed in
+    let two = ap (map stated_at) (seed_kept heading p seed within fits) ∙ are_stated _ _ p seed within fits in
+    subst (λ t. IsBegun t p seed next left) (sym (opening_joined heading p seed))
+    (scale_begun (first ++ rule_text p.refill) p seed next left p.scale
+    (rule_begun first p seed next left p.refill (two_begun heading p seed next left within fits drawn_then count)
+    (subst (λ ls. (f : LineFault) → ¬ IsWrong (before_of ls) (Some (says.Refill p.refill)) [] f) (sym two)
+    (λ f. rule_right _ _ p seed p.refill f)))
+    (early_ruled first p.refill (ends_seed heading p seed) (subst AreEarly (sym two) (early_two _ _ p seed))))
 
 -- ---- the script
 
@@ -321,21 +456,16 @@ pub script_opened :
     → seed < 2 ^ 64 → text ≡ opening heading p seed → AreOutputs (seeded seed) next left
     → length next ≡ words_per_event
     → IsScript text p seed next left
-script_opened heading text p seed next left within fits is drawn_then count = record {
-  ends =
-      subst EndsLine (sym (is ∙ opening_joined heading p seed))
-      (ends_rule (up_to_seed heading p seed) p.refill (ends_seed heading p seed));
-  said =
-      subst (λ kept. IsTold kept p seed next left) (sym (ap kept_lines is ∙ opening_kept heading p seed within fits))
-      (all_told _ _ _ p seed next left within fits drawn_then count);
-}
+script_opened heading text p seed next left within fits is drawn_then count =
+    subst (λ t. IsScript t p seed next left) (sym is)
+    (begun heading p seed next left within fits drawn_then count).script
 
 pub none_opened :
     (heading text : List ℕ) (p : ParamsState) (seed : ℕ) → AreWithinLimits p → seed < 2 ^ 64
     → text ≡ opening heading p seed
     → lines_of seed text ≡ []
-unfolding lines_of
 none_opened heading text p seed within fits is =
-    ap (λ kept. to_run (seeded seed) (told kept)) (ap kept_lines is ∙ opening_kept heading p seed within fits)
-    ∙ ap (to_run (seeded seed)) (are_told _ _ _ p seed within fits)
-    ∙ none_run (seeded seed) _ _ _ p seed
+    let drawn = outputs words_per_event (seeded seed) in
+    ap (lines_of seed) is
+    ∙ (begun heading p seed drawn.0 drawn.1 within fits (are_outputs words_per_event (seeded seed))
+    (count_outputs words_per_event (seeded seed))).no_line

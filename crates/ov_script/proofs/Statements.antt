@@ -10,6 +10,9 @@ use Rattle.ov_ids.specs.ParamsState.{ParamsState, AreWithinLimits}
 use Rattle.ov_ids.specs.RefillNames.{refill_name}
 use Rattle.ov_ids.specs.declared.refill_rule.Refill.{Refill}
 use Rattle.ov_ids.specs.declared.refill_rule.Refill.TheVariants.{Never, Alone, Always}
+use Rattle.ov_ids.specs.Scales.{scale_name}
+use Rattle.ov_ids.specs.declared.world_scale.Scale.{Scale}
+use Rattle.ov_ids.specs.declared.world_scale.Scale.TheVariants.{Large, Profile}
 use Rattle.ov_ids.specs.Options.{◌>>=◌}
 use Rattle.ov_lines.specs.Lines.{behind_word, each_number, is_skipped, long_bits, number_within, short_bits, skips, two}
 use Rattle.ov_lines.specs.Lines.{without_space}
@@ -20,7 +23,8 @@ use Rattle.ov_scenario.specs.Statements.{workers_named}
 use Rattle.ov_scenario.specs.declared.statement.Statement.{Statement}
 use Rattle.ov_scenario.specs.declared.statement.Statement.TheVariants as says
 use Rattle.ov_script.specs.Acts.{act_line, event_of}
-use Rattle.ov_script.specs.WrittenLines.{analysis_line, line_of, numerals, params_line, refill_line, seed_line, spaced}
+use Rattle.ov_script.specs.WrittenLines.{analysis_line, line_of, numerals, params_line, refill_line, scale_line}
+use Rattle.ov_script.specs.WrittenLines.{seed_line, spaced}
 use Rattle.ov_script.specs.Code.Writing.{IsShort}
 use Rattle.ov_script.specs.declared.recordable_event.Act.{Act}
 use Rattle.ov_script.specs.declared.recordable_event.Act.TheVariants as act
@@ -236,3 +240,8 @@ unfolding refill_line
 refill_said Never = written (codes "refill") (refill_name Never ∷ []) (says.Refill Never) refl refl refl refl
 refill_said Alone = written (codes "refill") (refill_name Alone ∷ []) (says.Refill Alone) refl refl refl refl
 refill_said Always = written (codes "refill") (refill_name Always ∷ []) (says.Refill Always) refl refl refl refl
+
+pub scale_said : (scale : Scale) → Says (scale_line scale) (says.Scale scale)
+unfolding scale_line
+scale_said Profile = written (codes "scale") (scale_name Profile ∷ []) (says.Scale Profile) refl refl refl refl
+scale_said Large = written (codes "scale") (scale_name Large ∷ []) (says.Scale Large) refl refl refl refl

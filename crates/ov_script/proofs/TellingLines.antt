@@ -6,11 +6,13 @@ use Rattle.rand_core.specs.Stream.{Stream}
 use Rattle.ov_ids.specs.Members.{Has}
 use Rattle.ov_ids.specs.ParamsState.{ParamsState}
 use Rattle.ov_ids.specs.declared.refill_rule.Refill.{Refill}
-use Rattle.ov_ids.proofs.Members.{has_append_cases, has_append_left}
+use Rattle.ov_ids.specs.declared.refill_rule.Refill.TheVariants.{Never}
+use Rattle.ov_ids.specs.declared.world_scale.Scale.{Scale}
+use Rattle.ov_ids.specs.declared.world_scale.Scale.TheVariants.{Profile}
+use Rattle.ov_ids.proofs.Members.{has_append_cases, has_append_left, has_append_right}
 use Rattle.ov_net.specs.declared.event.Event.{Event}
 use Rattle.ov_scenario.specs.RunLines.{drivers_for}
-use Rattle.ov_scenario.specs.Scenarios.{AreFaulty, AreParamsOf, HasKind, IsRefillOf, IsSeedOf, IsWrong}
-use Rattle.ov_scenario.specs.Scenarios.{before_of}
+use Rattle.ov_scenario.specs.Scenarios.{AreFaulty, AreParamsOf, HasKind, IsSetBy, IsWrong, before_of}
 use Rattle.ov_scenario.specs.Statements.{Stated, ToldLine}
 use Rattle.ov_scenario.specs.Code.RunnableLines.{later_words, next_words, to_run}
 use Rattle.ov_scenario.specs.declared.line_judging.Before.{Before}
@@ -20,7 +22,8 @@ use Rattle.ov_scenario.specs.declared.scenario.Line.TheVariants as line
 use Rattle.ov_scenario.specs.declared.scenario_fault.LineFault.{LineFault}
 use Rattle.ov_scenario.specs.declared.statement.Statement.{Statement}
 use Rattle.ov_scenario.specs.declared.statement.Statement.TheVariants as says
-use Rattle.ov_script.specs.Code.Kept.{ArePlain, IsPlain, left_after}
+use Rattle.ov_scenario.proofs.Scenarios.Settled.{with_settings}
+use Rattle.ov_script.specs.Code.Kept.{ArePlain, AreSettings, IsPlain, left_after}
 
 -- ---- plain lines
 
@@ -54,6 +57,8 @@ same_fault before said after other f plain wrong = by said before.block plain wr
   by (Some (says.Seed seed)) (Some block) plain wrong = wrong
   by (Some (says.Refill rule)) None plain wrong = wrong
   by (Some (says.Refill rule)) (Some block) plain wrong = wrong
+  by (Some (says.Scale scale)) None plain wrong = wrong
+  by (Some (says.Scale scale)) (Some block) plain wrong = wrong
   by (Some (says.Event event)) None plain wrong = wrong
   by (Some (says.Event event)) (Some block) plain wrong = wrong
   by (Some (says.Analyse subject workers)) None plain wrong = wrong
@@ -96,9 +101,9 @@ analysis_right before moment after f = by before.block where
   by None wrong = wrong
   by (Some block) wrong = wrong.0 (refl, refl)
 
--- ---- parameters, seed and rule at DISCONNECT
+-- ---- settings
 
-kind_more :
+pub kind_more :
     {A : Type 0} (kind : A → Statement) (lines : List Stated) (next : Stated) → ¬ HasKind kind lines
     → ((x : A) → ¬ (next.says ≡ Some (kind x)))
     → ¬ HasKind kind (lines ++ next ∷ [])
@@ -108,7 +113,7 @@ kind_more kind lines next none other (line, x, has, is) = by (has_append_cases l
   by (inr (inl same)) = other x (subst (λ l. l.says ≡ Some (kind x)) (sym same) is)
   by (inr (inr nothing)) = absurd nothing
 
-pub params_more :
+params_more :
     (lines : List Stated) (next : Stated) (p : ParamsState) → AreParamsOf lines p
     → ((numbers : List ℕ) → ¬ (next.says ≡ Some (says.Params numbers)))
     → AreParamsOf (lines ++ next ∷ []) p
@@ -117,23 +122,78 @@ params_more lines next p (inl (line, numbers, has, is, are)) other =
     inl (line, numbers, has_append_left lines (next ∷ []) line has, is, are)
 params_more lines next p (inr (none, default)) other = inr (kind_more says.Params lines next none other, default)
 
-pub seed_more :
-    (lines : List Stated) (next : Stated) (seed : ℕ) → IsSeedOf lines seed
-    → ((n : ℕ) → ¬ (next.says ≡ Some (says.Seed n)))
-    → IsSeedOf (lines ++ next ∷ []) seed
-unfolding IsSeedOf
-seed_more lines next seed (inl (line, has, is)) other =
+-- a line of another kind leaves what was set
+set_more :
+    {A : Type 0} (kind : A → Statement) (usual : A) (lines : List Stated) (next : Stated) (x : A)
+    → IsSetBy kind usual lines x → ((y : A) → ¬ (next.says ≡ Some (kind y)))
+    → IsSetBy kind usual (lines ++ next ∷ []) x
+unfolding IsSetBy
+set_more kind usual lines next x (inl (line, has, is)) other =
     inl (line, has_append_left lines (next ∷ []) line has, is)
-seed_more lines next seed (inr (none, zero)) other = inr (kind_more says.Seed lines next none other, zero)
+set_more kind usual lines next x (inr (none, same)) other = inr (kind_more kind lines next none other, same)
 
-pub refill_more :
-    (lines : List Stated) (next : Stated) (rule : Refill) → IsRefillOf lines rule
-    → ((r : Refill) → ¬ (next.says ≡ Some (says.Refill r)))
-    → IsRefillOf (lines ++ next ∷ []) rule
-unfolding IsRefillOf
-refill_more lines next rule (inl (line, has, is)) other =
-    inl (line, has_append_left lines (next ∷ []) line has, is)
-refill_more lines next rule (inr (none, never)) other = inr (kind_more says.Refill lines next none other, never)
+-- and a line of the kind sets it
+set_now :
+    {A : Type 0} (kind : A → Statement) (usual : A) (lines : List Stated) (next : Stated) (x : A)
+    → next.says ≡ Some (kind x)
+    → IsSetBy kind usual (lines ++ next ∷ []) x
+unfolding IsSetBy
+set_now kind usual lines next x is = inl (next, has_append_right lines (next ∷ []) next (inl refl), is)
+
+-- a line sets nothing for the whole run
+abbrev pub SetsNothing : Option Statement → Type 0
+SetsNothing None = Unit {0}
+SetsNothing (Some (says.Params numbers)) = ⊥
+SetsNothing (Some (says.Seed seed)) = ⊥
+SetsNothing (Some (says.Refill rule)) = ⊥
+SetsNothing (Some (says.Scale scale)) = ⊥
+SetsNothing other = Unit {0}
+
+-- so it leaves all settings
+pub settings_more :
+    (lines : List Stated) (next : Stated) (p : ParamsState) (seed : ℕ) → AreSettings lines p seed
+    → SetsNothing next.says
+    → AreSettings (lines ++ next ∷ []) p seed
+settings_more lines next p seed before nothing = record {
+  params = params_more lines next p before.params (λ numbers is. subst SetsNothing is nothing);
+  refill_said =
+      set_more says.Refill Never lines next p.refill before.refill_said (λ rule is. subst SetsNothing is nothing);
+  scale_said =
+      set_more says.Scale Profile lines next p.scale before.scale_said (λ scale is. subst SetsNothing is nothing);
+  seed_said = set_more says.Seed 0 lines next seed before.seed_said (λ other is. subst SetsNothing is nothing);
+}
+
+-- a rule at DISCONNECT changes that setting alone
+pub settings_rule :
+    (lines : List Stated) (n : ℕ) (p : ParamsState) (seed : ℕ) (rule : Refill) → AreSettings lines p seed
+    → AreSettings (lines ++ record { number = n; says = Some (says.Refill rule) } ∷ []) (record p { refill = rule })
+    seed
+settings_rule lines n p seed rule before =
+    let next : Stated = record { number = n; says = Some (says.Refill rule) } in
+    record {
+      params =
+          with_settings (lines ++ next ∷ []) p rule p.scale
+          (params_more lines next p before.params (λ numbers is. absurd cc));
+      refill_said = set_now says.Refill Never lines next rule refl;
+      scale_said = set_more says.Scale Profile lines next p.scale before.scale_said (λ scale is. absurd cc);
+      seed_said = set_more says.Seed 0 lines next seed before.seed_said (λ other is. absurd cc);
+    }
+
+-- and so does a scale
+pub settings_scale :
+    (lines : List Stated) (n : ℕ) (p : ParamsState) (seed : ℕ) (scale : Scale) → AreSettings lines p seed
+    → AreSettings (lines ++ record { number = n; says = Some (says.Scale scale) } ∷ []) (record p { scale = scale })
+    seed
+settings_scale lines n p seed scale before =
+    let next : Stated = record { number = n; says = Some (says.Scale scale) } in
+    record {
+      params =
+          with_settings (lines ++ next ∷ []) p p.refill scale
+          (params_more lines next p before.params (λ numbers is. absurd cc));
+      refill_said = set_more says.Refill Never lines next p.refill before.refill_said (λ rule is. absurd cc);
+      scale_said = set_now says.Scale Profile lines next scale refl;
+      seed_said = set_more says.Seed 0 lines next seed before.seed_said (λ other is. absurd cc);
+    }
 
 -- ---- lines to run
 
@@ -152,6 +212,7 @@ run_more stream ((own, Some says.End) ∷ lines) behind plain = absurd plain.0
 run_more stream ((own, Some (says.Params numbers)) ∷ lines) behind plain = run_more stream lines behind plain.1
 run_more stream ((own, Some (says.Seed seed)) ∷ lines) behind plain = run_more stream lines behind plain.1
 run_more stream ((own, Some (says.Refill rule)) ∷ lines) behind plain = run_more stream lines behind plain.1
+run_more stream ((own, Some (says.Scale scale)) ∷ lines) behind plain = run_more stream lines behind plain.1
 run_more stream ((own, Some (says.Event event)) ∷ lines) behind plain =
     ap (λ ls. line.Event event (next_words stream) ∷ ls) (run_more (later_words stream) lines behind plain.1)
 run_more stream ((own, Some (says.Analyse subject workers)) ∷ lines) behind plain =
@@ -173,6 +234,7 @@ left_more stream ((own, Some says.End) ∷ lines) behind plain = absurd plain.0
 left_more stream ((own, Some (says.Params numbers)) ∷ lines) behind plain = left_more stream lines behind plain.1
 left_more stream ((own, Some (says.Seed seed)) ∷ lines) behind plain = left_more stream lines behind plain.1
 left_more stream ((own, Some (says.Refill rule)) ∷ lines) behind plain = left_more stream lines behind plain.1
+left_more stream ((own, Some (says.Scale scale)) ∷ lines) behind plain = left_more stream lines behind plain.1
 left_more stream ((own, Some (says.Event event)) ∷ lines) behind plain =
     left_more (later_words stream) lines behind plain.1
 left_more stream ((own, Some (says.Analyse subject workers)) ∷ lines) behind plain =

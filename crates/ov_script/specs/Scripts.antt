@@ -5,7 +5,7 @@ use Rattle.ov_ids.specs.ParamsState.{ParamsState}
 use Rattle.ov_scenario.specs.RunLines.{lines_that_run}
 use Rattle.ov_scenario.specs.declared.scenario.Line.{Line}
 use Rattle.ov_scenario.specs.declared.scenario.Scenario.{Scenario}
-use Rattle.ov_script.specs.WrittenLines.{comment_line, ended, params_line, rule_text, seed_line}
+use Rattle.ov_script.specs.WrittenLines.{comment_line, ended, params_line, rule_text, scale_text, seed_line}
 
 -- a script: the parameters of all nodes, the seed, the text so far, the lines to run that it asks for, the random words
 -- that the scenario gives to its next event, and for how many lines more there is memory
@@ -17,12 +17,13 @@ pub record ScriptState : Type 0 where
   pub next : List ℕ
   pub room : ℕ
 
--- the text with which a script begins: a comment, the parameters and the seed, and the rule at DISCONNECT unless it is
--- the profile's
+-- the text with which a script begins: a comment, the parameters and the seed, and the rule at DISCONNECT and the scale
+-- unless they are the profile's
 unfoldable pub opening : List ℕ → ParamsState → ℕ → List ℕ
 opening heading params seed =
     ended (comment_line heading)
-    ++ (ended (params_line params) ++ (ended (seed_line seed) ++ rule_text params.refill))
+    ++ (ended (params_line params)
+    ++ (ended (seed_line seed) ++ (rule_text params.refill ++ scale_text params.scale)))
 
 -- the scenario that the text of a script says; it has no blocks, so one driver is enough
 abbrev pub scenario_of : ScriptState → Scenario

@@ -5,6 +5,9 @@ use Rattle.ov_ids.specs.ParamsState.{ParamsState}
 use Rattle.ov_ids.specs.RefillNames.{refill_name}
 use Rattle.ov_ids.specs.declared.refill_rule.Refill.{Refill}
 use Rattle.ov_ids.specs.declared.refill_rule.Refill.TheVariants.{Never}
+use Rattle.ov_ids.specs.Scales.{scale_name}
+use Rattle.ov_ids.specs.declared.world_scale.Scale.{Scale}
+use Rattle.ov_ids.specs.declared.world_scale.Scale.TheVariants.{Profile}
 
 -- each of these words, with a space before it
 unfoldable pub spaced : List (List ℕ) → List ℕ
@@ -41,6 +44,15 @@ refill_line rule = line_of (codes "refill") (refill_name rule ∷ [])
 unfoldable pub rule_text : Refill → List ℕ
 rule_text Never = []
 rule_text rule = ended (refill_line rule)
+
+-- the line of this scale
+unfoldable pub scale_line : Scale → List ℕ
+scale_line scale = line_of (codes "scale") (scale_name scale ∷ [])
+
+-- the line of this scale with its line feed, or nothing if it is the profile's
+unfoldable pub scale_text : Scale → List ℕ
+scale_text Profile = []
+scale_text scale = ended (scale_line scale)
 
 -- the line that analyses a moment, for all nodes and by one worker
 unfoldable pub analysis_line : ℕ → List ℕ

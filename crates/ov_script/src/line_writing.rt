@@ -6,15 +6,17 @@ ghost use Rattle.ov_ids.specs.ParamsState.{AreWithinLimits};
 ghost use Rattle.ov_script.specs.Acts.{act_line};
 ghost use Rattle.ov_script.specs.Scripts.{opening};
 ghost use Rattle.ov_script.specs.WrittenLines.{comment_line, ended, line_of, numerals, params_line, rule_text};
+ghost use Rattle.ov_script.specs.WrittenLines.{scale_text};
 ghost use Rattle.ov_script.specs.WrittenLines as spec;
 ghost use Rattle.ov_script.specs.Code.Kept.{line_kept, written};
 ghost use Rattle.ov_script.specs.Code.Writing.{IsShort, line_room, number_room, params_room, room_of, rule_room};
+ghost use Rattle.ov_script.specs.Code.Writing.{scale_room};
 ghost use Rattle.ov_script.specs.declared.recordable_event.Act.TheVariants as act;
 
 use crate::line_to_write::KeptLine;
 use crate::recordable_event::Act;
 use itoa::Buffer;
-use ov_ids::{NodeId, OutOfMemory, Params, Refill};
+use ov_ids::{NodeId, OutOfMemory, Params, Refill, Scale};
 use std::alloc::Global;
 
 /// How many bytes of room are enough for the line of any act or analysis. (Chosen here.)
@@ -24,7 +26,7 @@ const LINE_ROOM: usize = 80;
 const OPENING_ROOM: usize = 220;
 
 /// The text with which a script begins: the heading as a comment, the parameters, the seed, and the rule at DISCONNECT
-/// unless it is the profile's. OutOfMemory (99) is returned if an allocation was refused.
+/// and the scale unless they are the profile's. OutOfMemory (99) is returned if an allocation was refused.
 pub(crate) fn opening_text(
     alloc: Global,
     heading: &[u8],
@@ -38,6 +40,7 @@ pub(crate) fn opening_text(
     write_params(&mut text, params);
     write_line(&mut text, b"seed", &[seed]);
     write_refill(&mut text, params.refill());
+    write_scale(&mut text, params.scale());
     Ok(text)
 }
 
@@ -149,11 +152,25 @@ fn write_params(text: &mut Vec<u8>, params: Params)
 fn write_refill(text: &mut Vec<u8>, rule: Refill)
     requires room { vec_len text.old + rule_room ≤ vec_capacity text.old }
     ensures items { text.new.items ≡ text.old.items ++ rule_text rule }
+    ensures len { vec_len text.new ≤ vec_len text.old + rule_room }
+    ensures capacity { vec_capacity text.old ≤ vec_capacity text.new }
 {
     match rule {
         Refill::Never => (),
         Refill::Alone => append(text, b"refill alone\n"),
         Refill::Always => append(text, b"refill always\n"),
+    }
+}
+
+/// Appends the line of this scale, or nothing if it is the profile's.
+#[tactic(auto, unfolding(crate::specs::WrittenLines::scale_text))]
+fn write_scale(text: &mut Vec<u8>, scale: Scale)
+    requires room { vec_len text.old + scale_room ≤ vec_capacity text.old }
+    ensures items { text.new.items ≡ text.old.items ++ scale_text scale }
+{
+    match scale {
+        Scale::Profile => (),
+        Scale::Large => append(text, b"scale large\n"),
     }
 }
 

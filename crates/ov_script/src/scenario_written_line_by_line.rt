@@ -52,8 +52,8 @@ impl Model for Script {
 
 impl Script {
     /// A script without a line to run: the heading as a comment, the parameters, the seed of the random words of all
-    /// events, and the rule at DISCONNECT unless it is the profile's. OutOfMemory (99) is returned if an allocation was
-    /// refused.
+    /// events, and the rule at DISCONNECT and the scale unless they are the profile's. OutOfMemory (99) is returned if
+    /// an allocation was refused.
     pub fn new(
         alloc: Global,
         params: Params,

@@ -6,8 +6,8 @@ use Rattle.ov_lines.specs.Lines.{kept_lines}
 use Rattle.ov_words.specs.Stream.{words_per_event}
 use Rattle.ov_scenario.specs.Draws.{seeded}
 use Rattle.ov_scenario.specs.RunLines.{drivers_for}
-use Rattle.ov_scenario.specs.Scenarios.{AreFaultless, AreParamsOf, IsRefillOf, IsSeedOf, stated_at}
-use Rattle.ov_scenario.specs.Statements.{ToldLine, told}
+use Rattle.ov_scenario.specs.Scenarios.{AreFaultless, AreParamsOf, IsRefillOf, IsScaleOf, IsSeedOf, stated_at}
+use Rattle.ov_scenario.specs.Statements.{Stated, ToldLine, told}
 use Rattle.ov_scenario.specs.Code.RunnableLines.{later_words, outputs, to_run}
 use Rattle.ov_scenario.specs.declared.scenario.Line.{Line}
 use Rattle.ov_scenario.specs.declared.statement.Statement.{Statement}
@@ -37,11 +37,12 @@ text_of heading params seed lines = opening heading params seed ++ written lines
 unfoldable pub lines_of : ℕ → List ℕ → List Line
 lines_of seed text = to_run (seeded seed) (told (kept_lines text))
 
--- a line of a script says this: parameters, a seed, a rule at DISCONNECT, an event or an analysis
+-- a line of a script says this: parameters, a seed, a rule at DISCONNECT, a scale, an event or an analysis
 abbrev pub IsPlain : Option Statement → Type 0
 IsPlain (Some (says.Params numbers)) = Unit {0}
 IsPlain (Some (says.Seed seed)) = Unit {0}
 IsPlain (Some (says.Refill rule)) = Unit {0}
+IsPlain (Some (says.Scale scale)) = Unit {0}
 IsPlain (Some (says.Event event)) = Unit {0}
 IsPlain (Some (says.Analyse subject workers)) = Unit {0}
 IsPlain other = ⊥
@@ -61,6 +62,13 @@ left_after stream (other ∷ more) = left_after stream more
 abbrev pub EndsLine : List ℕ → Type 0
 EndsLine text = (text ≡ []) ⊎ ((before : List ℕ) × (text ≡ before ++ 10 ∷ []))
 
+-- lines set these parameters, with their rule at DISCONNECT and their scale, and this seed
+pub record AreSettings (lines : List Stated) (p : ParamsState) (seed : ℕ) : Type 0 where
+  pub params : AreParamsOf lines p
+  pub refill_said : IsRefillOf lines p.refill
+  pub scale_said : IsScaleOf lines p.scale
+  pub seed_said : IsSeedOf lines seed
+
 -- the lines of a text that are not skipped say these parameters and this seed. They give events random words of the
 -- seed's generator: the next event has these, and `behind` is what the generator returns after them
 pub record IsTold (kept : List (ℕ × List ℕ)) (p : ParamsState) (seed : ℕ) (next : List ℕ) (behind : Stream) : Type 0
@@ -68,9 +76,7 @@ pub record IsTold (kept : List (ℕ × List ℕ)) (p : ParamsState) (seed : ℕ)
     pub plain_stated : ArePlain (λ line. line.says) (map stated_at kept)
     pub plain_told : ArePlain (λ line. line.1) (told kept)
     pub faultless : AreFaultless (map stated_at kept)
-    pub params : AreParamsOf (map stated_at kept) p
-    pub refill_said : IsRefillOf (map stated_at kept) p.refill
-    pub seed_said : IsSeedOf (map stated_at kept) seed
+    pub settings : AreSettings (map stated_at kept) p seed
     pub no_block : drivers_for (to_run (seeded seed) (told kept)) ≡ 1
     pub drawn : outputs words_per_event (left_after (seeded seed) (told kept)) ≡ (next, behind)
 

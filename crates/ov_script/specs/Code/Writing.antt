@@ -24,6 +24,10 @@ params_room = 160
 abbrev pub rule_room : ℕ
 rule_room = 14
 
+-- how many bytes the line of a scale takes at most, with its line feed
+abbrev pub scale_room : ℕ
+scale_room = 12
+
 -- each number of an act is below 2^32
 abbrev pub IsShort : Act → Type 0
 IsShort (act.Boot node None) = node < number_limit

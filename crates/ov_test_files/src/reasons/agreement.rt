@@ -5,10 +5,11 @@ use ov_reasons::{graph_reasons, scenario_reasons};
 use std::alloc::{AllocError, Global};
 
 /// What lines may begin with.
-static NAMES: [&str; 25] = [
+static NAMES: [&str; 26] = [
     "params",
     "seed",
     "refill",
+    "scale",
     "words",
     "boot",
     "deliver",
@@ -34,7 +35,7 @@ static NAMES: [&str; 25] = [
 ];
 
 /// What may follow.
-static TAILS: [&str; 47] = [
+static TAILS: [&str; 48] = [
     "",
     " ",
     " 1",
@@ -82,6 +83,7 @@ static TAILS: [&str; 47] = [
     " 1 workers",
     " 1 group 1 workers 2",
     " alone",
+    " large",
 ];
 
 /// What is said of the second line if nothing is.

@@ -1,4 +1,4 @@
-//! A scenario that fills a world with packets, and then its journal.
+//! Scenarios that fill a world: with packets and then its journal, and with nodes.
 use ov_io::{Sink, Source};
 use ov_run::run;
 use std::alloc::{AllocError, Global};
@@ -58,6 +58,35 @@ fn printed(alloc: Global) -> Result<String, AllocError> {
     Ok(text)
 }
 
+/// The most nodes that are ever born in a world of the profile's scale.
+const MOST_NODES: u32 = 256;
+
+/// A line of the scale or none, and what the birth of one node more than `MOST_NODES` prints.
+static ONE_MORE: [(&str, &str); 3] = [
+    ("", "refused 13\n"),
+    ("scale profile\n", "refused 13\n"),
+    ("scale large\n", "entry 257 born 257\n"),
+];
+
+/// A scenario of this scale, in which one node more is born than the profile's scale lets.
+fn births(alloc: Global, scale: &str) -> Result<String, AllocError> {
+    let mut text = String::from_str(alloc, scale)?;
+    for node in 1..=MOST_NODES + 1 {
+        write!(text, "boot {node}\n")?;
+    }
+    Ok(text)
+}
+
+/// What the births print, the last of which prints this.
+fn births_printed(alloc: Global, last: &str) -> Result<String, AllocError> {
+    let mut text = String::new(alloc);
+    for node in 1..=MOST_NODES {
+        write!(text, "entry {node} born {node}\n")?;
+    }
+    text.push_str(last)?;
+    Ok(text)
+}
+
 /// A run of the scenario prints this text.
 fn prints(rt: &(impl AllocGlobal + Threads + Wait + Sync), scenario: &str, text: &str) -> bool {
     let mut source = Source::new(scenario.as_bytes());
@@ -71,5 +100,15 @@ fn a_scenario_fills_a_world(rt: HostRuntime) -> Result<(), Fail> {
     let scenario = scenario(rt.alloc())?;
     let printed = printed(rt.alloc())?;
     assert!(rt; prints(&rt, scenario.as_str(), printed.as_str()));
+    Ok(())
+}
+
+#[test]
+fn the_scale_says_how_many_nodes_are_born(rt: HostRuntime) -> Result<(), Fail> {
+    for (scale, last) in ONE_MORE {
+        let scenario = births(rt.alloc(), scale)?;
+        let printed = births_printed(rt.alloc(), last)?;
+        assert!(rt; prints(&rt, scenario.as_str(), printed.as_str()));
+    }
     Ok(())
 }
