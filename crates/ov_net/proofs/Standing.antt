@@ -231,8 +231,9 @@ pub one_longer : (journal : List Entry) (e : Entry) → length (journal ++ e ∷
 one_longer journal e = length-append journal (e ∷ [])
 
 -- what an event does to the nodes, by its effects
-pub outcome_next : (seen c : WorldState) (event : Event) (words : List ℕ) (b : Effects) (nodes : map.FinMap nat_cmp Member)
-    → seen ≡ c → AreEffects c.net event words b → NamedNodeChanges b.node seen.net.nodes nodes
+pub outcome_next : (seen c : WorldState) (event : Event) (words : List ℕ) (b : Effects)
+    (nodes : map.FinMap nat_cmp Member) → seen ≡ c → AreEffects c.net event words b
+    → NamedNodeChanges b.node seen.net.nodes nodes
     → Outcome (map.get seen.net.nodes) (map.get nodes) (newborn_of event) b.changes
 outcome_next seen c event words b nodes same effects changed =
     let u : Net = record { params = seen.net.params; nodes = nodes; packets = packets_after seen.net b } in

@@ -90,7 +90,8 @@ EventJudged w Snapshot answer = Passed answer
 -- the first applicable refusal of an event when the journal has this many entries, or None if there is none. That the
 -- journal is full is the first refusal of every event
 abbrev pub StepJudged : Net → ℕ → Event → Option NetFault → Type 0
-StepJudged w entries event answer = HoldsThen (entries < most_entries w.params) TooManyEntries (EventJudged w event) answer
+StepJudged w entries event answer =
+    HoldsThen (entries < most_entries w.params) TooManyEntries (EventJudged w event) answer
 
 -- no refusal applies to the event
 abbrev pub MayHappen : Net → ℕ → Event → Type 0

@@ -82,7 +82,8 @@ impl World {
         self.judge_birth()
     }
 
-    /// Refuses if as many nodes were born as may be (13), 256 or 32,768 in a large world, or there is no room for packets.
+    /// Refuses if as many nodes were born as may be (13), 256 or in a large world 32,768, or there is no room for
+    /// packets.
     fn judge_birth(&self) -> Result<(), NetFault>
         ensures { BirthLast self.now.net (fault_in result) }
     {

@@ -22,7 +22,8 @@ pub enum NetFault {
     /// There is no packet at this place.
     #[error("there is no packet at this place")]
     NoSuchPacket,
-    /// Fewer than 64 of the places for packets are free: of 65,536, or of 1,048,576 in a large world. A step may send 64.
+    /// Fewer than 64 of the places for packets are free: of 65,536, or of 1,048,576 in a large world. A step may send
+    /// 64.
     #[error("too few places for packets are free")]
     TooManyPackets,
     /// The journal has as many entries as it may have: 65,536, or 16,777,216 in a large world.

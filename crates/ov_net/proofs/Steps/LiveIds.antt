@@ -1,6 +1,6 @@
 -- The ids of the live nodes, as the entries of a map tell them, and sorted.
-use Rattle.std.proofs.Common.{◌≡◌, ◌↔◌, ◌⊎◌, ◌≢◌, false, ℕ, suc, ◌+◌, ◌<◌, ◌≤◌, nat_eq, cond, List, [], ◌∷◌, ◌++◌, length}
-use Rattle.std.proofs.Common.{drop, Some, slice_get, inl, inr, refl, sym, ap, subst, ◌∙◌, arith}
+use Rattle.std.proofs.Common.{◌≡◌, ◌↔◌, ◌⊎◌, ◌≢◌, false, ℕ, suc, ◌+◌, ◌<◌, ◌≤◌, nat_eq, List, [], ◌∷◌, ◌++◌, length}
+use Rattle.std.proofs.Common.{cond, drop, Some, slice_get, inl, inr, refl, sym, ap, subst, ◌∙◌, arith}
 use Rattle.std.proofs.Common.{append-nil, append_assoc, zero, eq-eqb, Result, Ok, Err, IfOk}
 use Rattle.std.proofs.lemmas.Bool.{cases_eq, ne_eqb}
 use Rattle.std.proofs.lemmas.Cmp.{nat_cmp_total, by_ranked, ranked}
@@ -133,7 +133,8 @@ strict (x ∷ xs) up = (
 
 pub ids_ascend : (sorted new : List ℕ) → IsSorted nat_cmp sorted → new ≡ dedup nat_eq sorted → Ascends new
 ids_ascend sorted new up is =
-    subst Ascends (sym is) (strict (dedup nat_eq sorted) (IsStrictlySortedBy-dedup nat_cmp_total unsigned_ties sorted up))
+    subst Ascends (sym is)
+    (strict (dedup nat_eq sorted) (IsStrictlySortedBy-dedup nat_cmp_total unsigned_ties sorted up))
 
 has_contains : (xs : List ℕ) (x : ℕ) → Has xs x → Contains xs x
 has_contains [] x h = absurd h

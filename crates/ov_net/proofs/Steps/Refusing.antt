@@ -95,6 +95,6 @@ event_alone w Snapshot f = λ p. passed_alone f
 pub refused_for_memory : (w : Net) (entries : ℕ) (event : Event) (f : NetFault) → MayHappen w entries event
     → IsRefusal w entries event f → f ≡ OutOfMemory
 refused_for_memory w entries event f may (inl judged) =
-    absurd (step_alone (entries < most_entries w.params) TooManyEntries f (EventJudged w event) (event_alone w event f) may
-    judged)
+    absurd (step_alone (entries < most_entries w.params) TooManyEntries f (EventJudged w event)
+    (event_alone w event f) may judged)
 refused_for_memory w entries event f may (inr memory) = memory.0

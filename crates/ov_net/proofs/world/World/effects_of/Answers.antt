@@ -166,18 +166,21 @@ pub returns-in-Lose-clause-few : goal.returns-in-Lose-clause-few
 returns-in-Lose-clause-few c =
     IfOk-weaker c.effects_of_lose.result _ _
     (λ b h. none_sent c.args.self.now.net b h
-    (subst (λ (w : WorldState). length w.net.packets ≤ most_packets w.net.params) c.self.view_is c.self.invariant.0.packets))
+    (subst (λ (w : WorldState). length w.net.packets ≤ most_packets w.net.params) c.self.view_is
+    c.self.invariant.0.packets))
     c.effects_of_lose.ensures.none
 
 pub returns-in-Crash-clause-few : goal.returns-in-Crash-clause-few
 returns-in-Crash-clause-few c =
     IfOk-weaker c.effects_of_crash.result _ _
     (λ b h. none_sent c.args.self.now.net b h
-    (subst (λ (w : WorldState). length w.net.packets ≤ most_packets w.net.params) c.self.view_is c.self.invariant.0.packets))
+    (subst (λ (w : WorldState). length w.net.packets ≤ most_packets w.net.params) c.self.view_is
+    c.self.invariant.0.packets))
     c.effects_of_crash.ensures.none
 
 pub returns-in-Snapshot-clause-few : goal.returns-in-Snapshot-clause-few
 returns-in-Snapshot-clause-few c =
     none_sent c.args.self.now.net c.packet_effects.result
     (ap (λ (b : Effects). b.packets.items) c.packet_effects.ensures ∙ c.new.ensures.items)
-    (subst (λ (w : WorldState). length w.net.packets ≤ most_packets w.net.params) c.self.view_is c.self.invariant.0.packets)
+    (subst (λ (w : WorldState). length w.net.packets ≤ most_packets w.net.params) c.self.view_is
+    c.self.invariant.0.packets)
