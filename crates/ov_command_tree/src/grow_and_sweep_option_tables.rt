@@ -226,5 +226,10 @@ pub(crate) fn option_of(command: GrowingCommand, name: &str) -> Option<&'static 
 
 /// Whether the option of this name takes a list behind `overlay sweep`: one of growing, but for the seed.
 pub(crate) fn takes_list(name: &str) -> bool {
-    growing_options().iter().any(|option| option.name == name) && name != SEED.name
+    for option in growing_options() {
+        if option.name == name {
+            return name != SEED.name;
+        }
+    }
+    false
 }

@@ -1,2 +1,4 @@
+pub mod File
 pub mod KeptRows
+pub mod Lines
 pub mod RowFiles

@@ -1,4 +1,5 @@
 pub mod GrowFaults
 pub mod Growing
 pub mod KeptRows
+pub mod WrittenRows
 pub mod Code

@@ -8,7 +8,7 @@ use crate::grow_command::told;
 use crate::grow_command_fault::GrowCommandFault;
 use ov_grow_options::GrowOptions;
 use ov_io::{ReadFault, Source, shown_name, unopened_text, unread_text};
-use ov_sweep_rows::{Row, RowFault, read_rows};
+use ov_sweep_rows::{Row, RowFault, header_slip, read_rows};
 use std::fs::File;
 use std::io::{self, IsTerminal, Read};
 
@@ -53,7 +53,7 @@ fn rows_from<R: Read + Drop>(
     let bytes = all_bytes(rt, name, reader)?;
     match read_rows(rt.alloc(), &bytes) {
         Ok(rows) => Ok(rows),
-        Err(fault) => Err(no_rows(rt, name, fault)),
+        Err(fault) => Err(no_rows(rt, name, &bytes, fault)),
     }
 }
 
@@ -138,8 +138,8 @@ fn all_bytes<R: Read + Drop>(
     }
 }
 
-/// Ends if a file has a line that is no row. Prints its name, and which line.
-fn no_rows(rt: &HostRuntime, name: &str, fault: RowFault) -> GrowCommandFault
+/// Ends if a file of these bytes has a line that is no row. Prints its name, and which line.
+fn no_rows(rt: &HostRuntime, name: &str, bytes: &[u8], fault: RowFault) -> GrowCommandFault
     ensures { result ≡ fault_of_rows fault }
 {
     if fault == RowFault::OutOfMemory {
@@ -148,7 +148,19 @@ fn no_rows(rt: &HostRuntime, name: &str, fault: RowFault) -> GrowCommandFault
     let ended = GrowCommandFault::Row;
     let _ = eprintln!(rt; "{ended}");
     if let Ok(shown) = shown_name(rt.alloc(), name) {
-        let _ = eprintln!(rt; "{shown}: {fault}");
+        print_reason(rt, &shown, bytes, fault);
     }
     ended
+}
+
+/// Prints why the file of this name and of these bytes is refused; of a header, which column is missing.
+fn print_reason(rt: &HostRuntime, shown: &str, bytes: &[u8], fault: RowFault) {
+    let slip = match fault {
+        RowFault::Header => header_slip(rt.alloc(), bytes),
+        _ => Ok(None),
+    };
+    let _ = match slip {
+        Ok(Some(slip)) => eprintln!(rt; "{shown}: {fault}: {slip}"),
+        Ok(None) | Err(_) => eprintln!(rt; "{shown}: {fault}"),
+    };
 }

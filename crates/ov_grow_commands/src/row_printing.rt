@@ -1,6 +1,8 @@
 ghost use Rattle.std.specs.Prelude.{◌≡◌, ◌<◌, [], IfErr, OnOk};
-ghost use Rattle.ov_io.specs.Device.{most_faults};
+ghost use Rattle.std.specs.Io.KnownBytes.{Appends};
+ghost use Rattle.ov_io.specs.Device.{AppendsPrefixOf, most_faults};
 ghost use Rattle.ov_sweep.specs.Sweeps.{WereGiven};
+ghost use Rattle.ov_grow_commands.specs.WrittenRows.{row_lines, rows_file};
 ghost use Rattle.ov_grow_commands.specs.KeptRows.{asked_measures, needs_rows};
 ghost use Rattle.ov_grow_commands.specs.Code.Keeping.{IsOfNoRun, kept_rows};
 
@@ -134,8 +136,26 @@ impl<'a> RowTaker for RowPrinter<'a> {
     }
 }
 
+/// Writes the header of these rows, with the columns that all of them have, and then the rows.
+pub(crate) fn write_file<W: Write>(
+    alloc: Global,
+    rows: &[Row],
+    sink: &mut Sink<W>,
+) -> Result<(), SweepFault>
+    requires { sink.old.faults < most_faults }
+    ensures fault { IfErr result IsOfNoRun }
+    ensures file { OnOk result (Appends (W.contents sink.old.writer) (W.contents sink.new.writer)
+        (rows_file rows.now)) }
+    ensures prefix { AppendsPrefixOf (rows_file rows.now) (W.contents sink.old.writer) (W.contents sink.new.writer) }
+{
+    let form = RowForm::of_rows(rows);
+    let header = header_text(alloc, form)?;
+    sink.write_all(&header)?;
+    write_rows(alloc, form, rows, sink)
+}
+
 /// Writes rows of this form, one after the other. That a write failed is not passed over.
-pub(crate) fn write_rows<W: Write>(
+fn write_rows<W: Write>(
     alloc: Global,
     form: RowForm,
     rows: &[Row],
@@ -144,6 +164,10 @@ pub(crate) fn write_rows<W: Write>(
     requires { sink.old.faults < most_faults }
     ensures fault { IfErr result IsOfNoRun }
     ensures unfailed { OnOk result (sink.new.faults ≡ sink.old.faults) }
+    ensures lines { OnOk result (Appends (W.contents sink.old.writer) (W.contents sink.new.writer)
+        (row_lines form rows.now)) }
+    ensures prefix { AppendsPrefixOf (row_lines form rows.now) (W.contents sink.old.writer)
+        (W.contents sink.new.writer) }
 {
     for row in rows {
         let text = row_text(alloc, form, row)?;

@@ -6,12 +6,12 @@ use crate::grow_command_fault::GrowCommandFault;
 use crate::message_row_printing::print_messages;
 use crate::picture_file::opened_picture;
 use crate::row_files::rows_of_files;
-use crate::row_printing::{RowPrinter, measures_asked, write_rows};
+use crate::row_printing::{RowPrinter, measures_asked, write_file};
 use crate::sweep_report::{print_report, tell_none, tell_repeated, tell_too_few};
 use ov_arguments::{Printed, SweepBlock, SweepRequest};
 use ov_io::Sink;
 use ov_sweep::{RefusedRun, SweepFault, sweep};
-use ov_sweep_rows::{Row, RowForm, header_text};
+use ov_sweep_rows::Row;
 use std::fs::File;
 use std::thread::Threads;
 
@@ -84,11 +84,7 @@ fn read_and_print(
 
 /// Prints the header, and these rows, with the columns that all of them have.
 fn print_rows(rt: &HostRuntime, rows: &[Row]) -> Result<(), GrowCommandFault> {
-    let form = RowForm::of_rows(rows);
-    let header = header_text(rt.alloc(), form)?;
-    let mut sink = Sink::new(rt.stdout());
-    sink.write_all(&header)?;
-    match write_rows(rt.alloc(), form, rows, &mut sink) {
+    match write_file(rt.alloc(), rows, &mut Sink::new(rt.stdout())) {
         Ok(()) => Ok(()),
         Err(fault) => Err(GrowCommandFault::from(fault)),
     }

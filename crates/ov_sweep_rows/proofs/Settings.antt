@@ -1,6 +1,6 @@
 -- The columns of a setting have the names of its options, in the order of the options' table: so the option at a place
 -- among those that tell settings apart is the one of the cell at this place.
-use Rattle.std.proofs.Common.{◌≡◌, ◌++◌, ◌==◌, ℕ, List, if◌then◌else◌, map, refl, take}
+use Rattle.std.proofs.Common.{◌≡◌, ◌++◌, ◌==◌, ℕ, if◌then◌else◌, map, refl, take}
 use Rattle.ov_grow_options.specs.CommandLine.{setting_names}
 use Rattle.ov_sweep_rows.specs.Columns.{further_columns, option_columns}
 

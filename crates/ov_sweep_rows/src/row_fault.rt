@@ -88,7 +88,7 @@ impl Display for RowFault {
     fn fmt<W: Write>(&self, f: &mut Formatter<W>) -> Result {
         match self {
             RowFault::Header => f.write_str(
-                "line 1 must be the header of the rows, nodes,active,passive and so on, with refill behind ttl",
+                "line 1 must be the header of the rows, nodes,active,passive and so on",
             ),
             RowFault::FieldCount {
                 line,

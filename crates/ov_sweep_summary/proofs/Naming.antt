@@ -1,5 +1,5 @@
 -- The names of the options that tell settings apart, among the rows of the options' table.
-use Rattle.std.proofs.Common.{◌≡◌, ◌∙◌, ℕ, Bool, true, false, List, [], ◌∷◌, map, refl, sym, ap}
+use Rattle.std.proofs.Common.{◌≡◌, ◌∙◌, ℕ, List, [], ◌∷◌, map, refl, sym, ap}
 use Rattle.std.specs.List.{filter}
 use Rattle.ov_grow_options.specs.CommandLine.{is_of_setting, name_and_default, named_options, option_names}
 use Rattle.ov_grow_options.specs.CommandLine.{options_named, setting_names}

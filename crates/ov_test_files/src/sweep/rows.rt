@@ -237,8 +237,7 @@ static CHANGED: [(&str, &str, &str); 13] = [
 ];
 
 /// Why texts are no rows from their first line on.
-const NO_HEADER: &str =
-    "line 1 must be the header of the rows, nodes,active,passive and so on, with refill behind ttl";
+const NO_HEADER: &str = "line 1 must be the header of the rows, nodes,active,passive and so on";
 
 /// Whether a fault has this reason.
 fn is_reason(alloc: Global, fault: RowFault, reason: &str) -> bool {
