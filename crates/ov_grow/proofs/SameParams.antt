@@ -1,5 +1,5 @@
 -- No event changes the parameters of a world.
-use Rattle.std.proofs.Common.{◌≡◌, ℕ, List, Option, Some, None, refl, ap}
+use Rattle.std.proofs.Common.{◌≡◌, ℕ, List, Option, Some, None, ap}
 use Rattle.std.specs.FinMap as map
 use Rattle.ov_ids.specs.ParamsState.{ParamsState}
 use Rattle.ov_wire.specs.declared.message.Message.{Message}
