@@ -1,41 +1,42 @@
 -- The links of a copy, key by key.
-use Rattle.std.proofs.Common.{◌≡◌, ◌∙◌, ◌↔◌, ◌+◌, ◌<◌, ◌≤◌, ◌++◌, inl, inr, List, [], ◌∷◌, ℕ, map, sym, ap, subst}
-use Rattle.std.proofs.Common.{refl, arith, get_or, length, replicate, eq-or-lt_of_le}
+use Rattle.std.proofs.Common.{◌≡◌, ◌≢◌, ◌∙◌, ◌↔◌, ◌+◌, ◌<◌, ◌≤◌, ◌++◌, inl, inr, List, [], ◌∷◌, ℕ, map, sym, ap, subst}
+use Rattle.std.proofs.Common.{refl, arith, get_or, length, eq-or-lt_of_le}
 use Rattle.std.proofs.lemmas.Bool.{cases_lt}
 use Rattle.ov_ids.specs.Members.{Has, Ascends, Ordered}
 use Rattle.ov_ids.proofs.Members.{all_from_members, all_member, has_append_cases, has_append_left, has_append_right}
 use Rattle.ov_ids.proofs.Members.{has_place}
 use Rattle.ov_graph.specs.Links.{LinkGraph, Precedes}
-use Rattle.ov_graph.specs.Neighbours.{AreLinkedAt, HoldsNoMore, IsFirst, IsOutside}
-use Rattle.ov_graph.proofs.BitRows.Bits.{no_bits}
-use Rattle.ov_scatter.specs.Code.Keys.{AreKeysAbove, AreLinksByKey, AreSomeAbove, IsKeyAbove, IsLinkByKey, linked_to}
-
--- the set of no places
-abbrev pub no_places : List ℕ
-no_places = replicate 512 0
+use Rattle.ov_graph.specs.Neighbours.{HoldsNoMore, IsFirst, IsWithin}
+use Rattle.ov_graph.specs.Row.{HasBit}
+use Rattle.ov_scatter.specs.Code.Keys.{AreKeysAbove, AreLinksByKey, AreSomeAbove, HasKeysFrom, IsKeyAbove}
+use Rattle.ov_scatter.specs.Code.Keys.{IsLinkByKey, linked_to}
 
 -- ---- the keys above one, neighbour by neighbour
 
 pub above_begun : (g : LinkGraph) (keys : List ℕ) (p : ℕ) → AreSomeAbove g keys p 0 []
 above_begun g keys p j = ((λ h. absurd h), (λ h. let low = h.1 in absurd (omega (arith, low))))
 
--- a place outside no places
-not_linked : (g : LinkGraph) (p q : ℕ) → ¬ IsOutside g p no_places q → ¬ AreLinkedAt g p q
-not_linked g p q out linked = out (linked, no_bits 512 q)
+-- a neighbour whose key is above is left
+still_left : (g : LinkGraph) (keys : List ℕ) (p : ℕ) (left : List ℕ) (q j : ℕ)
+    → HasKeysFrom g keys (get_or keys p 0 + 1) left → IsKeyAbove g keys p q j → IsWithin g p left q
+still_left g keys p left q j has own =
+    let up = own.above in
+    let key = own.key in (own.linked, (has q own.linked.0).1 (omega (arith, up, key)))
 
--- no place below the next neighbour is that of a neighbour
-below_next : (g : LinkGraph) (keys : List ℕ) (p from next q j : ℕ) → IsFirst (IsOutside g p no_places) from next
-    → q < next → IsKeyAbove g keys p q j → q < from
-below_next g keys p from next q j at low own = elim (cases_lt q from) [
+-- no place below the next neighbour is that of one whose key is above
+below_next : (g : LinkGraph) (keys : List ℕ) (p : ℕ) (left : List ℕ) (from next q j : ℕ)
+    → HasKeysFrom g keys (get_or keys p 0 + 1) left → IsFirst (IsWithin g p left) from next → q < next
+    → IsKeyAbove g keys p q j → q < from
+below_next g keys p left from next q j has at low own = elim (cases_lt q from) [
   | inl l ↦ l
-  | inr l ↦ absurd (not_linked g p q (at.first q l low) own.linked)
+  | inr l ↦ absurd (at.first q l low (still_left g keys p left q j has own))
 ]
 
--- the next neighbour has a key above
-pub above_more : (g : LinkGraph) (keys : List ℕ) (p from next : ℕ) (found : List ℕ)
-    → IsFirst (IsOutside g p no_places) from next → get_or keys p 0 < get_or keys next 0
+-- the next neighbour that is left
+pub above_more : (g : LinkGraph) (keys : List ℕ) (p : ℕ) (left : List ℕ) (from next : ℕ) (found : List ℕ)
+    → HasKeysFrom g keys (get_or keys p 0 + 1) left → IsFirst (IsWithin g p left) from next
     → AreSomeAbove g keys p from found → AreSomeAbove g keys p (next + 1) (found ++ get_or keys next 0 ∷ [])
-above_more g keys p from next found at above s j = (
+above_more g keys p left from next found has at s j = (
   (λ h. elim (has_append_cases found (get_or keys next 0 ∷ []) j h) [
     | inl k ↦ let m = (s j).0 k in
         let low = m.1 in
@@ -47,7 +48,7 @@ above_more g keys p from next found at above s j = (
         record {
           linked = at.holds.0;
           key = e;
-          above = subst (λ x. get_or keys p 0 < x) e above;
+          above = let up = (has next at.holds.0.0).0 at.holds.1 in omega (arith, up, e);
         },
       )
       | inr none ↦ absurd none
@@ -56,33 +57,19 @@ above_more g keys p from next found at above s j = (
   (λ h. let low = h.1 in let le : h.0 ≤ next = omega (arith, low) in elim (eq-or-lt_of_le le) [
     | inl e ↦ has_append_right found (get_or keys next 0 ∷ []) j (inl (ap (λ x. get_or keys x 0) (sym e) ∙ h.2.key))
     | inr l ↦ has_append_left found (get_or keys next 0 ∷ []) j
-        ((s j).1 (h.0, below_next g keys p from next h.0 j at l h.2, h.2))
-  ]),
-)
-
--- the next neighbour has none
-pub above_same : (g : LinkGraph) (keys : List ℕ) (p from next : ℕ) (found : List ℕ)
-    → IsFirst (IsOutside g p no_places) from next → ¬ (get_or keys p 0 < get_or keys next 0)
-    → AreSomeAbove g keys p from found → AreSomeAbove g keys p (next + 1) found
-above_same g keys p from next found at none s j = (
-  (λ h. let m = (s j).0 h in
-      let low = m.1 in
-      let le = at.reached in (m.0, omega (arith, low, le), m.2)),
-  (λ h. let low = h.1 in let le : h.0 ≤ next = omega (arith, low) in elim (eq-or-lt_of_le le) [
-    | inl e ↦ let own = h.2 in
-        absurd (none (subst (λ x. get_or keys p 0 < x) (sym (ap (λ x. get_or keys x 0) (sym e) ∙ own.key)) own.above))
-    | inr l ↦ (s j).1 (h.0, below_next g keys p from next h.0 j at l h.2, h.2)
+        ((s j).1 (h.0, below_next g keys p left from next h.0 j has at l h.2, h.2))
   ]),
 )
 
 -- there is no further neighbour
-pub above_all : (g : LinkGraph) (keys : List ℕ) (p from : ℕ) (found : List ℕ) → HoldsNoMore (IsOutside g p no_places) from
+pub above_all : (g : LinkGraph) (keys : List ℕ) (p : ℕ) (left : List ℕ) (from : ℕ) (found : List ℕ)
+    → HasKeysFrom g keys (get_or keys p 0 + 1) left → HoldsNoMore (IsWithin g p left) from
     → AreSomeAbove g keys p from found → AreSomeAbove g keys p (length g.nodes) found
-above_all g keys p from found none s j = (
+above_all g keys p left from found has none s j = (
   (λ h. let m = (s j).0 h in (m.0, m.2.linked.0, m.2)),
   (λ h. elim (cases_lt h.0 from) [
     | inl l ↦ (s j).1 (h.0, l, h.2)
-    | inr l ↦ absurd (not_linked g p h.0 (none h.0 l) h.2.linked)
+    | inr l ↦ absurd (none h.0 l (still_left g keys p left h.0 j has h.2))
   ]),
 )
 
@@ -96,6 +83,33 @@ above_sorted g keys p found new s up same = record {
     (λ h. (same j).1 ((s j).1 (h.0, h.1.linked.0, h.1))),
   );
 }
+
+-- ---- the places that are left
+
+-- the place of the next key is left no more
+pub left_more : (g : LinkGraph) (keys : List ℕ) (key p : ℕ) (left new : List ℕ)
+    → ((q : ℕ) → q < length g.nodes → get_or keys q 0 ≡ key → q ≡ p) → get_or keys p 0 ≡ key
+    → ((q : ℕ) → HasBit new q ↔ ((q ≢ p) × HasBit left q)) → HasKeysFrom g keys key left
+    → HasKeysFrom g keys (get_or keys p 0 + 1) new
+left_more g keys key p left new one at cleared has q low = (
+  (λ h. let m = (cleared q).0 h in
+      let le = (has q low).0 m.1 in
+      let differ : ¬ (get_or keys q 0 ≡ key) = λ e. m.0 (one q low e) in omega (arith, le, differ, at)),
+  (λ up. (cleared q).1 (
+    (λ e. let same : get_or keys q 0 ≡ get_or keys p 0 = ap (λ x. get_or keys x 0) e in omega (arith, up, same)),
+    (has q low).1 (omega (arith, up, at)),
+  )),
+)
+
+-- no place has the next key
+pub left_same : (g : LinkGraph) (keys : List ℕ) (key : ℕ) (left : List ℕ) → length keys ≡ length g.nodes
+    → ¬ Has keys key → HasKeysFrom g keys key left → HasKeysFrom g keys (key + 1) left
+left_same g keys key left count none has q low = (
+  (λ h. let le = (has q low).0 h in
+      let differ : ¬ (get_or keys q 0 ≡ key) = λ e. none (subst (Has keys) e
+      (has_place keys q 0 (omega (arith, low, count)))) in omega (arith, le, differ)),
+  (λ up. (has q low).1 (omega (arith, up))),
+)
 
 -- ---- links from one key
 

@@ -1,6 +1,6 @@
 -- A copy is a graph, and that of which it is made, under other ids.
-use Rattle.std.proofs.Common.{◌≡◌, ◌≢◌, ◌∙◌, ◌↔◌, ◌≤◌, ◌<◌, ◌+◌, inl, inr, ℕ, sym, ap, subst, refl, arith, List, [], ◌∷◌}
-use Rattle.std.proofs.Common.{◌++◌, get_or, length, eq-or-lt_of_le}
+use Rattle.std.proofs.Common.{◌≡◌, ◌≢◌, ◌∙◌, ◌↔◌, ◌≤◌, ◌<◌, ◌+◌, inl, inr, ℕ, sym, ap, subst, refl, arith}
+use Rattle.std.proofs.Common.{List, [], ◌∷◌, ◌++◌, get_or, length, eq-or-lt_of_le}
 use Rattle.std.proofs.lemmas.Bool.{cases_order}
 use Rattle.ov_ids.specs.Members.{Has, Ascends}
 use Rattle.ov_ids.specs.Sets.{count_below}
@@ -40,7 +40,8 @@ made_by g turns order ordered keys keyed copied nodes links graph few long place
     record {
       graph = graph;
       count = s.count ∙ count;
-      one = λ p q low less e. one_place ordered keys p q fit s (omega (arith, low, count)) (omega (arith, less, count)) e;
+      one = λ p q low less e.
+          one_place ordered keys p q fit s (omega (arith, low, count)) (omega (arith, less, count)) e;
       low = λ key h. keys_low ordered keys key s h;
       ascend = up;
       each = λ i. subst (λ (ks : List ℕ). Has nodes i ↔ Has ks i) copy (each i);

@@ -17,8 +17,8 @@ const STEP: usize = 20251;
 /// The number by which `STEP` is multiplied to give 1 modulo `KEYS`.
 const INVERSE: usize = 29459;
 
-/// The places in the order of the numbers that a guide gives them, and of themselves where these are the same. Each entry
-/// is the number of a place, and the place.
+/// The places in the order of the numbers that a guide gives them, and of themselves where these are the same. Each
+/// entry is the number of a place, and the place. OutOfMemory (99) if an allocation is refused.
 pub(crate) fn places_in_order(alloc: Global, guide: &[u32]) -> Result<Vec<(u32, u32)>, OutOfMemory>
     requires { length guide.now ≤ most_of_any_graph }
     ensures { IfOk result (λ order. IsOrder (length guide.now) order.items) }
@@ -41,6 +41,7 @@ fn numbered_places(alloc: Global, guide: &[u32]) -> Result<Vec<(u32, u32)>, OutO
 }
 
 /// For each place its key. The place of rank r, counted from 0 in this order, has the key 20,251 r modulo 32,768.
+/// OutOfMemory (99) if an allocation is refused.
 pub(crate) fn keys_by_place(alloc: Global, order: &[(u32, u32)]) -> Result<Vec<NodeId>, OutOfMemory>
     requires order { IsOrder (length order.now) order.now }
     requires few { length order.now ≤ most_of_any_graph }

@@ -1,16 +1,18 @@
 //! The links of a copy, by ascending key of their lower ends.
-ghost use Rattle.std.specs.Prelude.{◌≡◌, ◌<◌, ◌++◌, [], length, IfOk, OnOk};
+ghost use Rattle.std.specs.Prelude.{◌≡◌, ◌<◌, ◌≤◌, ◌+◌, ◌++◌, [], ℕ, length, slice_index, IfOk, OnOk};
 ghost use Rattle.ov_graph.specs.Links.{most_of_any_graph};
+ghost use Rattle.ov_graph.specs.Row.{HasBit};
 ghost use Rattle.ov_scatter.specs.Code.Keys.{IsOrder, AreKeysOf, AreLinksByKey, AreKeysAbove, AreSomeAbove};
-ghost use Rattle.ov_scatter.specs.Code.Keys.{linked_to};
+ghost use Rattle.ov_scatter.specs.Code.Keys.{HasKeysFrom, linked_to};
 
 use crate::ids_in_copy::{place_of_key, put_in_order};
 use ov_graph::Graph;
-use ov_graph::bit_rows::ALL_WORDS;
+use ov_graph::bit_rows::{ALL_WORDS, clear, put};
 use ov_ids::{NodeId, OutOfMemory};
 use std::alloc::Global;
 
-/// The links of a graph by the keys of the places of their ends, ascending, each with its lower key first.
+/// The links of a graph by the keys of the places of their ends, ascending, each with its lower key first. OutOfMemory
+/// (99) if an allocation is refused.
 pub(crate) fn links_by_key(
     alloc: Global,
     graph: &Graph,
@@ -25,53 +27,69 @@ pub(crate) fn links_by_key(
     prove!(graph.nodes().len() <= Graph::MOST_OF_ANY);
     let mut links = Vec::new(alloc);
     let mut above = Vec::new(alloc);
+    let mut left = all_places(graph.nodes().len());
     for key in 0..Graph::MOST_OF_ANY {
         let Some(place) = place_of_key(order, keys, key) else {
             continue;
         };
-        find_keys_above(graph, keys, place, &mut above)?;
+        clear(&mut left, place);
+        find_keys_above(graph, keys, place, &left, &mut above)?;
         add_links(NodeId::new(key as u32), &above, &mut links)?;
     }
     Ok(links)
 }
 
-/// The keys of the neighbours of the node at a place that are above its own, ascending.
+/// The set of as many places, as a row of bits.
+fn all_places(count: usize) -> [u64; ALL_WORDS]
+    requires { count ≤ most_of_any_graph }
+    ensures { (q : ℕ) → q < count → HasBit result q }
+{
+    let mut all = [0; ALL_WORDS];
+    for place in 0..count {
+        put(&mut all, place);
+    }
+    all
+}
+
+/// The keys of the neighbours of the node at a place that are above its own, ascending. The places with keys above are
+/// those that are left.
 fn find_keys_above(
     graph: &Graph,
     keys: &[NodeId],
     place: usize,
+    left: &[u64; ALL_WORDS],
     above: &mut Vec<NodeId>,
 ) -> Result<(), OutOfMemory>
     requires places { length keys.now ≡ length graph.now.nodes }
     requires place { place < length graph.now.nodes }
+    requires left { HasKeysFrom graph.now keys.now (slice_index keys.now place + 1) left.now }
     ensures { OnOk result (AreKeysAbove graph.now keys.now place above.new.items) }
 {
     above.clear();
-    gather_keys_above(graph, keys, place, above)?;
+    gather_keys_above(graph, keys, place, left, above)?;
     put_in_order(above);
     Ok(())
 }
 
-/// Adds the keys of the neighbours of the node at a place that are above its own, in any order.
+/// Puts the keys of the neighbours of the node at a place that are left into an empty list.
 fn gather_keys_above(
     graph: &Graph,
     keys: &[NodeId],
     place: usize,
+    left: &[u64; ALL_WORDS],
     above: &mut Vec<NodeId>,
 ) -> Result<(), OutOfMemory>
     requires places { length keys.now ≡ length graph.now.nodes }
     requires place { place < length graph.now.nodes }
+    requires left { HasKeysFrom graph.now keys.now (slice_index keys.now place + 1) left.now }
     requires none { above.old.items ≡ [] }
     ensures { OnOk result (AreSomeAbove graph.now keys.now place (length graph.now.nodes) above.new.items) }
 {
     prove!(graph.nodes().len() <= Graph::MOST_OF_ANY);
-    let none = [0; ALL_WORDS];
     let mut from = 0;
-    while let Some(other) = graph.next_outside(place, &none, from) {
+    while let Some(other) = graph.next_within(place, left, from) {
+        above.push(keys[other])?;
         from = other + 1;
-        if keys[place] < keys[other] {
-            above.push(keys[other])?;
-        }
     }
     Ok(())
 }

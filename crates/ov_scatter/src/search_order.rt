@@ -24,9 +24,9 @@ struct Search {
 /// As many steps as a search takes at most: one to each place of a graph, and one back.
 const MOST_STEPS: usize = 2 * Graph::MOST_OF_ANY;
 
-/// For each place of a graph when a search comes to it, counted from 0. The search begins at the first place, and, where
-/// no way leads to a place, at this place again. So places that it comes to one after another are mostly linked.
-/// OutOfMemory (99) if an allocation is refused.
+/// For each place of a graph when a search comes to it, counted from 0. The search begins at the first place, and again
+/// at each place to which no way leads. Places that it comes to one after another are mostly linked. OutOfMemory (99)
+/// if an allocation is refused.
 pub(crate) fn search_turns(alloc: Global, graph: &Graph) -> Result<Vec<u32>, OutOfMemory>
     ensures { IfOk result (λ turns. length turns.items ≡ length graph.now.nodes) }
 {

@@ -1,10 +1,11 @@
 -- The ids of a copy: keys of the places of nodes. Places count the nodes of a graph from 0, in the order of ids. Places
 -- stand in another order too, and the rank of a place, counted from 0, is where it stands in that.
-use Rattle.std.specs.Prelude.{◌≡◌, ◌↔◌, ◌<◌, ◌*◌, ◌%◌, ℕ, List, length, map, slice_index, slice_index_or}
+use Rattle.std.specs.Prelude.{◌≡◌, ◌↔◌, ◌<◌, ◌≤◌, ◌*◌, ◌%◌, ℕ, List, length, map, slice_index, slice_index_or}
 use Rattle.ov_ids.specs.Members.{Has, Ascends, Ordered}
 use Rattle.ov_ids.specs.Sets.{count_below}
 use Rattle.ov_graph.specs.Links.{LinkGraph, Precedes}
 use Rattle.ov_graph.specs.Neighbours.{AreLinkedAt}
+use Rattle.ov_graph.specs.Row.{HasBit}
 
 -- the key of a rank: it goes on by 20,251 with each rank, modulo 32,768
 unfoldable pub key_of : ℕ → ℕ
@@ -33,6 +34,10 @@ HasKeyOfRank order keys p =
 pub record AreKeysOf (order : List (ℕ × ℕ)) (keys : List ℕ) : Type 0 where
   pub count : length keys ≡ length order
   pub each : (p : ℕ) → p < length order → HasKeyOfRank order keys p
+
+-- of the places of the graph, the set has those whose keys are `key` or above
+abbrev pub HasKeysFrom : LinkGraph → List ℕ → ℕ → List ℕ → Type 0
+HasKeysFrom g keys key set = (q : ℕ) → q < length g.nodes → HasBit set q ↔ (key ≤ slice_index keys q)
 
 -- j is the key of place q, and above that of place p, and the nodes at both places are linked
 pub record IsKeyAbove (g : LinkGraph) (keys : List ℕ) (p q j : ℕ) : Type 0 where

@@ -31,8 +31,8 @@ returns-then-ne-clause-none c =
     let count = c.requires.keys.count in
     let at = (ranked order keys c.args.key c.requires.few c.requires.keys h).1 in
     let same : c.index-keys-place.result ≡ c.args.key =
-    c.index-keys-place.is ∙ any_default keys (place_at order rank) c.index-keys-place.result 0 (omega (arith, low, count))
-    ∙ at in
+    c.index-keys-place.is
+    ∙ any_default keys (place_at order rank) c.index-keys-place.result 0 (omega (arith, low, count)) ∙ at in
     let differ : ¬ (c.index-keys-place.result ≡ c.args.key) = search rules in absurd (differ same)
 
 pub returns-clause-some : goal.returns-clause-some
@@ -46,4 +46,5 @@ returns-clause-some c =
     let count = c.requires.keys.count in
     let within : place_at order rank < length keys = omega (arith, low, count) in
     let same : c.index-keys-place.result ≡ c.args.key = search rules in
-    (within, any_default keys (place_at order rank) 0 c.index-keys-place.result within ∙ sym c.index-keys-place.is ∙ same)
+    let here = any_default keys (place_at order rank) 0 c.index-keys-place.result within in
+    (within, here ∙ sym c.index-keys-place.is ∙ same)
