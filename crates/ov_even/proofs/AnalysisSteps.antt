@@ -2,6 +2,7 @@
 pub mod FirstCut
 pub mod Slotted
 pub mod Trials
+pub mod FirstMembers
 pub mod Failing
 pub mod Bounding
 pub mod Narrowing

@@ -66,13 +66,8 @@ Suffice g q hauls = SufficeKeeping EachPiece g q hauls
 abbrev pub SufficeForOutline : LinkGraph → List ℕ → List Haul → Type 0
 SufficeForOutline g q hauls = (keeping : Keeping) × SufficeKeeping keeping g q hauls
 
--- how the settling of a group ends: the members are a group, and the hauls suffice; or with the first applicable
--- refusal, out of memory if none applies
-pub record IsSettledKeeping (keeping : Keeping) (g : LinkGraph) (q : List ℕ)
-    (result : Result (Vec Haul Global) AnalyseFault) : Type 0 where
-  pub enough : IfOk result (λ hauls. IsGroup g q × SufficeKeeping keeping g q hauls.items)
+-- how the settling of a group ends: the members are a group, and the hauls suffice for a certificate; or with the first
+-- applicable refusal, out of memory if none applies
+pub record IsSettledGroup (g : LinkGraph) (q : List ℕ) (result : Result (Vec Haul Global) AnalyseFault) : Type 0 where
+  pub enough : IfOk result (λ hauls. IsGroup g q × Suffice g q hauls.items)
   pub refused : IfErr result (IsRefusedBy OutOfMemory (GroupJudged g q))
-
--- how the settling of a group ends whose hauls are for a certificate
-abbrev pub IsSettledGroup : LinkGraph → List ℕ → Result (Vec Haul Global) AnalyseFault → Type 0
-IsSettledGroup g q result = IsSettledKeeping EachPiece g q result

@@ -1,8 +1,8 @@
 -- The levels of pieces: when a level is good and when it was tried, the state of the search for the level of the
 -- deciding piece, and the numbers of the pieces of a level.
-use Rattle.std.specs.Prelude.{◌≡◌, ◌↔◌, ◌⊎◌, ℕ, ◌+◌, ◌<◌, ◌≤◌, List}
+use Rattle.std.specs.Prelude.{◌≡◌, ◌↔◌, ◌⊎◌, ℕ, ◌+◌, ◌<◌, ◌≤◌, List, [], length}
 use Rattle.ov_graph.specs.Links.{LinkGraph}
-use Rattle.ov_fans.specs.Pieces.{IsPiece, IsGood, level_of}
+use Rattle.ov_fans.specs.Pieces.{IsPiece, IsPieceOf, IsGood, level_of}
 use Rattle.ov_fans.specs.Theorems.{IsNoCut}
 use Rattle.ov_fans.specs.declared.piece.Piece.{Piece}
 use Rattle.ov_fans.specs.declared.piece_result.Settled.{Settled}
@@ -46,7 +46,14 @@ pub record KeepingSearch : Type 0 where
   pub search : SearchState
   pub keeping : Keeping
 
--- the pieces of a level have the numbers from `first` on, `size` of them
-pub record AreNumbersOf (n m level first size : ℕ) : Type 0 where
-  pub each : (x : ℕ) (r : Piece) → IsNumbered n m x r → (level_of r ≡ level) ↔ ((first ≤ x) × (x < first + size))
+-- the pieces of a level for the first members, `done` of them, are done with, whatever hauls there are
+pub record AreFirstDone (keeping : Keeping) (g : LinkGraph) (q : List ℕ) (level done : ℕ) : Type 0 where
+  pub few : done ≤ length q
+  pub each : (r : Piece) → IsPieceOf (length g.nodes) done r → level_of r ≡ level → IsDone keeping g q [] r
+
+-- the pieces of a level, but those for the first members, `done` of them, have the numbers from `first` on, `size` of
+-- them
+pub record AreNumbersBehind (n m done level first size : ℕ) : Type 0 where
+  pub each : (x : ℕ) (r : Piece) → IsNumbered n m x r
+      → ((level_of r ≡ level) × ¬ IsPieceOf n done r) ↔ ((first ≤ x) × (x < first + size))
   pub fits : (total : ℕ) → AreSoMany n m total → first + size ≤ total

@@ -3,8 +3,8 @@ ghost use Rattle.std.specs.Prelude.{◌≡◌, None, Some, IfOk, IfErr};
 ghost use Rattle.ov_graph.specs.Links.{IsGroup};
 ghost use Rattle.ov_even.specs.Answer.{IsAnalysed};
 ghost use Rattle.ov_even.specs.Faults.{GroupJudged};
-ghost use Rattle.ov_even.specs.Hauls.{IsSettledGroup, IsSettledKeeping, SufficeKeeping};
-ghost use Rattle.ov_even.specs.Outlines.{IsOutlined, IsOutline};
+ghost use Rattle.ov_even.specs.Hauls.{IsSettledGroup, Suffice};
+ghost use Rattle.ov_even.specs.Outlines.{IsOutline};
 
 use crate::assembly::assemble_group;
 use crate::fault::AnalyseFault;
@@ -50,22 +50,6 @@ pub fn analyse_group_watched<W: Watcher>(
     assemble_group(alloc, graph, group, &hauls)
 }
 
-/// Finds the fewest node crashes that split a group, and the cut that `analyse_group_watched` finds (Even, SIAM J.
-/// Comput. 4, 1975), but keeps no paths. The watcher sees each piece before it is examined. Faults, in this order:
-/// NoNodes (30), the graph has no node; BadGroup (34), the members are no group. OutOfMemory (99) is returned only if
-/// neither applies.
-pub fn outline_group_watched<W: Watcher>(
-    alloc: Global,
-    graph: &Graph,
-    group: &[NodeId],
-    watcher: &mut W,
-) -> Result<Cert, AnalyseFault>
-    ensures outlined { IsOutlined graph.now group.now result }
-{
-    let hauls = settle_group(alloc, graph, group, Keeping::CutsAlone, watcher)?;
-    Ok(outline_of_hauls(alloc, graph, group, &hauls)?)
-}
-
 /// The outline that this search leads to, by one worker. The watcher sees each piece before it is examined. Faults: out
 /// of memory (99).
 pub fn outline_of_search<'a, W: Watcher>(
@@ -95,21 +79,8 @@ pub fn settle_group_watched<W: Watcher>(
 ) -> Result<Vec<Haul>, AnalyseFault>
     ensures settled { IsSettledGroup graph.now group.now result }
 {
-    settle_group(alloc, graph, group, Keeping::EachPiece, watcher)
-}
-
-/// Settles pieces of Even's test until what is kept of them suffices. Faults as in `settle_group_watched`.
-fn settle_group<W: Watcher>(
-    alloc: Global,
-    graph: &Graph,
-    group: &[NodeId],
-    keeping: Keeping,
-    watcher: &mut W,
-) -> Result<Vec<Haul>, AnalyseFault>
-    ensures settled { IsSettledKeeping keeping graph.now group.now result }
-{
     judge_group(graph, group)?;
-    Ok(enough(alloc, graph, group, keeping, watcher)?)
+    Ok(enough(alloc, graph, group, watcher)?)
 }
 
 /// Whether the group can be analysed. Faults, in this order: NoNodes (30), the graph has no node; BadGroup (34), the
@@ -132,15 +103,14 @@ fn enough<W: Watcher>(
     alloc: Global,
     graph: &Graph,
     group: &[NodeId],
-    keeping: Keeping,
     watcher: &mut W,
 ) -> Result<Vec<Haul>, OutOfMemory>
     requires { IsGroup graph.now group.now }
-    ensures { IfOk result (λ hauls. SufficeKeeping keeping graph.now group.now hauls.items) }
+    ensures { IfOk result (λ hauls. Suffice graph.now group.now hauls.items) }
 {
     if are_all_linked(graph, group) {
         return Ok(Vec::new(alloc));
     }
-    let begun = LevelSearch::new(alloc, graph, group, keeping);
+    let begun = LevelSearch::new(alloc, graph, group, Keeping::EachPiece);
     search(alloc, graph, group, begun, watcher)
 }

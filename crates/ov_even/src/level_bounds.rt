@@ -2,9 +2,8 @@
 //! Levels are about doubled first, and then those between the two are halved.
 ghost use Rattle.std.specs.Prelude.{◌≡◌, ◌≢◌, ◌↔◌, ◌<◌, ◌≤◌, ◌+◌, length, IsTrue};
 ghost use Rattle.ov_graph.specs.Links.{IsGraph, IsGroup, IsWithinLimit, AreAllLinked, most_of_any_graph};
-ghost use Rattle.ov_graph.specs.Joined.{NoFewerSplit};
 ghost use Rattle.ov_even.specs.Levels.{IsLevelGood};
-ghost use Rattle.ov_even.specs.Searching.{AreFewTries, SearchGoesOn};
+ghost use Rattle.ov_even.specs.Searching.{AreFewTries, HasNumber, SearchGoesOn, last_search};
 ghost use Rattle.ov_even.specs.Code.Narrowing.{HasDeciding, AreBounds, IsNext, SplitsWith, tries_left};
 
 use crate::failing_level_by_degree::failing_level;
@@ -65,15 +64,10 @@ impl<'a> LevelBounds<'a> {
     /// The bounds of a group that `fewest` nodes split, and fewer do not: level `fewest` is good, the one above it is
     /// not.
     pub(crate) fn known(graph: &'a Graph, group: &'a [NodeId], fewest: usize) -> LevelBounds<'a>
-        requires group { IsGroup graph.now group.now }
-        requires holds { NoFewerSplit graph.now group.now fewest }
-        requires splits { ¬ NoFewerSplit graph.now group.now (fewest + 1) }
-        ensures graph { result.search.graph ≡ graph.now }
-        ensures members { result.search.members ≡ group.now }
+        requires number { HasNumber graph.now group.now fewest }
+        ensures search { result.search ≡ last_search graph.now group.now fewest }
         ensures low { result.low ≡ fewest }
         ensures good { IsLevelGood graph.now group.now fewest }
-        ensures level { result.search.level ≡ fewest + 1 }
-        ensures left { result.search.left ≡ 1 }
     {
         prove!(graph.nodes().len() <= Graph::MOST_OF_ANY);
         LevelBounds::between(graph, group, fewest, fewest + 1, false)

@@ -1,11 +1,11 @@
 //! The pieces of one level: in their order, their number, and the place of each.
-ghost use Rattle.std.specs.Prelude.{◌≡◌, ◌<◌, ◌≤◌, ℕ, length, slice_get, Some};
+ghost use Rattle.std.specs.Prelude.{◌≡◌, ◌<◌, ◌≤◌, ◌+◌, ◌++◌, ℕ, length, slice_get, Some};
 ghost use Rattle.std.specs.Iterator.{YieldsFirst, item_count};
 ghost use Rattle.ov_ids.specs.Limits.{number_limit};
 ghost use Rattle.ov_graph.specs.Links.{most_of_any_graph};
 ghost use Rattle.ov_fans.specs.Pieces.{level_of};
 ghost use Rattle.ov_fans.specs.Pieces.{IsPieceOf};
-ghost use Rattle.ov_even.specs.Code.Levels.{pieces_of_level, pairs_among, place_limit, IsPairPlaced};
+ghost use Rattle.ov_even.specs.Code.Levels.{pieces_of_level, pieces_from, pairs_among, place_limit, IsPairPlaced};
 
 use ov_fans::Piece;
 use std::marker::Model;
@@ -41,11 +41,36 @@ impl LevelPieces {
         requires members { m ≤ most_of_any_graph }
         ensures { result ≡ pieces_of_level m level }
     {
+        LevelPieces::from_column(m, level, 2)
+    }
+
+    /// The pieces of a level for a group of `m` members, behind those for its first members, `done` of them.
+    pub(crate) fn behind(m: usize, level: usize, done: usize) -> LevelPieces
+        requires low { 1 ≤ level }
+        requires high { level < most_of_any_graph }
+        requires members { m ≤ most_of_any_graph }
+        requires done { done ≤ m }
+        ensures { pieces_of_level m level ≡ pieces_of_level done level ++ result }
+    {
+        if done == 0 {
+            return LevelPieces::new(m, level);
+        }
+        LevelPieces::from_column(m, level, done + 1)
+    }
+
+    /// The pieces of a level from those on whose last member is at this place, counted from 1.
+    fn from_column(m: usize, level: usize, column: usize) -> LevelPieces
+        requires high { level < most_of_any_graph }
+        requires members { m ≤ most_of_any_graph }
+        requires some { 2 ≤ column }
+        requires column { column ≤ m + 2 }
+        ensures { result ≡ pieces_from m level column 1 }
+    {
         LevelPieces {
             members: m as u16,
             level: level as u16,
             i: 1,
-            j: 2,
+            j: column as u16,
         }
     }
 }

@@ -1,11 +1,11 @@
 //! The search for the level of the deciding piece, with what is kept of that level and the one below it: a certificate
 //! needs no more. Other levels are tried only to find it.
-ghost use Rattle.std.specs.Prelude.{◌≡◌, ◌<◌, ◌≤◌, ◌+◌, ◌++◌, length, IfOk, IfSome, IfNone};
+ghost use Rattle.std.specs.Prelude.{◌≡◌, ◌<◌, ◌≤◌, ◌+◌, ◌++◌, length, take, IfOk, IfSome, IfNone};
 ghost use Rattle.ov_graph.specs.Links.{IsGraph, IsWithinLimit, IsGroup, AreAllLinked};
 ghost use Rattle.ov_graph.specs.Joined.{NoFewerSplit};
 ghost use Rattle.ov_even.specs.Hauls.{AreRight, SufficeKeeping};
-ghost use Rattle.ov_even.specs.Levels.{IsTried};
-ghost use Rattle.ov_even.specs.Searching.{AreFewTries, IsSearched};
+ghost use Rattle.ov_even.specs.Levels.{AreFirstDone, IsTried};
+ghost use Rattle.ov_even.specs.Searching.{AreFewTries, HasNumber, IsSearched, last_search};
 ghost use Rattle.ov_even.specs.Code.Narrowing.{HasCutWithin, HasCutOf};
 ghost use Rattle.ov_even.specs.declared.worker_haul.Keeping.TheVariants.{CutsAlone};
 
@@ -29,17 +29,20 @@ pub struct LevelSearch<'a> {
     keeping: Keeping,
     /// The hauls of the good level `low` of the bounds.
     kept: Vec<Haul>,
+    /// Of the level to try next the pieces for the first so many members are done with.
+    done: usize,
 }
 
 impl<'a> Model for LevelSearch<'a> {
-    ghost use Rattle.ov_even.specs.Levels.{KeepingSearch};
+    ghost use Rattle.ov_even.specs.Levels.{KeepingSearch, AreFirstDone};
     ghost use Rattle.ov_even.specs.Code.Narrowing.{AreKept};
 
     ghost Value = { KeepingSearch };
 
     ghost view = { λ s. record { search = s.bounds.search; keeping = s.keeping } };
 
-    ghost invariant = { λ s. AreKept s.keeping s.bounds s.kept.items };
+    ghost invariant = { λ s. AreKept s.keeping s.bounds s.kept.items
+        × AreFirstDone s.keeping s.bounds.search.graph s.bounds.search.members s.bounds.search.level s.done };
 }
 
 /// The search after a level was tried.
@@ -71,30 +74,33 @@ impl<'a> LevelSearch<'a> {
             bounds: LevelBounds::new(graph, group),
             keeping,
             kept: Vec::new(alloc),
+            done: 0,
         }
     }
 
-    /// Begins a search for a group that `fewest` nodes split, and fewer do not. It tries one level, the one above
-    /// `fewest`, and its hauls keep cuts alone: those of lower levels would be needed for paths.
+    /// Begins a search for a group that `fewest` nodes split, and fewer do not. No `fewest` nodes split its first
+    /// members, `unsplit` of them; that may be 0. The search tries one level, the one above `fewest`, and of that the
+    /// pieces behind those for the first members. Its hauls keep cuts alone: those of lower levels would be needed for
+    /// paths.
     pub fn known(
         alloc: Global,
         graph: &'a Graph,
         group: &'a [NodeId],
         fewest: usize,
+        unsplit: usize,
     ) -> LevelSearch<'a>
-        requires group { IsGroup graph.now group.now }
-        requires holds { NoFewerSplit graph.now group.now fewest }
-        requires splits { ¬ NoFewerSplit graph.now group.now (fewest + 1) }
-        ensures graph { result.search.graph ≡ graph.now }
-        ensures members { result.search.members ≡ group.now }
+        requires number { HasNumber graph.now group.now fewest }
+        requires within { unsplit ≤ length group.now }
+        requires unsplit { NoFewerSplit graph.now (take unsplit group.now) (fewest + 1) }
+        ensures search { result.search ≡ last_search graph.now group.now fewest }
         ensures keeping { result.keeping ≡ CutsAlone }
-        ensures level { result.search.level ≡ fewest + 1 }
-        ensures left { result.search.left ≡ 1 }
     {
+        prove!(graph.nodes().len() <= Graph::MOST_OF_ANY);
         LevelSearch {
             bounds: LevelBounds::known(graph, group, fewest),
             keeping: Keeping::CutsAlone,
             kept: Vec::new(alloc),
+            done: unsplit,
         }
     }
 
@@ -109,6 +115,14 @@ impl<'a> LevelSearch<'a> {
         ensures group { IsGroup self.now.search.graph self.now.search.members }
     {
         self.bounds.level()
+    }
+
+    /// How many of the first members have no piece left to settle at the level to try next.
+    pub fn done(&self) -> usize
+        ensures { AreFirstDone self.now.keeping self.now.search.graph self.now.search.members self.now.search.level
+            result }
+    {
+        self.done
     }
 
     /// What the hauls keep.
@@ -129,18 +143,21 @@ impl<'a> LevelSearch<'a> {
             bounds,
             keeping,
             kept,
+            ..
         } = self;
         match cut_within(&hauls, bounds.level()) {
             None => Ok(Searched::Again(LevelSearch {
                 bounds: bounds.raised(),
                 keeping,
                 kept: hauls,
+                done: 0,
             })),
             Some(_) if bounds.is_just_above_low() => Ok(Searched::Enough(joined(kept, hauls)?)),
             Some(size) => Ok(Searched::Again(LevelSearch {
                 bounds: bounds.lowered(size),
                 keeping,
                 kept,
+                done: 0,
             })),
         }
     }
@@ -164,7 +181,15 @@ pub(crate) fn search<'a, W: Watcher>(
     let mut levels = begun;
     loop {
         let level = levels.level();
-        let haul = try_level(alloc, &mut settler, group.len(), level, keeping, watcher)?;
+        let haul = try_level(
+            alloc,
+            &mut settler,
+            group.len(),
+            level,
+            levels.done(),
+            keeping,
+            watcher,
+        )?;
         match levels.take(vec![in alloc; haul]?)? {
             Searched::Enough(hauls) => return Ok(hauls),
             Searched::Again(next) => levels = next,

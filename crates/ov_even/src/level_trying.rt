@@ -3,7 +3,7 @@ ghost use Rattle.std.specs.Prelude.{◌≡◌, ◌↔◌, ◌<◌, ◌≤◌, []
 ghost use Rattle.ov_graph.specs.Links.{IsGraph, most_of_any_graph};
 ghost use Rattle.ov_fans.specs.declared.piece_result.Found.TheVariants.{Linked as linked_found};
 ghost use Rattle.ov_even.specs.Hauls.{AreRight};
-ghost use Rattle.ov_even.specs.Levels.{IsTried};
+ghost use Rattle.ov_even.specs.Levels.{AreFirstDone, IsTried};
 
 use crate::level_pieces::{LevelPieces, level_size, place_in_level};
 use crate::progress_watcher::Watcher;
@@ -12,13 +12,14 @@ use ov_fans::{Found, Settled, Settler};
 use ov_ids::OutOfMemory;
 use std::alloc::Global;
 
-/// Tries a level, for a group of `members` members. The haul has what is kept of the pieces that were settled, but no
-/// linked pairs. Faults: out of memory.
+/// Tries a level, for a group of `members` members. The pieces of the first of them, `done` members, are done with. The
+/// haul has what is kept of the pieces that were settled, but no linked pairs. Faults: out of memory.
 pub(crate) fn try_level<W: Watcher>(
     alloc: Global,
     settler: &mut Settler<'_>,
     members: usize,
     level: usize,
+    done: usize,
     keeping: Keeping,
     watcher: &mut W,
 ) -> Result<Haul, OutOfMemory>
@@ -28,13 +29,14 @@ pub(crate) fn try_level<W: Watcher>(
     requires below { level < length settler.old.graph.nodes }
     requires high { level < most_of_any_graph }
     requires graph { IsGraph settler.old.graph }
+    requires done { AreFirstDone keeping settler.old.graph settler.old.members level done }
     ensures right { IfOk result (λ haul. AreRight settler.old.graph settler.old.members (haul ∷ [])) }
     ensures tried { IfOk result (λ haul. IsTried keeping settler.old.graph settler.old.members (haul ∷ []) level) }
     ensures stays { settler.new ≡ settler.old }
 {
     let size = level_size(members, level);
     let mut pieces = Vec::new(alloc);
-    for piece in LevelPieces::new(members, level) {
+    for piece in LevelPieces::behind(members, level, done) {
         watcher.sees(level, place_in_level(members, piece), size);
         let kept = settle_keeping(settler, piece, keeping)?;
         let Some(settled) = kept else {

@@ -26,8 +26,8 @@ mod sound_desk_theorems;
 mod worker_haul;
 
 pub use analysis::{
-    analyse_alone, analyse_group_alone, analyse_group_watched, judge_group, outline_group_watched,
-    outline_of_search, settle_group_watched,
+    analyse_alone, analyse_group_alone, analyse_group_watched, judge_group, outline_of_search,
+    settle_group_watched,
 };
 pub use assembly::{assemble, assemble_group, assemble_named};
 pub use even_test_theorems::{

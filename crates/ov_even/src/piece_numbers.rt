@@ -4,7 +4,7 @@ ghost use Rattle.ov_board.specs.Limits.{piece_limit};
 ghost use Rattle.ov_graph.specs.Links.{most_of_any_graph};
 ghost use Rattle.ov_even.specs.Order.{IsNumbered, AreSoMany};
 ghost use Rattle.ov_even.specs.Order.{AreMoreThan};
-ghost use Rattle.ov_even.specs.Levels.{AreNumbersOf};
+ghost use Rattle.ov_even.specs.Levels.{AreNumbersBehind};
 
 use crate::level_pieces::{level_size, pair_count, piece_in_level};
 use ov_fans::Piece;
@@ -59,29 +59,36 @@ pub fn piece_at(nodes: usize, number: u64) -> Piece
     group_piece_at(nodes, nodes, number)
 }
 
-/// The numbers of the pieces of a level: `size` of them, from `first` on.
+/// The numbers of pieces of a level: `size` of them, from `first` on. They are the last ones of the level, and `before`
+/// others come before them.
 #[derive(Clone, Copy, Debug, PartialEq, Eq)]
 pub struct LevelNumbers {
     pub first: u64,
     pub size: u64,
+    pub before: u64,
 }
 
-/// The numbers of the pieces of a level, for a graph of `nodes` nodes and a group of `members` members.
-pub fn level_numbers(nodes: usize, members: usize, level: usize) -> LevelNumbers
+/// The numbers of the pieces of a level behind those for the first members, `done` of them, for a graph of `nodes`
+/// nodes and a group of `members` members.
+pub fn level_numbers(nodes: usize, members: usize, level: usize, done: usize) -> LevelNumbers
     requires low { 1 ≤ level }
     requires high { level < nodes }
     requires members { members ≤ nodes }
+    requires done { done ≤ members }
     requires nodes { nodes ≤ most_of_any_graph }
-    ensures numbers { AreNumbersOf nodes members level result.first result.size }
+    ensures numbers { AreNumbersBehind nodes members done level result.first result.size }
     ensures small { result.first + result.size < piece_limit }
+    ensures before { result.before ≤ result.first }
 {
     let size = level_size(members, level);
     let mut first = 0;
     for lower in 1..level {
         first += level_size(members, lower);
     }
+    let before = level_size(done, level);
     LevelNumbers {
-        first: first as u64,
-        size: size as u64,
+        first: (first + before) as u64,
+        size: (size - before) as u64,
+        before: before as u64,
     }
 }

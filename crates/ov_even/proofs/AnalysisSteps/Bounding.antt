@@ -1,13 +1,20 @@
 -- The bounds of a search after each try of a level.
-use Rattle.std.proofs.Common.{◌≡◌, inl, inr, ℕ, ◌≤◌, ◌+◌, ◌-◌, List, length, subst, arith}
+use Rattle.std.proofs.Common.{◌≡◌, ◌∙◌, inl, inr, ℕ, ◌≤◌, ◌+◌, ◌-◌, List, [], length, take, refl, sym, subst, arith}
 use Rattle.std.proofs.lemmas.Bool.{cases_lt}
 use Rattle.ov_graph.specs.Links.{LinkGraph, IsGraph, IsWithinLimit, IsGroup}
 use Rattle.ov_graph.specs.Joined.{NoFewerSplit}
 use Rattle.ov_graph.specs.Even.{PassesEven}
 use Rattle.ov_graph.proofs.EvenTest.Sufficing.{even_suffices, linked_joined}
-use Rattle.ov_even.specs.Levels.{IsLevelGood}
-use Rattle.ov_even.specs.Code.Narrowing.{HasDeciding, AreBounds, SplitsWith}
+use Rattle.ov_fans.specs.Pieces.{IsPiece, IsGood, level_of}
+use Rattle.ov_fans.specs.declared.piece.Piece.{Piece}
+use Rattle.ov_even.specs.Hauls.{IsInHauls}
+use Rattle.ov_even.specs.Levels.{IsLevelGood, AreFirstDone, SearchState}
+use Rattle.ov_even.specs.Searching.{last_search}
+use Rattle.ov_even.specs.Code.Narrowing.{HasDeciding, AreBounds, BoundsState, AreKept, SplitsWith}
+use Rattle.ov_even.specs.declared.worker_haul.Haul.{Haul}
+use Rattle.ov_even.specs.declared.worker_haul.Keeping.TheVariants.{CutsAlone}
 use Rattle.ov_even.proofs.AnalysisSteps.Failing.{split_fails}
+use Rattle.ov_even.proofs.AnalysisSteps.FirstMembers.{unsplit_first}
 use Rattle.ov_even.proofs.AnalysisSteps.Narrowing.{two_nodes}
 use Rattle.ov_even.proofs.EvenTest.Complete.{none_split}
 use Rattle.ov_even.proofs.EvenTest.Passing.{good_passes, split_has, whole_good}
@@ -80,3 +87,26 @@ known_deciding g q k graph within group split = record {
   group = group;
   apart = λ all. split (λ s few a b ma mb. linked_joined g q group.nodes all s a b ma mb);
 }
+
+-- the search of the one level above a known number
+pub known_search : (s : SearchState) (g : LinkGraph) (q : List ℕ) (fewest : ℕ) → s.graph ≡ g → s.members ≡ q
+    → s.level ≡ fewest + 1 → s.left ≡ 1 → s ≡ last_search g q fewest
+known_search s g q fewest a b c d = rw (← a, ← b, ← c, ← d) refl
+
+-- where a number is known, no haul is kept of the level below
+pub known_kept : (bounds : BoundsState) (kept : List Haul) (g : LinkGraph) (q : List ℕ) (fewest : ℕ)
+    → bounds.search ≡ last_search g q fewest → bounds.low ≡ fewest → kept ≡ [] → IsLevelGood g q fewest
+    → AreKept CutsAlone bounds kept
+known_kept bounds kept g q fewest is low none good = record {
+  right = λ s h. absurd (let k = subst (λ (l : List Haul). IsInHauls l s) none h in k.1);
+  done = subst (λ (s : SearchState). (r : Piece) → IsPiece s.graph s.members r → level_of r ≡ bounds.low
+      → IsGood s.graph s.members r) (sym is) (λ r at e. good r at (e ∙ low));
+}
+
+-- and the pieces for first members that no so few nodes split are done with
+pub known_first : (s : SearchState) (g : LinkGraph) (q : List ℕ) (fewest unsplit : ℕ) → s ≡ last_search g q fewest
+    → IsGraph g → IsGroup g q → unsplit ≤ length q → NoFewerSplit g (take unsplit q) (fewest + 1)
+    → AreFirstDone CutsAlone s.graph s.members s.level unsplit
+known_first s g q fewest unsplit is graph group few whole =
+    subst (λ (t : SearchState). AreFirstDone CutsAlone t.graph t.members t.level unsplit) (sym is)
+    (unsplit_first g q (fewest + 1) unsplit graph group few whole)

@@ -2,14 +2,16 @@
 use Rattle.std.proofs.Common.{◌≡◌, ℕ, ◌+◌, ◌-◌, ◌<◌, ◌≤◌, ◌⊎◌, inl, inr, List, length, subst, arith}
 use Rattle.std.proofs.lemmas.Bool.{cases_lt}
 use Rattle.ov_graph.specs.Links.{LinkGraph}
+use Rattle.ov_fans.specs.Pieces.{IsPiece, level_of}
 use Rattle.ov_fans.specs.Theorems.{IsNoCut}
 use Rattle.ov_fans.specs.declared.piece.Piece.{Piece}
 use Rattle.ov_fans.specs.declared.piece_result.Settled.{Settled}
 use Rattle.ov_even.specs.Order.{IsNumbered}
 use Rattle.ov_even.specs.Hauls.{IsInHauls, IsDone}
-use Rattle.ov_even.specs.Levels.{IsTried, AreNumbersOf}
+use Rattle.ov_even.specs.Levels.{IsTried, AreFirstDone, AreNumbersBehind}
 use Rattle.ov_even.specs.declared.worker_haul.Haul.{Haul}
 use Rattle.ov_even.specs.declared.worker_haul.Keeping.{Keeping}
+use Rattle.ov_even.proofs.AnalysisSteps.FirstMembers.{done_anyway, first_or_not}
 use Rattle.ov_even.proofs.PieceNumbers.Numbering.{every_number, numbers_order}
 
 -- the first pieces of a level are done with, `least` of them
@@ -31,35 +33,46 @@ done_before keeping g q hauls first least y r done numbered from to =
     done (y - first) (omega arith) r
     (subst (λ (z : ℕ). IsNumbered (length g.nodes) (length q) z r) e numbered)
 
--- where the first pieces of a level are done with, and these are all of it or the next one has a cut, the level was
--- tried
+-- where the pieces of a level for the first members are done with, and the first behind them, and these are all of it
+-- or the next one has a cut, the level was tried
 pub tried_by_numbers : (keeping : Keeping) (g : LinkGraph) (q : List ℕ) (hauls : List Haul)
-    (level first size least : ℕ) → AreNumbersOf (length g.nodes) (length q) level first size → least ≤ size
+    (level before first size least : ℕ) → AreFirstDone keeping g q level before
+    → AreNumbersBehind (length g.nodes) (length q) before level first size → least ≤ size
     → AreDoneUpTo keeping g q hauls first least → (least ≡ size) ⊎ IsCutAt g q hauls (first + least)
     → IsTried keeping g q hauls level
-tried_by_numbers keeping g q hauls level first size least numbers few done last =
+tried_by_numbers keeping g q hauls level before first size least known numbers few done last =
     let n = length g.nodes in
     let m = length q in
-    elim (cases_lt least size) [
-      | inr all ↦ inl (λ r at same.
+    let either : (r : Piece) → IsPiece g q r → level_of r ≡ level
+    → IsDone keeping g q hauls r ⊎ ((y : ℕ) × IsNumbered n m y r × (first ≤ y) × (y < first + size)) = λ r at same.
+    elim (first_or_not n m before r at) [
+      | inl own ↦ inl (done_anyway keeping g q hauls r (known.each r own same))
+      | inr later ↦
           let numbered = every_number n m r at in
-          let h = (numbers.each numbered.0 r numbered.1).0 same in
-          let from = h.0 in
-          let to = h.1 in
-          done_before keeping g q hauls first least numbered.0 r done numbered.1 from (omega (arith, all, to)))
+          let h = (numbers.each numbered.0 r numbered.1).0 (same, later) in
+          inr (numbered.0, numbered.1, h.0, h.1)
+    ] in
+    elim (cases_lt least size) [
+      | inr all ↦ inl (λ r at same. elim (either r at same) [
+        | inl is ↦ is
+        | inr there ↦
+            let to = there.3 in
+            done_before keeping g q hauls first least there.0 r done there.1 there.2 (omega (arith, all, to))
+      ])
       | inl less ↦ elim last [
         | inl e ↦ absurd (omega (arith, less, e))
         | inr s ↦ inr (
           s.0,
           record {
             there = s.1;
-            of_level = (numbers.each (first + least) s.0.piece s.2).1 (omega arith, omega (arith, less));
+            of_level = let own = (numbers.each (first + least) s.0.piece s.2).1 (omega arith, omega (arith, less)) in
+                own.0;
             cut = s.3;
-            before = λ r at same before.
-                let numbered = every_number n m r at in
-                let h = (numbers.each numbered.0 r numbered.1).0 same in
-                let to = (numbers_order n m numbered.0 (first + least) r s.0.piece numbered.1 s.2).1 before in
-                done_before keeping g q hauls first least numbered.0 r done numbered.1 h.0 to;
+            before = λ r at same earlier. elim (either r at same) [
+              | inl is ↦ is
+              | inr there ↦ done_before keeping g q hauls first least there.0 r done there.1 there.2
+                  ((numbers_order n m there.0 (first + least) r s.0.piece there.1 s.2).1 earlier)
+            ];
           },
         )
       ]

@@ -155,13 +155,25 @@ pub record IsUnderWay (keeping : Keeping) (g : LinkGraph) (q : List ℕ) (level 
   pub done : AreDone keeping g q pieces seen
 
 pub begun : (keeping : Keeping) (g : LinkGraph) (q : List ℕ) (level : ℕ) (pieces : List Settled)
-    (coming : List Piece) → pieces ≡ [] → coming ≡ pieces_of_level (length q) level
-    → IsUnderWay keeping g q level pieces [] coming
-begun keeping g q level pieces coming none all = record {
-  listed = sym all;
+    (seen coming : List Piece) → pieces ≡ [] → pieces_of_level (length q) level ≡ seen ++ coming
+    → AreDone keeping g q [] seen → IsUnderWay keeping g q level pieces (seen ++ []) coming
+begun keeping g q level pieces seen coming none all done = record {
+  listed = all ∙ ap (λ l. l ++ coming) (sym (append-nil seen));
   right = λ s h. absurd (subst (λ l. Has l s) none h);
-  done = λ r h. absurd h;
+  done = subst (λ l. AreDone keeping g q l (seen ++ [])) (sym none)
+      (subst (AreDone keeping g q []) (sym (append-nil seen)) done);
 }
+
+-- the pieces of a level for the first members, which were done with before, and those that were yielded
+abbrev pub seen_from : ℕ → ℕ → List Piece → List Piece
+seen_from done level yielded = pieces_of_level done level ++ yielded
+
+-- one more piece, of those that come behind others which were done with before
+pub behind : (keeping : Keeping) (g : LinkGraph) (q : List ℕ) (level : ℕ) (pieces : List Settled)
+    (first seen rest : List Piece) (p : Piece) → IsUnderWay keeping g q level pieces ((first ++ seen) ++ p ∷ []) rest
+    → IsUnderWay keeping g q level pieces (first ++ (seen ++ p ∷ [])) rest
+behind keeping g q level pieces first seen rest p way =
+    subst (λ (l : List Piece). IsUnderWay keeping g q level pieces l rest) (append_assoc first seen (p ∷ [])) way
 
 pub next_is : (keeping : Keeping) (g : LinkGraph) (q : List ℕ) (level : ℕ) (pieces : List Settled)
     (seen coming rest : List Piece) (p : Piece) → 1 ≤ level → level < length g.nodes

@@ -1,11 +1,12 @@
 -- The pieces of a level that are still to come, step by step.
-use Rattle.std.proofs.Common.{◌≡◌, ℕ, zero, suc, ◌-◌, ◌<◌, ◌≤◌, inl, inr, List, [], ◌∷◌, ◌++◌, leb}
+use Rattle.std.proofs.Common.{◌≡◌, ℕ, zero, suc, ◌+◌, ◌-◌, ◌<◌, ◌≤◌, inl, inr, List, [], ◌∷◌, ◌++◌, leb}
 use Rattle.std.proofs.Common.{refl, sym, ap, ◌∙◌, arith}
 use Rattle.std.proofs.lemmas.Bool.{le-leb, lt-leb, cond-true, cond-false, cases_lt}
 use Rattle.ov_fans.specs.declared.piece.Piece.{Piece}
 use Rattle.ov_fans.specs.declared.piece.Piece.TheVariants.{Pair, Fan}
 use Rattle.ov_even.specs.Code.Levels.{pairs_from, column_from, columns_behind, pieces_of_level, pieces_from}
 use Rattle.ov_even.proofs.PieceOrder.Columns.{column_of_pairs, column_of_fan}
+use Rattle.ov_even.proofs.PieceNumbers.LevelPlaces.{columns_split}
 
 from_column : (m level j i : ℕ) → j ≤ m
     → pieces_from m level j i ≡ column_from level j i ++ columns_behind level j (m - j)
@@ -28,6 +29,17 @@ columns_next m level j = elim (cases_lt j m) [
       let e : m - j ≡ 0 = omega arith in
       ap (columns_behind level j) e ∙ sym (no_more m level (suc j) 1 (omega arith))
 ]
+
+-- behind the pieces for the first members those of the next column begin
+pub all_behind : (m level done : ℕ) → done ≤ m
+    → pieces_of_level m level ≡ pieces_of_level done level ++ pieces_from m level (suc done) 1
+all_behind m level done few =
+    let e : m ≡ done + (m - done) = omega (arith, few) in
+    let f : 0 + done ≡ done = omega arith in
+    let first = columns_behind level 0 done in
+    ap (columns_behind level 0) e ∙ columns_split level 0 done (m - done)
+    ∙ ap (λ (x : ℕ). first ++ columns_behind level x (m - done)) f
+    ∙ ap (λ (xs : List Piece). first ++ xs) (columns_next m level done)
 
 -- the pieces of a level begin at column 2, since column 1 is empty
 pub all_from_second : (m level : ℕ) → 1 ≤ level → pieces_of_level m level ≡ pieces_from m level 2 1

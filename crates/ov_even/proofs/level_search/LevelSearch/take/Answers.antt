@@ -8,6 +8,7 @@ use Rattle.ov_even.specs.declared.worker_haul.Haul.{Haul}
 use Rattle.ov_even.proofs.AnalysisSteps.Failing.{within_splits}
 use Rattle.ov_even.proofs.AnalysisSteps.Narrowing.{tried_done, tried_good, tried_suffices, cut_within}
 use Rattle.ov_even.proofs.AnalysisSteps.Narrowing.{kept_raised, kept_on}
+use Rattle.ov_even.proofs.AnalysisSteps.FirstMembers.{none_first}
 use Rattle.ov_even.proofs.level_search.LevelSearch.take.Goals as goal
 
 pub raised-requires : goal.raised-requires
@@ -34,8 +35,11 @@ invariant_of-result c =
     (sym c.self.view_is) c.requires.tried in
     let none = subst (λ (n : ℕ). ¬ HasCutWithin hauls n) c.level.ensures.level
     (subst (λ (l : List Haul). ¬ HasCutWithin l c.level.result) c.deref.ensures.value c.in-None.ensures.none) in
-    kept_raised keeping c.self.inside.bounds c.raised.result hauls right
-    (tried_done keeping b.graph b.members hauls b.level tried none) c.raised.ensures.low c.raised.ensures.on
+    let next = c.raised.result in (
+      kept_raised keeping c.self.inside.bounds next hauls right
+          (tried_done keeping b.graph b.members hauls b.level tried none) c.raised.ensures.low c.raised.ensures.on,
+      none_first keeping next.search.graph next.search.members next.search.level,
+    )
 
 pub returns-in-Some : goal.returns-in-Some
 returns-in-Some c =
@@ -52,7 +56,7 @@ returns-in-Some c =
     let of = subst (λ (l : List Haul). HasCutOf l level c.in-Some.field-0) c.deref.ensures.value
     c.in-Some.ensures.some in
     let all = tried_suffices keeping bounds kept hauls level c.level.ensures.graph c.level.ensures.group
-    c.level.ensures.below c.self.invariant right
+    c.level.ensures.below (c.self.invariant.0) right
     (subst (IsTried keeping bounds.search.graph bounds.search.members hauls) (sym same) tried)
     (cut_within hauls level c.in-Some.field-0 of)
     (same ∙ c.is_just_above_low.ensures.lowest.0 c.if-is_just_above_low.true) in
@@ -72,5 +76,10 @@ lowered-requires-clause-split c =
     within_splits b.graph b.members hauls b.level c.in-Some.field-0 c.level.ensures.group right of
 
 pub invariant_of-result-in-Some-2 : goal.invariant_of-result-in-Some-2
-invariant_of-result-in-Some-2 c = kept_on c.self.inside.keeping c.self.inside.bounds c.lowered.result
-    c.self.inside.kept.items c.self.invariant c.lowered.ensures.low c.lowered.ensures.on
+invariant_of-result-in-Some-2 c =
+    let keeping = c.self.inside.keeping in
+    let next = c.lowered.result in (
+      kept_on keeping c.self.inside.bounds next c.self.inside.kept.items (c.self.invariant.0) c.lowered.ensures.low
+          c.lowered.ensures.on,
+      none_first keeping next.search.graph next.search.members next.search.level,
+    )
