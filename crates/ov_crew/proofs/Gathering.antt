@@ -5,7 +5,7 @@ use Rattle.std.proofs.lemmas.Option.{same_Some, slice_get-get_or}
 use Rattle.std.specs.Prelude.{All}
 use Rattle.ov_graph.specs.Links.{LinkGraph}
 use Rattle.ov_board.specs.Board.{BoardState, SeatState, new_seat}
-use Rattle.ov_even.specs.Levels.{AreNumbersOf}
+use Rattle.ov_even.specs.Levels.{AreNumbersBehind}
 use Rattle.ov_even.specs.declared.worker_haul.Haul.{Haul}
 use Rattle.ov_even.specs.declared.worker_haul.Keeping.{Keeping}
 use Rattle.ov_crew.specs.Code.Crews.{IsNewAt, IsRange, Outcome, HasWorked, outcomes, AreHaulsOf}
@@ -68,10 +68,11 @@ all_worked keeping g q first b (s ∷ seats) (h ∷ hauls) e all =
     both P p ps zero d low = p
     both P p ps (suc i) d low = ps i d (omega (arith, low))
 
--- the numbers of a level are a range
-pub range_of : (g : LinkGraph) (q : List ℕ) (level first size : ℕ)
-    → AreNumbersOf (length g.nodes) (length q) level first size → first + size < 2 ^ 62 → IsRange g q first size
-range_of g q level first size numbers small = record {
+-- the numbers of pieces of a level are a range
+pub range_of : (g : LinkGraph) (q : List ℕ) (done level first size : ℕ)
+    → AreNumbersBehind (length g.nodes) (length q) done level first size → first + size < 2 ^ 62
+    → IsRange g q first size
+range_of g q done level first size numbers small = record {
   below = λ x low total many. let fits = numbers.fits total many in omega (arith, low, fits);
   small = small;
 }

@@ -11,7 +11,7 @@ use Rattle.ov_fans.specs.declared.piece_result.Settled.{Settled}
 use Rattle.ov_board.specs.Claims.{WorkerState, DeskState, HasWorker, HasFailed, IsLegal}
 use Rattle.ov_board.specs.Board.{BoardState, SeatState, IsClosed}
 use Rattle.ov_even.specs.Hauls.{SettlesNumber, AreRight, IsDone}
-use Rattle.ov_even.specs.Levels.{AreNumbersOf, IsTried}
+use Rattle.ov_even.specs.Levels.{AreFirstDone, AreNumbersBehind, IsTried}
 use Rattle.ov_even.specs.Order.{IsNumbered}
 use Rattle.ov_even.specs.declared.worker_haul.Haul.{Haul}
 use Rattle.ov_even.specs.declared.worker_haul.Keeping.{Keeping}
@@ -136,11 +136,12 @@ failed_below s x l f =
 
 -- once the board of a level is closed, the level was tried
 pub crew_tried : (keeping : Keeping) (g : LinkGraph) (q : List ℕ) (b : BoardState) (seats : List SeatState)
-    (hauls : List Haul) (level first size least : ℕ) → IsClosed b seats least → b.total ≡ size
-    → AreNumbersOf (length g.nodes) (length q) level first size → AreHaulsOf keeping g q first seats hauls
+    (hauls : List Haul) (level before first size least : ℕ) → IsClosed b seats least → b.total ≡ size
+    → AreFirstDone keeping g q level before → AreNumbersBehind (length g.nodes) (length q) before level first size
+    → AreHaulsOf keeping g q first seats hauls
     → IsTried keeping g q hauls level
-crew_tried keeping g q b seats hauls level first size least k many numbers are =
-    tried_by_numbers keeping g q hauls level first size least numbers few
+crew_tried keeping g q b seats hauls level before first size least k many known numbers are =
+    tried_by_numbers keeping g q hauls level before first size least known numbers few
     (λ x low r numbered. done_below keeping g q first b seats hauls least x r k are low numbered) last
   where
     is : k.s.least ≡ least

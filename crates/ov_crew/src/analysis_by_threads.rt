@@ -3,7 +3,7 @@ ghost use Rattle.std.specs.Prelude.{◌≡◌, ℕ, length, All, IfOk, IfErr, tr
 ghost use Rattle.ov_graph.specs.Links.{IsGroup};
 ghost use Rattle.ov_even.specs.Answer.{IsAnalysed, IsCheckedAnswer};
 ghost use Rattle.ov_even.specs.Hauls.{AreRight, IsSettledGroup, Suffice, SufficeKeeping};
-ghost use Rattle.ov_even.specs.Levels.{AreNumbersOf, IsTried};
+ghost use Rattle.ov_even.specs.Levels.{AreFirstDone, AreNumbersBehind, IsTried};
 ghost use Rattle.ov_even.specs.declared.fault.AnalyseFault.TheVariants.{OutOfMemory as out_of_memory};
 ghost use Rattle.ov_crew.specs.Code.Crews.{IsNewAt, IsRange, HasWorked, outcomes};
 
@@ -206,8 +206,10 @@ pub(crate) fn search<'a, R: Threads + Sync, G: Gate, W: Watcher>(
     let mut levels = begun;
     loop {
         let level = levels.level();
-        let numbers = level_numbers(graph.nodes().len(), group.len(), level);
-        watcher.sees(level, 0, numbers.size as usize);
+        let done = levels.done();
+        let numbers = level_numbers(graph.nodes().len(), group.len(), level, done);
+        let place = numbers.before as usize;
+        watcher.sees(level, place, place + numbers.size as usize);
         let workers = hiring.workers_for(graph, group, level);
         let hauls = try_level(rt, alloc, graph, group, numbers, workers, keeping, gate)?;
         match levels.take(hauls)? {
@@ -231,8 +233,8 @@ fn try_level<R: Threads + Sync, G: Gate>(
     requires group { IsGroup graph.now group.now }
     requires range { IsRange graph.now group.now numbers.first numbers.size }
     ensures right { IfOk result (λ hauls. AreRight graph.now group.now hauls.items) }
-    ensures tried { (level : ℕ)
-        → AreNumbersOf (length graph.now.nodes) (length group.now) level numbers.first numbers.size
+    ensures tried { (level done : ℕ) → AreFirstDone keeping graph.now group.now level done
+        → AreNumbersBehind (length graph.now.nodes) (length group.now) done level numbers.first numbers.size
         → IfOk result (λ hauls. IsTried keeping graph.now group.now hauls.items level) }
 {
     let (board, seats) = Board::new(alloc, numbers.size, workers)?;

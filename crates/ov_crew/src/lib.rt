@@ -3,9 +3,11 @@
 
 mod analysis_by_threads;
 mod ascending_piece_lookup;
+mod group_number_by_copy;
 mod hook_after_claim;
 mod memory_set_aside;
 mod outline_by_threads;
+mod outline_search;
 mod parallel_paths_by_ids;
 mod threads_by_amount_of_work;
 mod worker;

@@ -44,11 +44,11 @@ returns-clause-right g c = crew_right c.args.keeping c.args.graph.now c.args.gro
     c.in_ok-done.ensures.each)).hauls
 
 pub returns-clause-tried : goal.returns-clause-tried
-returns-clause-tried g c level numbers =
+returns-clause-tried g c level before known numbers =
     let all = all_worked c.args.keeping c.args.graph.now c.args.group.now c.args.numbers.first c.in_ok-board.board
     c.in_ok-hauls.seats.items c.in_ok-hauls.hauls.items c.in_ok-hauls.ensures.count
     (subst (λ (os : List Outcome). All (HasWorked c.args.keeping c.args.graph.now c.args.group.now c.args.numbers.first
     c.in_ok-board.board) os) c.in_ok-hauls.ensures.same c.in_ok-done.ensures.each) in
     crew_tried c.args.keeping c.args.graph.now c.args.group.now c.in_ok-board.board c.in_ok-hauls.seats.items
-    c.in_ok-hauls.hauls.items level c.args.numbers.first c.args.numbers.size c.close.result c.close.ensures.closed
-    c.in_ok-board.ensures.total numbers all.hauls
+    c.in_ok-hauls.hauls.items level before c.args.numbers.first c.args.numbers.size c.close.result
+    c.close.ensures.closed c.in_ok-board.ensures.total known numbers all.hauls

@@ -2,7 +2,7 @@
 use Rattle.std.proofs.Common.{List, sym, subst}
 use Rattle.ov_even.specs.Hauls.{SufficeForOutline}
 use Rattle.ov_even.specs.declared.worker_haul.Haul.{Haul}
-use Rattle.ov_crew.proofs.outline_by_threads.outline_of_search.Goals as goal
+use Rattle.ov_crew.proofs.outline_search.outline_of_search.Goals as goal
 
 pub outline_of_hauls-requires-clause-suffice : goal.outline_of_hauls-requires-clause-suffice
 outline_of_hauls-requires-clause-suffice g c =
