@@ -23,12 +23,12 @@ const SHAPES: [(Family, u32, Shape); 3] = [
     ),
     (
         Ring,
-        2_000,
+        1_100,
         Shape {
-            largest: 2_000,
+            largest: 1_100,
             clustering: 0,
-            path: Some(5_002_501),
-            diameter: 1_000,
+            path: Some(2_752_502),
+            diameter: 550,
             degree_25: 2,
             degree_50: 2,
             degree_75: 2,
