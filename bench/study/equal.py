@@ -1,8 +1,8 @@
 #!/usr/bin/env python3
-"""equal.py --overlay PROGRAM --simulate PROGRAM [--further [--costs]] [--count N] [--first SEED] [--jobs J]: grows N
-overlays of up to 250 nodes with options drawn at random, in J processes side by side, by `overlay grow` and `overlay
-sweep` and by the simulation, and compares what they print byte for byte: the scenario, and the row of the sweep. Both
-must refuse the same overlays.
+"""equal.py --overlay PROGRAM --simulate PROGRAM [--further [--costs]] [--most NODES] [--count N] [--first SEED]
+[--jobs J]: grows N overlays of up to 250 nodes, or as many as --most says, with options drawn at random, in J processes
+side by side, by `overlay grow` and `overlay sweep` and by the simulation, and compares what they print byte for byte:
+the scenario, and the row of the sweep. Both must refuse the same overlays.
 
 With --further the further options of docs/GROWING.md are drawn too, and scenarios alone are compared; with --costs also
 the rows of the sweep with what broadcasts cost, and with --sequential the row of each broadcast.
@@ -20,11 +20,11 @@ from compare_further import drawn_further
 MOST_NODES = 250
 
 
-def options_of(seed, further):
-    """Options, drawn at random."""
+def options_of(seed, further, most):
+    """Options, drawn at random, of up to so many nodes."""
     if further:
-        return drawn_further(seed, MOST_NODES)
-    return dataclasses.replace(drawn(seed), nodes=drawn_further(seed, MOST_NODES).nodes)
+        return drawn_further(seed, most)
+    return dataclasses.replace(drawn(seed), nodes=drawn_further(seed, most).nodes)
 
 
 def asked_for(given, options):
@@ -57,9 +57,10 @@ def main():
     parser.add_argument("--simulate", required=True)
     parser.add_argument("--further", action="store_true")
     parser.add_argument("--costs", action="store_true")
+    parser.add_argument("--most", type=int, default=MOST_NODES)
     add_counts(parser)
     given = parser.parse_args()
-    settings = (options_of(seed, given.further) for seed in seeds(given))
+    settings = (options_of(seed, given.further, given.most) for seed in seeds(given))
     return status_of(found_of_all(differences, given, settings))
 
 

@@ -17,7 +17,7 @@ from nodes import GOSSIP, GRAFT, IHAVE, NEVER, PRUNE  # noqa: E402
 from options import SEEDS, add_options, options_of  # noqa: E402
 from pcg import Pcg64  # noqa: E402
 from rows import Cost, Phase, further_header, further_row, header, message_rows, row_of  # noqa: E402
-from world import Refusal, World  # noqa: E402
+from world import PROFILE, SCALES, Refusal, World  # noqa: E402
 
 WORDS = 64
 # Turns between two births, if --pace does not say how many.
@@ -52,7 +52,8 @@ class Growing:
 
     def __init__(self, options):
         self.options, self.choices = options, Choices(options.seed)
-        self.world = World(options.params(), options.refill)
+        self.scale = PROFILE if options.nodes <= SCALES[PROFILE][0] else "large"
+        self.world = World(options.params(), options.refill, self.scale)
         self.words, self.lines, self.printed, self.phases = Pcg64(options.seed), [], [], []
         self.loss, self.are_told, self.deliveries = options.loss_join, False, 0
         # what was counted of each broadcast, by its origin and number there, and how many PRUNE there were
@@ -231,6 +232,8 @@ class Growing:
         ]
         if options.refill != NEVER:
             self.lines.append(f"refill {options.refill}")
+        if self.scale != PROFILE:
+            self.lines.append(f"scale {self.scale}")
         self.join()
         self.crash(self.settle())
         self.heal()

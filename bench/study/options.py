@@ -56,7 +56,7 @@ class Options:
 
 # The least and the largest value of each option that is a number.
 LIMITS = {
-    "nodes": (1, 256),
+    "nodes": (1, 32768),
     "active": (1, LARGEST_ACTIVE),
     "passive": (1, LARGEST_PASSIVE),
     "arwl": (0, LONGEST_WALK),
@@ -73,7 +73,7 @@ LIMITS = {
     "crash": (0, 99),
     "heal": (0, 1000),
     "broadcasts": (0, 1000),
-    "sender": (1, 256),
+    "sender": (1, 32768),
 }
 
 # The words of each option that takes a word.

@@ -1,7 +1,7 @@
 // simulate OPTIONS: grows overlays by docs/GROWING.md, also large ones.
 //
-// What is proved of the tool is not proved of this program: it is plain C++, written from the documents alone. Up to
-// 256 nodes it is held against the tool, step by step (compare.py); beyond that nothing vouches for it but the same
+// What is proved of the tool is not proved of this program: it is plain C++, written from the documents alone. It is
+// held against the tool, byte for byte (equal.py), up to 32,768 nodes; beyond that nothing vouches for it but the same
 // code.
 //
 // build: g++ -std=c++17 -O2 -o simulate simulate.cpp
@@ -413,8 +413,9 @@ void print_grown(const Request& request, const Setting& said, const Options& opt
     if (request.mode != Mode::Scenario) return;
     const Params& p = options.params;
     std::string rule = p.refill == Refill::Never ? "" : "refill " + said.at("refill") + "\n";
-    printf("# %s\nparams %u %u %u %u %u %u %u\nseed %lu\n%s%s", heading(said).c_str(), p.active, p.passive, p.arwl,
-           p.prwl, p.ka, p.kp, p.ttl, options.seed, rule.c_str(), grown.lines.c_str());
+    const char* scale = options.nodes <= PROFILE.most_born ? "" : "scale large\n";
+    printf("# %s\nparams %u %u %u %u %u %u %u\nseed %lu\n%s%s%s", heading(said).c_str(), p.active, p.passive, p.arwl,
+           p.prwl, p.ka, p.kp, p.ttl, options.seed, rule.c_str(), scale, grown.lines.c_str());
 }
 
 void run(const Request& request, Setting said) {

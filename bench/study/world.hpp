@@ -1,5 +1,5 @@
-// A world of nodes, by docs/PROTOCOL.md ("A world"). Its limits hold for up to 256 nodes, as in the tool; a larger
-// world has none.
+// A world of nodes, by docs/PROTOCOL.md ("A world"). Its limits are those of its scale, as in the tool; a world that is
+// too large for both scales has none.
 #pragma once
 #include <stdexcept>
 
@@ -12,13 +12,27 @@ struct Refusal : std::runtime_error {
     explicit Refusal(int number) : std::runtime_error("refused " + std::to_string(number)), number(number) {}
 };
 
-constexpr uint32_t MOST_BORN = 256, MOST_ENTRIES = 65536, MOST_PACKETS = 65536, MOST_SENT = 64;
+constexpr uint32_t MOST_SENT = 64;
+
+/// How many nodes may ever be born in a world, how many entries there may be, and how many packets on their way.
+struct Scale {
+    uint32_t most_born, most_entries, most_packets;
+};
+constexpr Scale PROFILE = {256, 65536, 65536}, LARGE = {32768, 16777216, 1048576};
+constexpr Scale ENDLESS = {UINT32_MAX, UINT32_MAX, UINT32_MAX};
+
+/// The scale of a world in which so many nodes are born.
+constexpr Scale scale_for(uint32_t nodes) {
+    for (Scale scale : {PROFILE, LARGE})
+        if (nodes <= scale.most_born) return scale;
+    return ENDLESS;
+}
 constexpr int TOO_MANY_PACKETS = 15, TOO_MANY_ENTRIES = 16;
 
 class World {
   public:
     World(const Params& params, uint64_t seed, uint32_t most_nodes)
-        : params(params), words(seed), has_limits(most_nodes <= MOST_BORN) {
+        : params(params), words(seed), scale(scale_for(most_nodes)) {
         nodes.reserve(most_nodes);
     }
 
@@ -77,8 +91,8 @@ class World {
   private:
     /// Begins an event: its random words. All of them are drawn, whether they are used or not.
     Pcg64 begin(bool needs_room) {
-        if (has_limits && entries >= MOST_ENTRIES) throw Refusal(TOO_MANY_ENTRIES);
-        if (has_limits && needs_room && MOST_PACKETS - packets.size() < MOST_SENT) throw Refusal(TOO_MANY_PACKETS);
+        if (entries >= scale.most_entries) throw Refusal(TOO_MANY_ENTRIES);
+        if (needs_room && scale.most_packets - packets.size() < MOST_SENT) throw Refusal(TOO_MANY_PACKETS);
         entries++;
         return words.of_next_event();
     }
@@ -97,6 +111,6 @@ class World {
 
     Params params;
     EventWords words;
-    bool has_limits;
+    Scale scale;
     std::vector<Packet> sends;
 };
