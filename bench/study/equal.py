@@ -47,7 +47,8 @@ def differences(given, options):
     if one[0]:
         return
     for ours, theirs in asked_for(given, options):
-        rows = run(given.overlay, [*ours, *words])[1], run(given.simulate, [*words, *theirs])[1]
+        exact = ["--exact", str(given.most)]
+        rows = run(given.overlay, [*ours, *words])[1], run(given.simulate, [*words, *theirs, *exact])[1]
         yield " ".join(["overlay", *ours]), first_difference(*rows)
 
 
