@@ -68,7 +68,12 @@ pub(crate) fn judge_messages(
 
 /// The first option that it excludes among those that are given, and why.
 fn excluded_beside(found: &ArgMatches<'_>) -> Option<&'static (&'static str, &'static str)> {
-    EXCLUDED.iter().find(|row| is_given(found, row.0))
+    for row in &EXCLUDED {
+        if is_given(found, row.0) {
+            return Some(row);
+        }
+    }
+    None
 }
 
 /// Refuses `--costs` if nobody says how many broadcasts there are. Where they are said to be none, its columns stand

@@ -26,13 +26,12 @@ impl SettingLists {
 
     /// The values of the option of this name.
     pub(crate) fn list(&self, name: &str) -> &[OptionValue] {
-        let place = growing_options()
-            .iter()
-            .position(|option| option.name == name);
-        match self.lists.get(place.unwrap_or(OPTION_COUNT)) {
-            Some(list) => list.as_slice(),
-            None => &[],
+        for (option, list) in growing_options().iter().zip(&self.lists) {
+            if option.name == name {
+                return list.as_slice();
+            }
         }
+        &[]
     }
 
     /// Whether one of the further options is asked for: --sequential, --sender or --detect.
