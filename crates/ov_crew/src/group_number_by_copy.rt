@@ -86,8 +86,8 @@ fn outline_in_copy<R: Threads + Sync, G: Gate, W: Watcher>(
     Ok(outline_of_search(rt, alloc, copied, members, begun, workers, gate, watcher)?)
 }
 
-/// How many of the first members no so many nodes split as the outline of the copy says; 0 if that is not known. Which
-/// members may be such the cuts of the copy suggest, and the copy then tells their number.
+/// How many first members there are that more nodes are needed to split than the outline of the copy says; 0 if none
+/// are known. Which members these may be the cuts of the copy suggest, and the copy then tells the number of these.
 fn unsplit_members<R: Threads + Sync, G: Gate, W: Watcher>(
     rt: &R,
     alloc: Global,
@@ -120,8 +120,9 @@ fn unsplit_members<R: Threads + Sync, G: Gate, W: Watcher>(
     Ok(0)
 }
 
-/// How many of the first members are on one side of the cut in the copy or in it, and have more links each than the cut
-/// has nodes. With fewer links, a member has a piece that is not good at the level above.
+/// Guesses how many first members there are that more nodes are needed to split than this cut of the copy has: as many
+/// as are on one side of it or in it, before the first with no more links than the cut has nodes. That one has a piece
+/// which is not good at the level above, or is linked to all before it. Nothing but time rests on the guess.
 fn unparted_members(graph: &Graph, group: &[NodeId], copy: &Scattered, outline: &Cert) -> usize
     requires { IsGroup graph.now group.now }
     ensures { result ≤ length group.now }
