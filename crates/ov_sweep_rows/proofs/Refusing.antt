@@ -103,7 +103,7 @@ found_first cfg s b xs fields (Some ys) reads = by (next_record cfg s [] [] xs) 
   by None is = cc is
   by (Some p) is = ap Some (sym is.1)
 
-first_found : (text : List ℕ) (a b : Reader (Bor (List ℕ))) (left next : ℕ) (row : Fields) → Stands text a left []
+pub first_found : (text : List ℕ) (a b : Reader (Bor (List ℕ))) (left next : ℕ) (row : Fields) → Stands text a left []
     → RowStep text_left a b next (Some (Ok row)) → first_record text ≡ Some (fields_of row)
 unfolding Reached
 first_found text a b left next row stands step =

@@ -51,6 +51,11 @@ pub record IsSlipOf (fields : List (List ℕ)) (slip : HeaderSlip) : Type 0 wher
   pub named : option_map column_name slip.column ≡ slice_get (columns rows_have) slip.place
   pub alike : (i : ℕ) → i < slip.place → text_at fields i ≡ text_at (columns rows_have) i
 
+-- the first record of a text parts so from the header of some form
+abbrev pub IsHeaderSlip : List ℕ → HeaderSlip → Type 0
+IsHeaderSlip text slip =
+    (fields : List (List ℕ)) × (first_record text ≡ Some fields) × IsSlipOf fields slip
+
 -- a text begins with the header of this form and records that say rows, or are the header once more; a record of these
 -- fields comes next
 pub record ComesAfterRows (text : List ℕ) (rows_have : RowForm) (fields : List (List ℕ)) : Type 0 where

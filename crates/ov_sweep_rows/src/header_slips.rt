@@ -3,7 +3,7 @@ ghost use Rattle.std.specs.Prelude.{ℕ, ◌≡◌, ◌<◌, ◌⊎◌, IfOk, If
 ghost use Rattle.csv.specs.Records.{fields_of};
 ghost use Rattle.ov_sweep_rows.specs.Columns.{column_name};
 ghost use Rattle.ov_sweep_rows.specs.Fields.{text_at};
-ghost use Rattle.ov_sweep_rows.specs.Refusals.{IsSlipOf};
+ghost use Rattle.ov_sweep_rows.specs.Refusals.{IsHeaderSlip, IsSlipOf};
 
 use crate::columns::{Column, columns_of};
 use crate::row_reading::{records_of, text_at};
@@ -38,7 +38,9 @@ impl Display for HeaderSlip {
 
 /// Where the first line of a text parts from the headers of rows. None is returned if it has not even their first
 /// column. OutOfMemory (99) if an allocation is refused.
-pub fn header_slip(alloc: Global, text: &[u8]) -> Result<Option<HeaderSlip>, OutOfMemory> {
+pub fn header_slip(alloc: Global, text: &[u8]) -> Result<Option<HeaderSlip>, OutOfMemory>
+    ensures { IfOk result (λ slip. IfSome slip (IsHeaderSlip text.now)) }
+{
     match records_of(alloc, text).next() {
         Some(Ok(fields)) => Ok(slip_of(alloc, &fields)?),
         Some(Err(_)) | None => Ok(None),
