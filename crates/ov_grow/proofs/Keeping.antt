@@ -2,7 +2,7 @@
 use Rattle.std.proofs.Common.{◌≡◌, ◌≢◌, ℕ, zero, suc, ◌+◌, Bool, true, false, cond, List, Option, Some, None, refl, sym}
 use Rattle.std.proofs.Common.{[], ◌∷◌, ◌≤◌, ap, subst, ◌∙◌, inl, inr, arith, length}
 use Rattle.std.proofs.lemmas.Bool.{cases_eq}
-use Rattle.std.specs.Prelude.{MatchBool, if◌then◌else◌, is_some, nat_lt, remove}
+use Rattle.std.specs.Prelude.{MatchBool, is_some, nat_lt, remove}
 use Rattle.std.specs.Ordering.{eq_by_cmp, nat_cmp}
 use Rattle.std.specs.FinMap as map
 use Rattle.std.specs.Cmp.{nat_cmp_total}
@@ -271,7 +271,7 @@ born_turns rules pace n s u turns = born_keeps n s u (turns_keep rules pace s u 
 pub room_for : (n : ℕ) → n ≤ most_nodes → n ≤ most_born_at (scale_for n)
 room_for n most = by (nat_lt (most_born_at Profile) n) refl
   where
-    by : (b : Bool) → nat_lt (most_born_at Profile) n ≡ b → n ≤ most_born_at (if b then Large else Profile)
+    by : (b : Bool) → nat_lt (most_born_at Profile) n ≡ b → n ≤ most_born_at (cond b Large Profile)
     by true is = most
     by false is = grind (arith, nat_tests)
 

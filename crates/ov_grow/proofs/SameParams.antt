@@ -15,7 +15,7 @@ use Rattle.ov_script.specs.Acts.{event_of}
 use Rattle.ov_script.specs.declared.recordable_event.Act.{Act}
 use Rattle.ov_grow.specs.Growth.{Growth, Does}
 
-params_of : Net → ParamsState
+abbrev params_of : Net → ParamsState
 params_of w = w.params
 
 received_params : (w : Net) (a : ℕ) (m : Message) (o : Option Member) (words : List ℕ) (u : Net) (changes : List Change)
