@@ -113,6 +113,13 @@ def star(count):
     return range(count), {(0, leaf) for leaf in range(1, count)}, 1
 
 
+def weak_ends(count, weak):
+    """A ring with four links each, and then nodes with three: each piece before these is good at the level above k."""
+    ring = count - weak
+    links = {(i, (i + step) % ring) for i in range(ring) for step in (1, 2)}
+    return range(count), links | {(ring + end, 7 * end + step) for end in range(weak) for step in range(3)}, 3
+
+
 def path(count):
     return range(count), {(i, i + 1) for i in range(count - 1)}, 1
 
@@ -157,6 +164,8 @@ def known_graphs():
     yield "star", scattered(star(10_000 if MORE else 2000), 2)
     yield "path", scattered(path(10_000 if MORE else 2000), 3)
     yield "path in order", path(1500)
+    yield "a weak last node", weak_ends(1200, 1)
+    yield "weak last nodes", weak_ends(1300, 9)
     yield "no links", nothing(MOST_LARGE if MORE else 3000)
     if MORE:
         yield "star of all", star(MOST_LARGE)
