@@ -15,7 +15,8 @@ pub(crate) fn phase_shape(alloc: Global, graph: &Graph) -> Result<PhaseShape, Ou
     requires some { HasNode graph.now }
     ensures { IfOk result (IsShapeOf graph.now) }
 {
-    let Some(shape) = shape_of(alloc, graph)? else {
+    let measured = shape_of(alloc, graph)?;
+    let Some(shape) = measured else {
         return Err(OutOfMemory);
     };
     Ok(PhaseShape {
