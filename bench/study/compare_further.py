@@ -29,15 +29,15 @@ from world import Refusal
 COLUMNS = {"--costs": (True, False), "--shape": (False, True), "--costs --shape": (True, True)}
 
 
-def drawn_further(seed, most=None):
+def drawn_further(seed, most=None, least=1):
     """Options, drawn at random: those of compare.py, and further ones. If so many nodes are the most, how many there
-    are is drawn anew, and a sender that is no longer there is the last node."""
+    are is drawn anew, and is at least another number; and a sender that is no longer there is the last node."""
     options, draw = drawn(seed), random.Random(f"further {seed}")
     options.sequential, options.detect = draw.random() < 0.7, draw.random() < 0.7
     options.sender = draw.choice([None, draw.randint(1, options.nodes)])
     options.broadcasts = draw.choice([0, 1, draw.randint(2, 6), draw.randint(2, 20)])
     if most is not None:
-        options.nodes = random.Random(f"nodes {seed}").randint(1, most)
+        options.nodes = random.Random(f"nodes {seed}").randint(least, most)
         options.sender = options.sender and min(options.sender, options.nodes)
     return options
 

@@ -7,7 +7,7 @@ use Answer::{Begun, Done, Happened, Numbered, Refused};
 use Call::{Begin, BeginFor, File, Open, OpenFor, Snapshot, Step, Take};
 use ov_cert::{Cert, Checked, Split};
 use ov_graph::Graph;
-use ov_ids::{NodeId, Seq};
+use ov_ids::{NodeId, Scale, Seq};
 use ov_net::Event;
 use ov_snap::{Core, CoreFault, Report};
 use ov_test_kit::{ids, sized, words};
@@ -94,9 +94,9 @@ static ROWS: [(Call, Answer); 28] = [
     (Step(Line::Snapshot), Happened(7, Some(Tells::Nothing))),
 ];
 
-/// A core whose nodes have views of 5 and 30 places.
-pub(crate) fn new_core(alloc: Global) -> Result<Core, Fail> {
-    Ok(Core::new(alloc, sized(5, 30)?))
+/// A core whose nodes have views of 5 and 30 places, with a world of this scale.
+pub(crate) fn new_core(alloc: Global, scale: Scale) -> Result<Core, Fail> {
+    Ok(Core::new(alloc, sized(5, 30)?.with_scale(scale)))
 }
 
 /// The entry of an event with words that are all zero.
@@ -267,11 +267,22 @@ fn has_reports(core: &Core) -> bool {
         && matches!(linked.checked().cert(), Cert::Linked { k: 1 })
 }
 
+/// All calls are answered as in their rows by a core with a world of this scale, and its reports are made.
+fn rows_answer(rt: &(impl Abort + Print), alloc: Global, scale: Scale) -> Result<(), Fail> {
+    let mut core = new_core(alloc, scale)?;
+    all_answer(rt, alloc, &mut core, &ROWS)?;
+    assert!(rt; has_reports(&core));
+    Ok(())
+}
+
 /// A refused call changes nothing, and is answered as in its row when it is made again.
 #[test]
 fn out_of_memory_changes_no_core(rt: HostRuntime) -> Result<(), Fail> {
-    let mut core = new_core(rt.alloc())?;
-    all_answer(&rt, rt.alloc(), &mut core, &ROWS)?;
-    assert!(rt; has_reports(&core));
-    Ok(())
+    rows_answer(&rt, rt.alloc(), Scale::Profile)
+}
+
+/// The same where the world is large, so that the links of a snapshot are made of the views.
+#[test]
+fn out_of_memory_changes_no_large_core(rt: HostRuntime) -> Result<(), Fail> {
+    rows_answer(&rt, rt.alloc(), Scale::Large)
 }

@@ -5,10 +5,11 @@ use crate::cores::{Answer, Call, all_answer, new_core};
 use crate::events::Line::{Boot, BootBy, Deliver, Lose};
 use Turn::{Claim, File, Look, Settle};
 use ov_cert::Cert;
-use ov_ids::NodeId;
+use ov_ids::{NodeId, Scale};
 use ov_snap::{Core, CoreFault, Report};
 use ov_test_kit::words;
 use std::alloc::Global;
+use std::process::Abort;
 use std::test::Fail;
 
 /// What happens at a desk, by the number of the desk and of the worker.
@@ -57,9 +58,9 @@ pub(crate) fn takes(core: &mut Core, turn: Turn) -> Answer {
 }
 
 /// Nodes 1 and 2, and then 2 and 3 take each other in. Word of node 3 for node 1 is lost, so these two are not linked.
-/// The snapshot is entry 9.
-fn path_of_three(alloc: Global) -> Result<Core, Fail> {
-    let mut core = new_core(alloc)?;
+/// The snapshot is entry 9. The world has this scale.
+fn path_of_three(alloc: Global, scale: Scale) -> Result<Core, Fail> {
+    let mut core = new_core(alloc, scale)?;
     let lines = [
         Boot(1),
         BootBy(2, 1),
@@ -126,17 +127,28 @@ fn is_cut_at_2(report: Option<&Report>, near: u32, far: u32) -> bool {
         && split.far == NodeId(far)
 }
 
-/// Two workers settle the pieces of all nodes, and then those of a group, and certificates are made of them. A refused
-/// call changes nothing, and is answered as in its row when it is made again.
-#[test]
-fn out_of_memory_changes_no_desk(rt: HostRuntime) -> Result<(), Fail> {
-    let mut core = path_of_three(rt.alloc())?;
-    all_answer(&rt, rt.alloc(), &mut core, &ALL_NODES)?;
-    all_answer(&rt, rt.alloc(), &mut core, &ENDS)?;
+/// In a world of this scale two workers settle the pieces of all nodes, and then those of a group, and certificates are
+/// made of them.
+fn rows_answer(rt: &(impl Abort + Print), alloc: Global, scale: Scale) -> Result<(), Fail> {
+    let mut core = path_of_three(alloc, scale)?;
+    all_answer(rt, alloc, &mut core, &ALL_NODES)?;
+    all_answer(rt, alloc, &mut core, &ENDS)?;
     let (all, ends) = (
         core.report(9),
         core.group_report(9, &[NodeId(1), NodeId(3)]),
     );
     assert!(rt; is_cut_at_2(all, 3, 1) && is_cut_at_2(ends, 1, 3));
     Ok(())
+}
+
+/// A refused call changes nothing, and is answered as in its row when it is made again.
+#[test]
+fn out_of_memory_changes_no_desk(rt: HostRuntime) -> Result<(), Fail> {
+    rows_answer(&rt, rt.alloc(), Scale::Profile)
+}
+
+/// The same of a large world's snapshot.
+#[test]
+fn out_of_memory_changes_no_desk_of_a_large_world(rt: HostRuntime) -> Result<(), Fail> {
+    rows_answer(&rt, rt.alloc(), Scale::Large)
 }
