@@ -32,7 +32,7 @@ SWEEPS = {
     "split-always-1000": f"--nodes 1000 --active 3,4,5,6 --refill always {_SPLIT} --runs 100",
     "papers-links": f"--nodes 10000 --refill never,alone,always {_SPLIT} --runs 5",
     "papers-shape-1000": "--nodes 1000 --refill never,alone,always --rounds 0 --crash 99 --heal 0 --runs 5 --shape",
-    "papers-swept": "--nodes 10000 --refill never,always --crash 80 --detect --heal 2 --broadcasts 10 "
+    "papers-swept": "--nodes 10000 --refill never,always --crash 50,80,90 --detect --heal 2 --broadcasts 10 "
     "--sequential --messages --runs 5",
     "papers-told-250": "--nodes 250 --refill never,alone,always --crash 50,70,80,90,95 --heal 0 --broadcasts 5 "
     "--runs 20",
