@@ -1,9 +1,11 @@
 #!/usr/bin/env python3
-"""papers.py --simulate PROGRAM [NAME ..]: makes the rows of docs/PAPERS.md into out/, and writes its tables and figures
-anew.
+"""papers.py --simulate PROGRAM [--overlay PROGRAM] [--hold] [NAME ..]: makes the rows of docs/PAPERS.md into out/, and
+writes its tables and figures anew.
 
-Rows that are there stay: remove their files to make them anew. With names only these tables and figures are made. A
-figure of several overlays is the mean over their seeds of a figure of each; with it stand the least and the largest.
+Rows that `overlay sweep` can make come from it if a program is named, and else from the simulation. Rows that are there
+stay: remove their files to make them anew. With names only these tables and figures are made. With --hold nothing is
+written: rows of `overlay sweep` that are there are held against those of the simulation. A figure of several overlays
+is the mean over their seeds of a figure of each; with it stand the least and the largest.
 """
 
 import argparse
@@ -15,7 +17,7 @@ import sys
 from figures import Axis, Panel, drawn, whole_numbers
 from options import CHOICES
 from study import DOCS
-from sweeps import PAPERS, ROWS, grouped, make, rows
+from sweeps import PAPERS, ROWS, SWEEPS, grouped, held, make, rows
 from tables import table
 
 HERE = pathlib.Path(__file__).resolve().parent
@@ -30,6 +32,7 @@ DARK = ["#9db0ff", "#6fd0e8", "#6fd6c8", "#e0cf5a", "#ff9a52", "#ff8a80", "#ff6f
 PIECES = ((1, 1), (2, 2), (3, 4), (5, 8), (9, 14), (15, 20), (21, 50), (51, 100), (101, 200), (201, 500), (501, 1000))
 OF_TABLE = ((1, 1), (2, 5), (6, 10), (11, 20), (41, 50), (91, 100), (191, 200), (491, 500), (901, 1000))
 OF_TREE = ((1, 1), (2, 2), (3, 10), (11, 20))
+OF_SWEPT = ((1, 1), (2, 5), (6, 10))
 PERCENT = Axis("", 0, 100, whole_numbers(0, 20, 40, 60, 80, 100))
 # What `simulate` has no part in: random graphs, in which each node has as many links.
 RANDOM = "--random --nodes 10000 --active 5 --runs 5"
@@ -57,6 +60,11 @@ def mean_of(column):
     return lambda some: sum(float(row[column]) for row in some) / len(some)
 
 
+def links_of(some):
+    """The mean number of links of a node of settled overlays."""
+    return 2 * sum(int(row["settle_links"]) for row in some) / sum(int(row["settle_nodes"]) for row in some)
+
+
 def delivered(some):
     """The mean share of live nodes that delivered, in percent."""
     return 100 * sum(int(row["delivered"]) / int(row["live"]) for row in some) / len(some)
@@ -81,6 +89,11 @@ def redundancy(some):
 def piece(some, first, last):
     """The rows of messages by their numbers."""
     return [row for row in some if first <= int(row["number"]) <= last]
+
+
+def of_phase(some, phase):
+    """The rows of messages of a phase."""
+    return [row for row in some if row["phase"] == phase]
 
 
 def panels_of_crashes(titles, across, points):
@@ -158,7 +171,7 @@ def tree():
     tone = 0
     for order in CHOICES["order"]:
         for name, senders in (("papers-one", "one sender"), ("papers-many", "many senders")):
-            some = grouped(name, "refill", "order")["always", order]
+            some = of_phase(grouped(name, "refill", "order")["always", order], "settle")
             for panel, figure in zip(panels, (redundancy, mean_of("hops"))):
                 with_bars(panel, tone, in_pieces(some, figure, 20))
             said = f"{senders}, packets in order {order}"
@@ -174,6 +187,8 @@ SHAPES = {
     "papers-shape-fill": FILLED.format(3),
     "papers-random": "random graph, 5 links at each node",
 }
+# Whose links the tool tells.
+LINKS = {"papers-shape": "papers-links"}
 VARIED_SHAPES = {
     "papers-shape-filled": FILLED.format(10),
     "papers-shape-contact": ", all join by node 1",
@@ -183,12 +198,14 @@ VARIED_SHAPES = {
 
 def shape_table(names, first=()):
     """The shape of settled overlays; each sweep by what is said of it."""
-    columns = (("links", ".2f"), ("largest", ",.0f"), ("clustering", ".5f"), ("path", ".3f"), ("farthest", ".2f"))
+    columns = (("largest", ",.0f"), ("clustering", ".5f"), ("path", ".3f"), ("farthest", ".2f"))
     lines = list(first)
     for name, said in names.items():
+        swept = grouped(LINKS[name], "refill") if name in LINKS else {}
         for (rule,), some in grouped(name, "refill" if name in PAPERS else "active").items():
             of_rule = f"`{rule}`{said}" if name in PAPERS else said
-            lines.append([of_rule, *(spread(some, mean_of(column), form) for column, form in columns)])
+            links = spread(swept[rule,], links_of, ".2f") if swept else spread(some, mean_of("links"), ".2f")
+            lines.append([of_rule, links, *(spread(some, mean_of(column), form) for column, form in columns)])
     head = ["links of a node", "largest component", "clustering coefficient", "mean shortest path", "farthest"]
     return table(["rule", *head], lines)
 
@@ -225,6 +242,27 @@ def told_table():
     return table(["rule", "% that crash", "settled", "after the crash", "all are told", "range of these"], lines)
 
 
+def swept_table():
+    """What messages reach after a crash, and after two rounds of shuffles that follow, by the tool."""
+    lines = []
+    for (rule, crash), some in grouped("papers-swept", "refill", "crash").items():
+        pieces = [piece(of_phase(some, phase), *ends) for phase in ("crash", "heal") for ends in OF_SWEPT]
+        lines.append([f"`{rule}`", crash, *(spread(of_piece, delivered, ".1f") for of_piece in pieces)])
+    head = ["after the crash: message 1", "2 to 5", "6 to 10", "after two rounds: message 1", "2 to 5", "6 to 10"]
+    return table(["rule", "% that crash", *head], lines)
+
+
+def small_shape_table():
+    """The shape of settled overlays of 1,000 nodes, by the tool."""
+    columns = (("largest", ",.0f"), ("clustering", ".4f"), ("path", ".3f"), ("diameter", ".1f"))
+    lines = []
+    for (rule,), some in grouped("papers-shape-1000", "refill").items():
+        shape = (spread(some, mean_of(f"settle_{column}"), form) for column, form in columns)
+        lines.append([f"`{rule}`", spread(some, links_of, ".2f"), *shape])
+    head = ["links of a node", "largest component", "clustering coefficient", "mean shortest path", "diameter"]
+    return table(["rule", *head], lines)
+
+
 def heal_table():
     """What broadcasts reach after rounds of shuffles, and how much of an overlay is one part."""
     lines = []
@@ -244,7 +282,7 @@ def tree_table():
         for (rule, order), some in grouped(name, "refill", "order").items():
             line = [f"`{rule}`, {senders}, `{order}`"]
             for ends in OF_TREE:
-                of_piece = piece(some, *ends)
+                of_piece = piece(of_phase(some, "settle"), *ends)
                 line.append(f"{spread(of_piece, redundancy, '.3f')}; {spread(of_piece, mean_of('hops'), '.1f')}")
             lines.append(line)
     head = [f"message {first}" if first == last else f"{first} to {last}" for first, last in OF_TREE]
@@ -269,10 +307,12 @@ VARIED = {
 }
 # Each table by its mark in the document, each figure by its file, and the sweeps that it is made of.
 TABLES = {
-    "shape": (beside_the_paper, list(SHAPES)),
+    "shape": (beside_the_paper, [*LINKS.values(), *SHAPES]),
     "shape-varied": (lambda: shape_table(VARIED_SHAPES), list(VARIED_SHAPES)),
-    "crash": (lambda: crash_table(CRASH), list(CRASH)),
+    "messages": (lambda: crash_table(CRASH), list(CRASH)),
     "told-250": (told_table, ["papers-told-250"]),
+    "shape-1000": (small_shape_table, ["papers-shape-1000"]),
+    "swept": (swept_table, ["papers-swept"]),
     "crash-varied": (lambda: crash_table(VARIED), list(VARIED)),
     "heal": (heal_table, ["papers-heal"]),
     "tree": (tree_table, ["papers-one", "papers-many"]),
@@ -286,13 +326,15 @@ FIGURES = {
 
 def command(name):
     """What makes the rows of a sweep, in words."""
+    if name in SWEEPS:
+        return f"overlay sweep {SWEEPS[name]}"
     return f"simulate {PAPERS[name]}" if name in PAPERS else f"shape.py {RANDOM}"
 
 
-def make_rows(name, simulate):
+def make_rows(name, simulate, overlay):
     """Makes the rows of a sweep, unless they are there."""
-    if name in PAPERS:
-        make(name, simulate, None, 1)
+    if name in PAPERS or name in SWEEPS:
+        make(name, simulate, overlay, 1)
     elif not (ROWS / f"{name}.csv").exists():
         ROWS.mkdir(exist_ok=True)
         done = subprocess.run([sys.executable, HERE / "shape.py", *RANDOM.split()], stdout=subprocess.PIPE, check=True)
@@ -311,12 +353,20 @@ def put(text, name):
 def main():
     parser = argparse.ArgumentParser(description=__doc__, formatter_class=argparse.RawDescriptionHelpFormatter)
     parser.add_argument("--simulate", required=True)
+    parser.add_argument("--overlay")
+    parser.add_argument("--hold", action="store_true")
     parser.add_argument("names", nargs="*", choices=[*TABLES, *FIGURES, []])
     given = parser.parse_args()
-    for name in given.names or [*TABLES, *FIGURES]:
-        made, sources = (TABLES | FIGURES)[name]
+    of_all = TABLES | FIGURES
+    names = given.names or [*of_all]
+    if given.hold:
+        sources = dict.fromkeys(source for name in names for source in of_all[name][1])
+        print(*held(sources, given.simulate), sep="\n")
+        return
+    for name in names:
+        made, sources = of_all[name]
         for source in sources:
-            make_rows(source, given.simulate)
+            make_rows(source, given.simulate, given.overlay)
         if name in TABLES:
             for page in PAGES:
                 page.write_text(put(page.read_text(), name))

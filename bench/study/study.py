@@ -1,10 +1,10 @@
 #!/usr/bin/env python3
-"""study.py --simulate PROGRAM [--overlay PROGRAM] [--workers N] [NAME ..]: makes the rows of docs/DESIGN-STUDY.md into
-out/, and writes its tables, also those in docs/TABLES.md, and the figures of docs anew.
+"""study.py --simulate PROGRAM [--overlay PROGRAM] [--workers N] [--hold] [NAME ..]: makes the rows of
+docs/DESIGN-STUDY.md into out/, and writes its tables, also those in docs/TABLES.md, and the figures of docs anew.
 
-Rows of overlays of up to 256 nodes come from `overlay sweep` if a program is named, and else from the simulation. Rows
-that are there stay: remove their files, or the folder, to make them anew. With names only these tables and figures are
-made.
+Rows that `overlay sweep` can make come from it if a program is named, and else from the simulation. Rows that are there
+stay: remove their files, or the folder, to make them anew. With names only these tables and figures are made. With
+--hold nothing is written: rows of `overlay sweep` that are there are held against those of the simulation.
 """
 
 import argparse
@@ -13,7 +13,7 @@ import re
 import time
 
 from figures import FIGURES
-from sweeps import make
+from sweeps import held, make
 from tables import TABLES, lines_of
 
 DOCS = pathlib.Path(__file__).resolve().parents[2] / "docs"
@@ -32,10 +32,15 @@ def main():
     parser.add_argument("--simulate", required=True)
     parser.add_argument("--overlay")
     parser.add_argument("--workers", type=int, default=1)
+    parser.add_argument("--hold", action="store_true")
     parser.add_argument("names", nargs="*", choices=[*TABLES, *FIGURES, []])
     given = parser.parse_args()
     names = given.names or [*TABLES, *FIGURES]
-    for sweep in dict.fromkeys(sweep for name in names for sweep in (TABLES | FIGURES)[name][1]):
+    sweeps = [*dict.fromkeys(sweep for name in names for sweep in (TABLES | FIGURES)[name][1])]
+    if given.hold:
+        print(*held(sweeps, given.simulate), sep="\n")
+        return
+    for sweep in sweeps:
         begun = time.monotonic()
         make(sweep, given.simulate, given.overlay, given.workers)
         print(f"{sweep}: {time.monotonic() - begun:.0f} s", flush=True)

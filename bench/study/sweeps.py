@@ -1,13 +1,17 @@
-"""The sweeps of docs/DESIGN-STUDY.md, each by its name, its command and its rows; and what tables take of rows."""
+"""The sweeps of docs/DESIGN-STUDY.md and docs/PAPERS.md, each by its name, its command and its rows; and what tables
+take of rows."""
 
 import csv
 import math
 import pathlib
 import subprocess
+import sys
 
 ROWS = pathlib.Path(__file__).resolve().parent / "out"
 
-# Rows of `overlay sweep`, which `simulate --csv` makes too.
+# Rows of `overlay sweep`, which `simulate` makes too.
+_SPLIT = "--rounds 0 --heal 0"
+_SWEPT_TREE = "--nodes 10000 --refill always --order random,oldest --crash 99 --heal 0 --broadcasts 20"
 SWEEPS = {
     "active": "--nodes 50,100,150,200 --active 3,4,5,6,7,8,9,10,12 --crash 20 --runs 500",
     "rules": "--nodes 50,100,200 --active 3,4,5,6,8 --refill never,alone,always --crash 20 --runs 500",
@@ -23,6 +27,17 @@ SWEEPS = {
     "rules-loss-join": "--nodes 200 --refill never,alone,always --loss-join 1 --crash 20 --runs 200",
     "rules-loss": "--nodes 200 --refill never,alone,always --loss 5 --crash 20 --runs 200",
     "rules-pace": "--nodes 200 --refill never,alone,always --pace 0 --crash 20 --runs 200",
+    "split-1000": f"--nodes 1000 --active 3,4,5,6,7,8,9,10,12,16 {_SPLIT} --runs 100",
+    "split-alone-1000": f"--nodes 1000 --active 4,5,6,8,10 --refill alone {_SPLIT} --runs 100",
+    "split-always-1000": f"--nodes 1000 --active 3,4,5,6 --refill always {_SPLIT} --runs 100",
+    "papers-links": f"--nodes 10000 --refill never,alone,always {_SPLIT} --runs 5",
+    "papers-shape-1000": "--nodes 1000 --refill never,alone,always --rounds 0 --crash 99 --heal 0 --runs 5 --shape",
+    "papers-swept": "--nodes 10000 --refill never,always --crash 50,80,90 --detect --heal 2 --broadcasts 10 "
+    "--sequential --messages --runs 5",
+    "papers-told-250": "--nodes 250 --refill never,alone,always --crash 50,70,80,90,95 --heal 0 --broadcasts 5 "
+    "--runs 20",
+    "papers-one": f"{_SWEPT_TREE} --sender 1 --sequential --messages --runs 5",
+    "papers-many": f"{_SWEPT_TREE} --sequential --messages --runs 5",
 }
 # Rows of `simulate` alone.
 SIMULATED = {
@@ -50,7 +65,6 @@ _ONE_BY_ONE = "--sequential --exact 1"
 _AFTER = f"--detect --heal 0 --only crash {_ONE_BY_ONE} --messages"
 _SMALLER = "--nodes 1000 --refill never,always --grow-once --crash 70,80,90"
 _TOLD = f"--flood --heal 0 --only heal {_ONE_BY_ONE} --messages"
-_TREE = "--nodes 10000 --refill always --order random,oldest --heal 0 --only settle --broadcasts 20"
 PAPERS = {
     "papers-shape": f"{_SHAPE} never,alone,always --rounds 0 --runs 5",
     "papers-shape-fill": f"{_SHAPE} never,alone,always --rounds 3 --fill --runs 5",
@@ -61,8 +75,6 @@ PAPERS = {
     "papers-crash-long": f"{_GROWN} never,always --grow-once --crash 50,70,80,90,95 --flood {_AFTER} --broadcasts 1000 "
     "--runs 3",
     "papers-told": f"{_GROWN} never,always {_CRASHES} {_TOLD} --broadcasts 5 --runs 5",
-    "papers-told-250": "--nodes 250 --refill never,alone,always --crash 50,70,80,90,95 --heal 0 --broadcasts 5 "
-    "--runs 20 --csv",
     "papers-passed": f"{_GROWN} never,always {_CRASHES} --flood --pass-on {_AFTER} --broadcasts 20 --runs 5",
     "papers-varied": f"{_SMALLER} {_AFTER} --broadcasts 200 --flood --runs 5",
     "papers-varied-until": f"{_SMALLER} {_AFTER} --broadcasts 50 --flood --until-full --runs 5",
@@ -74,8 +86,6 @@ PAPERS = {
     "papers-varied-at-once": f"{_SMALLER} {_TOLD} --broadcasts 10 --reports-at-once --runs 5",
     "papers-heal": f"{_GROWN} never,always {_CRASHES} --flood --detect --heal 4 --only heal --broadcasts 1 "
     f"{_ONE_BY_ONE} --healing --runs 5",
-    "papers-one": f"{_TREE} --sender 1 {_ONE_BY_ONE} --messages --runs 5",
-    "papers-many": f"{_TREE} {_ONE_BY_ONE} --messages --runs 5",
 }
 LARGE = ("large-100", "large-1000", "large-10000", "large-100000")
 # The same by each rule at DISCONNECT.
@@ -84,6 +94,8 @@ LARGE_BY = {
     "alone": ("alone-1000", "alone-10000", "alone-100000"),
     "always": ("always-1000", "always-10000", "always-100000"),
 }
+# Who tells of the same overlays whether they are split, and their least degree.
+SWEPT = {"large-1000": "split-1000", "alone-1000": "split-alone-1000", "always-1000": "split-always-1000"}
 
 
 def make(name, simulate, overlay, workers):
@@ -97,11 +109,36 @@ def make(name, simulate, overlay, workers):
     elif overlay:
         words = [overlay, "sweep", *SWEEPS[name].split(), "--workers", str(workers)]
     else:
-        words = [simulate, *SWEEPS[name].split(), "--csv"]
+        words = [simulate, *by_simulate(name)]
     begun = path.with_suffix(".begun")
     with open(begun, "wb") as file:
         subprocess.run(words, stdout=file, check=True)
     begun.rename(path)
+
+
+def by_simulate(name):
+    """What `simulate` is asked for, to print the rows of `overlay sweep`."""
+    words = SWEEPS[name].split()
+    return words if "--messages" in words else [*words, "--csv", "--exact", "32768"]
+
+
+def hold(name, simulate):
+    """How many rows of a sweep `simulate` prints alike, byte for byte; the first that differs ends the program."""
+    ours = (ROWS / f"{name}.csv").read_text().splitlines()
+    done = subprocess.run([simulate, *by_simulate(name)], stdout=subprocess.PIPE, check=True, text=True)
+    theirs = done.stdout.splitlines()
+    if ours != theirs:
+        pairs = zip([*ours, None], [*theirs, None])
+        one, other = next((one, other) for one, other in pairs if one != other)
+        sys.exit(f"{name}: {one!r} and {other!r} of simulate")
+    return len(ours) - 1
+
+
+def held(names, simulate):
+    """Of each of these sweeps that `overlay sweep` can make, and whose rows are there, how many rows are equal."""
+    for name in names:
+        if name in SWEEPS and (ROWS / f"{name}.csv").exists():
+            yield f"{name}: {hold(name, simulate)} rows are equal"
 
 
 def rows(name):

@@ -4,7 +4,7 @@ from collections import Counter
 
 from mean_field import WALK, shares_of
 from options import CHOICES
-from sweeps import LARGE, LARGE_BY, SWEEPS, grouped, mean, numbers, quantile, rows, split, wilson
+from sweeps import LARGE, LARGE_BY, SWEEPS, SWEPT, grouped, mean, numbers, quantile, rows, split, wilson
 
 
 def percent(hits, count):
@@ -38,10 +38,13 @@ def table(head, lines):
 
 
 def made_by(names):
-    """The commands that made rows, or where they stand."""
-    if all(name in SWEEPS for name in names):
+    """The commands that made rows, or who made them and where the commands stand."""
+    swept = [name for name in names if name in SWEEPS]
+    if swept == names:
         return "; ".join(f"`overlay sweep {SWEEPS[name]}`" for name in names)
-    return "; ".join(f"`{name}`" for name in names) + " of [sweeps.py](../bench/study/sweeps.py)"
+    by = (("overlay sweep", swept), ("simulate", [name for name in names if name not in SWEEPS]))
+    parts = [f"by `{program}` " + ", ".join(f"`{name}`" for name in some) for program, some in by if some]
+    return "; ".join(parts) + ", of [sweeps.py](../bench/study/sweeps.py)"
 
 
 def active():
@@ -168,29 +171,40 @@ def hazards():
     return table(["what befalls them", *head], lines)
 
 
-def large_by(rule):
-    """The rows of large overlays by a rule, by nodes and active size."""
+def by_place(names):
+    """The rows of sweeps, by nodes and active size."""
     found = {}
-    for name in LARGE_BY[rule]:
+    for name in names:
         for row in rows(name):
             found.setdefault((int(row["nodes"]), int(row["active"])), []).append(row)
     return found
+
+
+def tellers(names):
+    """The sweeps that tell whether the overlays of these are split: those of the tool where there are such."""
+    return [SWEPT.get(name, name) for name in names]
+
+
+def with_tellers(names):
+    """Sweeps, and those of the tool of the same overlays."""
+    return [*dict.fromkeys([*tellers(names), *names])]
 
 
 def rules_large():
     """What the rules at DISCONNECT do past 256 nodes."""
     lines = []
     for rule in ("alone", "always"):
-        for (nodes, size), some in large_by(rule).items():
+        told = by_place(tellers(LARGE_BY[rule]))
+        for (nodes, size), some in by_place(LARGE_BY[rule]).items():
             lines.append(
                 [
                     f"`{rule}`",
                     f"{nodes:,}",
                     size,
                     len(some),
-                    plain(share_split(some)),
+                    plain(share_split(told[nodes, size])),
                     f"{1e5 * cut_off(some) / (nodes * len(some)):.1f}",
-                    f"{mean(some, 'least_degree'):.2f}",
+                    f"{least_degree(told[nodes, size]):.2f}",
                 ]
             )
     head = ["rule", "nodes", "active size", "overlays", "% split", "components but one, of 100,000"]
@@ -198,8 +212,15 @@ def rules_large():
 
 
 def share_split(some):
-    """The share of large overlays that are split."""
+    """The share of large overlays that are split, in rows of the tool or of the simulation."""
+    if "settle_k" in some[0]:
+        return split(some, "settle") / len(some)
     return sum(row["components"] != "1" for row in some) / len(some)
+
+
+def least_degree(some):
+    """The mean least degree of large overlays, in rows of the tool or of the simulation."""
+    return mean(some, "settle_least_degree" if "settle_k" in some[0] else "least_degree")
 
 
 def cut_off(some):
@@ -221,7 +242,7 @@ def advice():
             for (nodes, size, by), some in by_tool.items()
             if by == rule and nodes in ("100", "200")
         }
-        shares |= {place: share_split(some) for place, some in large_by(rule).items()}
+        shares |= {place: share_split(some) for place, some in by_place(tellers(LARGE_BY[rule])).items()}
         least = [enough(shares, nodes) for nodes in (100, 200, 1000, 10000, 100000)]
         lines.append([does, f"`{rule}`", who, *least])
     head = ["a node that is told DISCONNECT", "`--refill`", "such as", "100 nodes", "200", "1,000", "10,000"]
@@ -397,22 +418,22 @@ def rounds_of_shuffles():
 def large():
     """Overlays past 256 nodes."""
     lines = []
-    for name in LARGE:
-        for (nodes, size), some in grouped(name, "nodes", "active").items():
-            if size not in ("5", "8", "10"):
-                continue
-            total = int(nodes) * len(some)
-            lines.append(
-                [
-                    f"{int(nodes):,}",
-                    size,
-                    len(some),
-                    plain(share_split(some)),
-                    f"{1e5 * sum(numbers(some, 'alone')) / total:.1f}",
-                    f"{1e5 * cut_off(some) / total:.1f}",
-                    f"{mean(some, 'least_degree'):.2f}",
-                ]
-            )
+    told = by_place(tellers(LARGE))
+    for (nodes, size), some in by_place(LARGE).items():
+        if size not in (5, 8, 10):
+            continue
+        total = nodes * len(some)
+        lines.append(
+            [
+                f"{nodes:,}",
+                size,
+                len(some),
+                plain(share_split(told[nodes, size])),
+                f"{1e5 * sum(numbers(some, 'alone')) / total:.1f}",
+                f"{1e5 * cut_off(some) / total:.1f}",
+                f"{least_degree(told[nodes, size]):.2f}",
+            ]
+        )
     return table(
         [
             "nodes",
@@ -473,8 +494,8 @@ TABLES = {
     "fates": (fates, ["fates"]),
     "splits": (splits, ["splits"]),
     "rules": (rules, ["rules"]),
-    "rules-large": (rules_large, [*LARGE_BY["alone"], *LARGE_BY["always"]]),
-    "advice": (advice, ["rules", "active", *(name for names in LARGE_BY.values() for name in names)]),
+    "rules-large": (rules_large, with_tellers([*LARGE_BY["alone"], *LARGE_BY["always"]])),
+    "advice": (advice, ["rules", "active", *(name for names in LARGE_BY.values() for name in tellers(names))]),
     "at-once": (at_once, ["at-once", "rules"]),
     "hazards": (hazards, ["rules-crash", "rules-passive", "rules-loss", "rules-loss-join", "rules-pace"]),
     "crash": (crash, ["crash"]),
@@ -484,7 +505,7 @@ TABLES = {
     "walks": (walks, ["walks"]),
     "pace": (pace, ["pace"]),
     "rounds": (rounds_of_shuffles, ["rounds"]),
-    "large": (large, list(LARGE)),
+    "large": (large, with_tellers(LARGE)),
     "rates": (rates, ["degrees-5", "degrees-8"]),
     "degrees": (degrees, ["degrees-5", "degrees-8"]),
 }
