@@ -79,7 +79,7 @@ class Programs(unittest.TestCase):
 class Grown(Programs):
     """Overlays of more than 256 nodes."""
 
-    # A large overlay of which a few crashes split the largest part, and more a smaller one.
+    # An overlay that is kept as lists, and that no phase leaves split.
     LARGE = "--nodes", "1100", "--active", "7", "--crash", "5", "--refill", "always", "--rounds", "1", "--heal", "1"
 
     @classmethod
@@ -134,7 +134,13 @@ class Grown(Programs):
             said = self.judged(certificate, line)
             self.assertEqual(said["version"], 3)
         self.assertEqual([len(json.loads(it)["nodes"]) for it in lines[-3:]], [1100, 1045, 1045])
-        self.assertTrue(all(int(report(line)["k"]) for line in reports), reports)
+        numbers = [report(line)["k"] for line in reports]
+        self.assertTrue(all(numbers), numbers)
+        header, row = (line.split(",") for line in self.printed("sweep", *self.LARGE, "--runs", "1"))
+        told = dict(zip(header, row))
+        self.assertEqual([int(told[f"{phase}_k"]) for phase in ("settle", "crash", "heal")], numbers)
+        self.assertEqual([told[f"{phase}_entries"] for phase in ("settle", "crash", "heal")],
+                         [line.split()[1] for line in reports])
         settled = json.loads(lines[-3])
         graph = text_of(settled["nodes"], map(tuple, settled["links"])).splitlines()
         self.assertEqual(self.simulated(*self.LARGE, "--graph"), graph)
