@@ -264,7 +264,8 @@ class Bounds(Programs):
     """With little memory a sweep prints the right row, or says that memory is out, and prints no row; on a small stack
     a program does its work."""
 
-    SWEEP, GROW = ("sweep", "--nodes", "3000", "--runs", "1"), ("grow", "--nodes", "3000", "--rounds", "0", "--heal", "0")
+    SWEEP = "sweep", "--nodes", "3000", "--runs", "1"
+    GROW = "grow", "--nodes", "3000", "--rounds", "0", "--heal", "0"
     CANNOT_START = 127
 
     def bounded(self, kind, most, words, given=""):
