@@ -4,8 +4,9 @@
 usage: in_order.py OVERLAY [NAME ..]   the program `overlay`, and parts of the names of graphs, or all of them
 
 Prints for each graph the size of its file, the processor time of `analyse --large`, and k, which must be that of its
-construction. The last two are made against the program: ids that lie in a ring once they are scattered,
-and a ring whose only weak node comes last, so that each piece before it is settled at the level that fails.
+construction. The last six are made against the program: ids that lay in a ring once they were scattered; wide rings, of
+which first members far apart would make many pairs; and rings whose only weak nodes come last, so that each piece
+before them is settled at the level that fails.
 """
 
 import itertools
@@ -38,6 +39,16 @@ def renamed(links, count, step):
     return {tuple((node - 1) * step % count + 1 for node in link) for link in links}
 
 
+def pairs_behind(count, steps, pairs, common):
+    """A ring, and behind it pairs of linked nodes that only so many nodes of the ring cut off, two links on each."""
+    links = ring(count, steps)
+    for pair in range(pairs):
+        first = count + 1 + 2 * pair
+        near = [1 + (pair * 7919 + 2 * step) % count for step in range(common)]
+        links |= {(first, first + 1)} | {(end, node) for end in (first, first + 1) for node in near}
+    return links
+
+
 def graphs():
     """A name for each graph, how many nodes it has, its links, and its k."""
     yield "ring", 32_768, ring(32_768, [1]), 2
@@ -50,6 +61,10 @@ def graphs():
     yield "hub and ring", 20_000, spokes | {(a + 1, b + 1) for a, b in ring(19_999, [1])}, 3
     # 29,459 times 20,251, the step of scattered ids, is 1 modulo 32,768
     yield "ring against scattered ids", 32_768, renamed(ring(32_768, [1]), 32_768, 29_459), 2
+    yield "wide ring of 1,030 nodes", 1030, ring(1030, range(1, 63)), 124
+    yield "wide ring of 2,000 nodes", 2000, ring(2000, range(1, 29)), 56
+    yield "pairs behind a ring", 32_700, pairs_behind(31_900, [1], 400, 1), 1
+    yield "pairs behind a ring, 4 links each", 21_100, pairs_behind(20_500, [1, 2], 300, 3), 3
     yield "ring with a weak last node", 16_000, ring(15_999, [1, 2]) | {(16_000, node) for node in (1, 2, 3)}, 3
 
 
