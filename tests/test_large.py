@@ -4,9 +4,9 @@
 TAGZIRK_OVERLAY, TAGZIRK_OVERLAY_CHECK and TAGZIRK_OVERLAY_CHECK_LARGE name the programs. The connectivity of each graph
 is known by its construction (Harary graphs, hypercubes, tori, complete bipartite graphs, stars, paths, two parts over a
 cut that was planned), so that nothing is taken from the programs. That a cut disconnects, and that the graphs are what
-they should be, is walked through here. Each certificate is judged by both checkers. What is kept as lists is held
-against what is kept as rows: a small graph is analysed beside nodes without links, which make it large. With --more
-graphs are larger, up to 32,768 nodes, which takes some minutes.
+they should be, is walked through here. Of random graphs networkx tells the number, where it is there. Each certificate
+is judged by both checkers. What is kept as lists is held against what is kept as rows: a small graph is analysed beside
+nodes without links, which make it large. With --more graphs are larger, up to 32,768 nodes, which takes some minutes.
 """
 
 import itertools
@@ -21,6 +21,13 @@ import subprocess
 import sys
 import tempfile
 import unittest
+
+try:
+    import networkx
+    from networkx.algorithms.connectivity import build_auxiliary_node_connectivity, local_node_connectivity
+    from networkx.algorithms.flow import build_residual_network
+except ImportError:
+    networkx = None
 
 ROOT = pathlib.Path(__file__).resolve().parent.parent
 sys.path.insert(0, str(ROOT / "tools"))
@@ -239,6 +246,37 @@ class Known(Programs):
         nodes = range(1, 1041)
         line, = self.answered(text_of(nodes, itertools.combinations(nodes, 2)))
         self.assertEqual(line, "report 0 linked k 1039")
+
+
+@unittest.skipUnless(networkx, "there is no networkx")
+class BesideNetworkx(Programs):
+    """Random graphs with groups: k is the fewest nodes that part two members that are not linked."""
+
+    def drawn_graphs(self):
+        """Graphs of networkx, and how many members their groups have."""
+        for turn, members in enumerate((2, 3, 4, 5)):
+            yield networkx.random_regular_graph(3 + turn, 1026 + 90 * turn, seed=turn), members
+        yield networkx.gnm_random_graph(1025, 4500, seed=4), 3
+        yield networkx.random_partition_graph([600, 700], 0.015, 0.00001, seed=5), 4
+
+    def fewest(self, graph, group):
+        """The number by networkx, one question for each two members."""
+        unlinked = [pair for pair in itertools.combinations(group, 2) if not graph.has_edge(*pair)]
+        doubled = build_auxiliary_node_connectivity(graph)
+        rooms = {"auxiliary": doubled, "residual": build_residual_network(doubled, "capacity")}
+        return min((local_node_connectivity(graph, *pair, **rooms) for pair in unlinked), default=len(group) - 1)
+
+    def test_groups_of_random_graphs(self):
+        drawn = random.Random(81)
+        for graph, members in self.drawn_graphs():
+            nodes, group = sorted(graph), sorted(drawn.sample(sorted(graph), members))
+            with self.subTest((len(nodes), group)):
+                self.assertTrue(1025 <= len(nodes) <= 1300)
+                links = list(graph.edges())
+                words = ["--group", ",".join(map(str, group))]
+                line, = self.answered(text_of(nodes, links), *words)
+                self.assert_parts(nodes, links, line, self.fewest(graph, group))
+                self.judged(text_of(nodes, links), line, *words)
 
 
 class Limits(Programs):

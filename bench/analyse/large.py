@@ -3,8 +3,9 @@
 
 usage: large.py OVERLAY CHECKER [--networkx]   the programs `overlay` and `overlay-check-large`
 
-Prints a table: the least processor time of some runs by one worker, and the least time by the clock with four. With --networkx its `node_connectivity` of the graphs of 1,024, 2,048 and 4,096 nodes with 5 links each is timed
-too, once. The answer of each line must hold for the checker, and be that of networkx.
+Prints a table: the least processor time of some runs by one worker, and the least time by the clock with four. With
+--networkx its `node_connectivity` of the graphs of 1,024, 2,048 and 4,096 nodes with 5 links each is timed too, once.
+The answer of each line must hold for the checker, and be that of networkx.
 """
 
 import os
