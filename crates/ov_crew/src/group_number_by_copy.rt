@@ -22,7 +22,7 @@ use std::thread::Threads;
 const LEAST_MEMBERS: usize = 256;
 
 /// How often first members are looked at on their own, fewer each time.
-const MOST_GUESSES: usize = 4;
+const MOST_GUESSES: usize = 6;
 
 /// The number of a group, and what is known of its first members.
 #[derive(Clone, Copy, Debug)]
@@ -115,9 +115,26 @@ fn unsplit_members<R: Threads + Sync, G: Gate, W: Watcher>(
         if number_of(&own) > fewest {
             return Ok(count);
         }
-        count = unparted_members(graph, first, copy, &own);
+        count = next_guess(
+            group.len(),
+            count,
+            unparted_members(graph, first, copy, &own),
+        );
     }
     Ok(0)
+}
+
+/// The next guess, if the cut of so many first members suggests this one: fewer, if it leaves out less than four times
+/// as many members as were left out. So few guesses pass over many small parts at the end that are cut off one by one.
+fn next_guess(members: usize, count: usize, suggested: usize) -> usize
+    ensures { result ≤ suggested }
+{
+    let left_out = members.saturating_sub(count);
+    let fewer = count
+        .saturating_sub(left_out)
+        .saturating_sub(left_out)
+        .saturating_sub(left_out);
+    if fewer < suggested { fewer } else { suggested }
 }
 
 /// Guesses how many first members there are that more nodes are needed to split than this cut of the copy has: as many
